@@ -11,8 +11,8 @@ pub record Covers (more some : List (List ℕ)) (before now : List ℕ) : Type 0
   pub has_before : Contains more before
   pub has_now : Contains more now
 
--- A call is there whole or not at all: after a stop during it or behind it the store has the bytes that a stop before it would have
--- left, or those of before the call, or those of after it.
+-- After a stop during a call or behind it the store has the bytes that a stop before it would have left, or those of before the call,
+-- or those of after it: so a call is there whole or not at all. One that was refused in its middle may be there as far as it went.
 pub record Lasts {S : Type 0} (outlasts : S → List (List ℕ) → List (List ℕ) → Type 0) (moment : S → ℕ) (outlasts_since : S → ℕ → List (List ℕ) → List (List ℕ) → Type 0)
     (before now : List ℕ) (old new : S) : Type 0 where
   pub later : (killed cut : List (List ℕ)) → outlasts old killed cut → moment old ≤ moment new
@@ -26,7 +26,7 @@ pub record Lasts {S : Type 0} (outlasts : S → List (List ℕ) → List (List �
       → Within since_killed more_killed → Within since_cut more_cut → Covers more_killed killed before now → Covers more_cut cut before now
       → outlasts_since new t more_killed more_cut
 
--- after a kill the store has the bytes of now; after a loss of power it may have those of before
+-- after a kill the store has the bytes of now; after a loss of power it may have those of before, or what it might have had before
 abbrev pub Acknowledges : {S : Type 0} → (S → List (List ℕ) → List (List ℕ) → Type 0) → List ℕ → List ℕ → S → S → Type 0
 Acknowledges outlasts before now old new =
     (killed cut more_cut : List (List ℕ)) → outlasts old killed cut → Covers more_cut cut before now → outlasts new (now ∷ []) more_cut

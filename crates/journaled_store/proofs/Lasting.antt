@@ -21,6 +21,7 @@ use Rattle.vault.specs.declared.store.Stop.TheVariants.{Killed, PowerLost}
 use Rattle.vault.proofs.Runs.{weaker}
 use Rattle.array_parts.specs.Views.{lost_of}
 use Rattle.journaled_store.specs.Steps.{IsBeforeOrNow, IsKept, IsLive, UnlessFailed, UnlessSync, is_sync}
+use Rattle.journaled_store.specs.Left.{MissesOne}
 use Rattle.journaled_store.specs.Outlasting.{OpensAs, OpensBut, Outlasts, OutlastsSince, Point, Works, allowed, parts_of}
 use Rattle.journaled_store.proofs.Opening.{alone, opens_as, opens_either, opens_left, opens_more, opens_now}
 
@@ -105,7 +106,7 @@ module _ {V : Type 0} (known : V → Type 0) (seen : V → Image) (may_leave : V
         → OpensAs more (parts_of q.tiers).groups (length (parts_of q.tiers).drives) c
     as_then list more c within o =
         subst (λ n. OpensAs more (parts_of q.tiers).groups n c) (sym follows.many)
-        (subst (λ g. OpensAs more g (length (parts_of p.tiers).drives) c) (sym follows.groups) (record { bytes = o.bytes; listed = within o.bytes o.listed; left = o.left }))
+        (subst (λ g. OpensAs more g (length (parts_of p.tiers).drives) c) (sym follows.groups) (record { bytes = o.bytes; listed = within o.bytes o.listed; left = λ absent d there same. o.left absent d there same }))
 
     but_then : (lost : List Bool) → is_lost lost 16 ≡ false → (list more : List (List ℕ)) (c : Cells) → Within list more
         → OpensBut lost list (parts_of p.tiers).groups (length (parts_of p.tiers).drives) c → OpensBut lost more (parts_of q.tiers).groups (length (parts_of q.tiers).drives) c
@@ -183,7 +184,7 @@ module _ {V : Type 0} (known : V → Type 0) (seen : V → Image) (may_leave : V
       flushes killed cut (moved p (with_tiers p t) refl follows (λ on. on) (λ lost cells live. live) killed cut killed cut out (λ b has. has) (λ b has. has))
 
   -- a store that has all that its drives hold
-  module _ (q : Point V) (now : List ℕ) (holds : Holds q.tiers now) (killed cut : List (List ℕ)) (is_known : known q.vault) (w : Works seen may_leave q killed cut)
+  module _ (q : Point V) (now : List ℕ) (holds : Holds q.tiers now) (one : MissesOne (parts_of q.tiers).drives) (killed cut : List (List ℕ)) (is_known : known q.vault) (w : Works seen may_leave q killed cut)
       (kept : IsKept w.lost (parts_of q.tiers).drives (recovered (seen q.vault))) where
     abbrev groups_now : Groups
     groups_now = (parts_of q.tiers).groups
@@ -196,7 +197,7 @@ module _ {V : Type 0} (known : V → Type 0) (seen : V → Image) (may_leave : V
         → OpensBut w.lost (now ∷ []) groups_now many_now (after (seen q.vault).cells (flat (take n (seen q.vault).journal)))
     all_opens n least most =
         subst (λ b. OpensBut w.lost (now ∷ []) groups_now many_now (after (seen q.vault).cells (flat b))) (sym (take_all n (seen q.vault).journal least))
-        (opens_now w.lost (table q killed cut w) groups_now many_now (now ∷ []) q.tiers now (recovered (seen q.vault)) refl refl w.gone holds (alone now) kept)
+        (opens_now w.lost (table q killed cut w) groups_now many_now (now ∷ []) q.tiers now (recovered (seen q.vault)) refl refl w.gone one holds (alone now) kept)
 
     all_left : (stop : Stop) (i : Image) → IsLogged seen may_leave w.lost stop q.vault (length (seen q.vault).journal) → may_leave q.vault stop i
         → OpensAs (now ∷ []) groups_now many_now (recovered i)
@@ -220,7 +221,7 @@ module _ {V : Type 0} (known : V → Type 0) (seen : V → Image) (may_leave : V
         works_now = record { lost = w.lost; few = w.few; gone = w.gone; live = w.live; low = w.low; logged = w.logged; all = w.all; opens = opens_then }
 
   -- one batch more
-  module _ (p q : Point V) (now : List ℕ) (holds : Holds p.tiers now) (f : Published known seen may_leave moment left_since p q) where
+  module _ (p q : Point V) (now : List ℕ) (holds : Holds p.tiers now) (one : MissesOne (parts_of p.tiers).drives) (f : Published known seen may_leave moment left_since p q) where
     as_new : (list : List (List ℕ)) (c : Cells) → OpensAs list (parts_of p.tiers).groups (length (parts_of p.tiers).drives) c → OpensAs list (parts_of q.tiers).groups (length (parts_of q.tiers).drives) c
     as_new list c o = subst (λ (t : TiersView). OpensAs list (parts_of t).groups (length (parts_of t).drives) c) (sym f.tiers) o
 
@@ -242,7 +243,7 @@ module _ {V : Type 0} (known : V → Type 0) (seen : V → Image) (may_leave : V
         now_opens : (stop : Stop) (c : Cells) → IsKept w.lost (parts_of p.tiers).drives c
             → OpensBut w.lost (allowed stop more_killed more_cut) (parts_of p.tiers).groups (length (parts_of p.tiers).drives) c
         now_opens stop c kept =
-            opens_now w.lost (table p killed cut w) (parts_of p.tiers).groups (length (parts_of p.tiers).drives) (allowed stop more_killed more_cut) p.tiers now c refl refl w.gone holds (has_now stop) kept
+            opens_now w.lost (table p killed cut w) (parts_of p.tiers).groups (length (parts_of p.tiers).drives) (allowed stop more_killed more_cut) p.tiers now c refl refl w.gone one holds (has_now stop) kept
 
         old_opens : (stop : Stop) (n : ℕ) → w.low stop ≤ n → n ≤ length (seen p.vault).journal
             → OpensBut w.lost (allowed stop more_killed more_cut) (parts_of p.tiers).groups (length (parts_of p.tiers).drives) (after (seen p.vault).cells (flat (take n (seen p.vault).journal)))
@@ -321,7 +322,7 @@ module _ {V : Type 0} (known : V → Type 0) (seen : V → Image) (may_leave : V
 
       pub old_as : (stop : Stop) (i : Image) → may_leave p.vault stop i → OpensAs (allowed stop more_killed more_cut) (parts_of q.tiers).groups (length (parts_of q.tiers).drives) (recovered i)
       old_as stop i may = let o = out.leaves stop i may in
-          as_new (allowed stop more_killed more_cut) (recovered i) (record { bytes = o.bytes; listed = in_more stop o.bytes o.listed; left = o.left })
+          as_new (allowed stop more_killed more_cut) (recovered i) (record { bytes = o.bytes; listed = in_more stop o.bytes o.listed; left = λ absent d there same. o.left absent d there same })
 
       pub during_by : OutlastsSince left_since q (moment p.vault) more_killed more_cut
       during_by stop i left = left_at (moment p.vault) (omega arith) stop i left (λ was. old_as stop i (only_now p.vault out.is_known stop i was))
@@ -340,7 +341,7 @@ module _ {V : Type 0} (known : V → Type 0) (seen : V → Image) (may_leave : V
           → Within since_killed more_killed → Within since_cut more_cut → OutlastsSince left_since q t more_killed more_cut
       earlier_by t since_killed since_cut le since k c stop i left = left_at t le stop i left (λ was. let o = since stop i was in
           as_new (allowed stop more_killed more_cut) (recovered i)
-          (record { bytes = o.bytes; listed = allowed_within stop since_killed since_cut more_killed more_cut k c o.bytes o.listed; left = o.left }))
+          (record { bytes = o.bytes; listed = allowed_within stop since_killed since_cut more_killed more_cut k c o.bytes o.listed; left = λ absent d there same. o.left absent d there same }))
 
     pub works_before : q.failed ≡ false → p.failed ≡ false
     works_before on = elim (either p.failed) [ inl failed ↦ absurd (true≢false (sym (f.still failed).1 ∙ on)) | inr works ↦ works ]
@@ -350,12 +351,15 @@ module _ {V : Type 0} (known : V → Type 0) (seen : V → Image) (may_leave : V
       holds_now : Holds q.tiers now
       holds_now = subst (λ (t : TiersView). Holds t now) (sym f.tiers) holds
 
+      one_now : MissesOne (parts_of q.tiers).drives
+      one_now = subst (λ (t : TiersView). MissesOne (parts_of t).drives) (sym f.tiers) one
+
       pub published_acknowledges : (killed cut more_cut : List (List ℕ)) → Outlasts known seen may_leave p killed cut → Covers more_cut cut now now
           → Outlasts known seen may_leave q (now ∷ []) more_cut
       unfolding works_on
       published_acknowledges killed cut more_cut out c =
           let works = works_before on in
-          acknowledged q now holds_now (killed ++ now ∷ now ∷ []) more_cut (f.stays out.is_known)
+          acknowledged q now holds_now one_now (killed ++ now ∷ now ∷ []) more_cut (f.stays out.is_known)
           (works_on killed cut (killed ++ now ∷ now ∷ []) more_cut out (covering killed now now) c works on)
           (kept out.is_known (out.works works).lost (λ is. (out.works works).live))
           (λ i may. (behind_by killed cut (killed ++ now ∷ now ∷ []) more_cut out (covering killed now now) c).leaves PowerLost i may)

@@ -1,6 +1,6 @@
 -- Of which units an array is opened with which bytes.
-use Rattle.std.proofs.Common.{◌≡◌, ◌<◌, ◌≤◌, inl, inr, ℕ, zero, suc, arith, Bool, true, false, Option, Some, List, [], ◌∷◌, length, take, slice_get, refl, sym, ◌∙◌, ap, subst}
-use Rattle.std.specs.Prelude.{Contains}
+use Rattle.std.proofs.Common.{◌≡◌, ◌<◌, ◌≤◌, ◌⊎◌, true≢false, inl, inr, ℕ, zero, suc, arith, Bool, true, false, Option, Some, List, [], ◌∷◌, length, take, slice_get, refl, sym, ◌∙◌, ap, subst}
+use Rattle.std.specs.Prelude.{◌||◌, Contains}
 use Rattle.std.proofs.lemmas.Option.{slice_get_cases}
 use Rattle.extent_groups.specs.Groups.{Groups}
 use Rattle.extent_groups.specs.Missing.{is_missing}
@@ -15,7 +15,7 @@ use Rattle.vault.specs.Moments.{IsLogged, StandsForSome}
 use Rattle.vault.specs.declared.store.Stop.{Stop}
 use Rattle.vault.proofs.Writes.{front_stands}
 use Rattle.journaled_store.specs.Steps.{IsBeforeOrNow, IsKept}
-use Rattle.journaled_store.specs.Left.{IsLostIn}
+use Rattle.journaled_store.specs.Left.{IsLeftOf, IsLostIn, MissesOne}
 use Rattle.journaled_store.specs.Outlasting.{OpensAs, OpensBut, parts_of}
 use Rattle.journaled_store.proofs.Settled.{kept_on}
 
@@ -37,6 +37,35 @@ there drives d low = elim (slice_get_cases drives d).1 [ inl is ↦ (is.0, is.2)
 pub is_lost_in : (v : PartsView) (d : ℕ) → d < length v.drives → lost_of v d ≡ true → IsLostIn v.drives d
 is_lost_in v d low gone = lost_in (slice_get v.drives d) gone (there v.drives d low)
 
+-- the drives of two lists
+abbrev either_lost : List Bool → List Bool → List Bool
+either_lost [] others = others
+either_lost (l ∷ lost) [] = l ∷ lost
+either_lost (l ∷ lost) (o ∷ others) = (l || o) ∷ either_lost lost others
+
+or_none : (b : Bool) → b ≡ (b || false)
+or_none true = refl
+or_none false = refl
+
+lost_at : (lost others : List Bool) (d : ℕ) → is_lost (either_lost lost others) d ≡ (is_lost lost d || is_lost others d)
+lost_at [] others d = refl
+lost_at (l ∷ lost) [] zero = or_none l
+lost_at (l ∷ lost) [] (suc d) = or_none (is_lost lost d)
+lost_at (l ∷ lost) (o ∷ others) zero = refl
+lost_at (l ∷ lost) (o ∷ others) (suc d) = lost_at lost others d
+
+neither : (a b : Bool) → (a || b) ≡ false → (a ≡ false) × (b ≡ false)
+neither true b e = absurd (true≢false e)
+neither false b e = (refl, e)
+
+one_or_both : (a b : Bool) → (a || b) ≡ true → (a ≡ true) ⊎ (b ≡ true)
+one_or_both true b e = inl refl
+one_or_both false b e = inr e
+
+none_of : (a b : Bool) → a ≡ false → b ≡ false → (a || b) ≡ false
+none_of true b e f = e
+none_of false b e f = f
+
 module _ (lost : List Bool) (table : is_lost lost 16 ≡ false) (groups : Groups) (count : ℕ) where
   -- with more bytes in the list
   pub opens_more : (some more : List (List ℕ)) (c : Cells) → Within some more → OpensBut lost some groups count c → OpensBut lost more groups count c
@@ -47,6 +76,7 @@ module _ (lost : List Bool) (table : is_lost lost 16 ≡ false) (groups : Groups
     holds = o.holds;
     groups_are = o.groups_are;
     many = o.many;
+    one = o.one;
     kept = o.kept;
     gone = o.gone;
   }
@@ -60,35 +90,39 @@ module _ (lost : List Bool) (table : is_lost lost 16 ≡ false) (groups : Groups
     holds = o.holds;
     groups_are = o.groups_are;
     many = o.many;
+    one = o.one;
     kept = kept_on lost (parts_of o.tiers).drives c d table same o.kept;
     gone = o.gone;
   }
 
   pub opens_as : (list : List (List ℕ)) (c : Cells) → OpensBut lost list groups count c → OpensAs list groups count c
-  opens_as list c o = record {
-    bytes = o.bytes;
-    listed = o.listed;
-    left = record {
-      tiers = o.tiers;
-      holds = o.holds;
-      groups_are = o.groups_are;
-      many = o.many;
-      lost = lost;
-      kept = o.kept;
-      excused = λ d low is. inr (o.gone d low is);
-    };
-  }
+  opens_as list c o = record { bytes = o.bytes; listed = o.listed; left = λ absent d there same. left absent d there same }
+    where
+      left : (absent : List Bool) (d : Cells) → is_lost absent 16 ≡ false → SameOn absent d c → IsLeftOf o.bytes groups count absent d
+      left absent d there same = record {
+        tiers = o.tiers;
+        holds = o.holds;
+        groups_are = o.groups_are;
+        many = o.many;
+        one = o.one;
+        lost = either_lost lost absent;
+        kept = kept_on (either_lost lost absent) (parts_of o.tiers).drives c d (lost_at lost absent 16 ∙ none_of (is_lost lost 16) (is_lost absent 16) table there)
+            (λ x on. same x (neither (is_lost lost x.drive) (is_lost absent x.drive) (sym (lost_at lost absent x.drive) ∙ on)).1)
+            (record { has = record { each = λ n at v is on. o.kept.has.each n at v is (neither (is_lost lost n) (is_lost absent n) (sym (lost_at lost absent n) ∙ on)).0 }; marks = o.kept.marks; noted = o.kept.noted; told = o.kept.told });
+        excused = λ n low is. elim (one_or_both (is_lost lost n) (is_lost absent n) (sym (lost_at lost absent n) ∙ is)) [ inl one ↦ inr (o.gone n low one) | inr two ↦ inl two ];
+      }
 
   -- of the units that the drives hold now
   pub opens_now : (list : List (List ℕ)) (t : TiersView) (now : List ℕ) (c : Cells) → (parts_of t).groups ≡ groups → length (parts_of t).drives ≡ count
-      → ((d : ℕ) → is_lost lost d ≡ true → lost_of (parts_of t) d ≡ true) → Holds t now → Contains list now → IsKept lost (parts_of t).drives c → OpensBut lost list groups count c
-  opens_now list t now c groups_are many gone holds listed kept = record {
+      → ((d : ℕ) → is_lost lost d ≡ true → lost_of (parts_of t) d ≡ true) → MissesOne (parts_of t).drives → Holds t now → Contains list now → IsKept lost (parts_of t).drives c → OpensBut lost list groups count c
+  opens_now list t now c groups_are many gone one holds listed kept = record {
     bytes = now;
     listed = listed;
     tiers = t;
     holds = holds;
     groups_are = groups_are;
     many = many;
+    one = one;
     kept = kept;
     gone = λ d low is. is_lost_in (parts_of t) d (omega (arith, low, many)) (gone d is);
   }

@@ -19,9 +19,10 @@ use Rattle.vault.specs.Moments.{AreLogged, IsLogged, LeavesOnly}
 use Rattle.vault.specs.declared.store.Stop.{Stop}
 use Rattle.vault.specs.declared.store.Stop.TheVariants.{Killed}
 use Rattle.journaled_store.specs.Steps.{IsBeforeOrNow, IsKept, IsLive, UnlessFailed}
+use Rattle.journaled_store.specs.Left.{MissesOne}
 use Rattle.journaled_store.specs.Outlasting.{OpensAs, OpensBut, Outlasts, OutlastsSince, Point, Works, allowed, parts_of}
-use Rattle.journaled_store.proofs.Lasting.{Published, allowed_has, allowed_within, at_moment, either, old_as, run, works_before}
-use Rattle.journaled_store.proofs.Opening.{opens_as, opens_now, opens_on}
+use Rattle.journaled_store.proofs.Lasting.{Published, allowed_has, allowed_within, at_moment, begun, either, old_as, run, works_before}
+use Rattle.journaled_store.proofs.Opening.{alone, opens_as, opens_now, opens_on}
 use Rattle.journaled_store.proofs.Settled.{kept_on, live_on, no_mark}
 
 -- of fewer drives less is said
@@ -72,6 +73,7 @@ module _ {V : Type 0} (known : V → Type 0) (seen : V → Image) (may_leave : V
     (counts_now : (vault : V) → known vault → (stop : Stop) (t : ℕ) (i : Image) → t ≤ moment vault → may_leave vault stop i → left_since vault stop t i)
     (only_now : (vault : V) → known vault → (stop : Stop) (i : Image) → left_since vault stop (moment vault) i → may_leave vault stop i)
     (p m : Point V) (now : List ℕ) (holds : Holds p.tiers now) (f : Published known seen may_leave moment left_since p m) (on : m.failed ≡ false)
+    (one : MissesOne (parts_of m.tiers).drives)
     (kept : known p.vault → (lost : List Bool) → UnlessFailed p.failed (IsLive lost p.keeper p.noted p.batch (recovered (seen p.vault))) → IsKept lost (parts_of m.tiers).drives (recovered (seen m.vault)))
     (durable : known p.vault → (lost : List Bool) (stop : Stop) (low : ℕ) → UnlessFailed p.failed (IsLogged seen may_leave lost stop p.vault low)
     → IsLogged seen may_leave lost stop m.vault (length (seen m.vault).journal))
@@ -91,8 +93,11 @@ module _ {V : Type 0} (known : V → Type 0) (seen : V → Image) (may_leave : V
 
   module _ (killed cut more_killed more_cut : List (List ℕ)) (out : Outlasts known seen may_leave p killed cut)
       (kc : Covers more_killed killed now now) (cc : Covers more_cut cut now now) where
+    one_was : MissesOne (parts_of p.tiers).drives
+    one_was = subst (λ (t : TiersView). MissesOne (parts_of t).drives) f.tiers one
+
     works : p.failed ≡ false
-    works = works_before known seen may_leave moment left_since counts_now only_now p m now holds f on
+    works = works_before known seen may_leave moment left_since counts_now only_now p m now holds one_was f on
 
     abbrev w : Works seen may_leave p killed cut
     w = out.works works
@@ -115,7 +120,7 @@ module _ {V : Type 0} (known : V → Type 0) (seen : V → Image) (may_leave : V
 
     now_opens : (stop : Stop) (c : Cells) → IsKept marks (parts_of m.tiers).drives c → OpensBut marks (allowed stop more_killed more_cut) groups_now many_now c
     now_opens stop c has =
-        opens_now marks table_at groups_now many_now (allowed stop more_killed more_cut) m.tiers now c refl refl (gone_are marks long (lost_of (parts_of m.tiers)) are)
+        opens_now marks table_at groups_now many_now (allowed stop more_killed more_cut) m.tiers now c refl refl (gone_are marks long (lost_of (parts_of m.tiers)) are) one
         (subst (λ (t : TiersView). Holds t now) (sym f.tiers) holds) (allowed_has stop more_killed more_cut now kc.has_now cc.has_now) has
 
     stands_as : (stop : Stop) (i : Image) → Stands marks (recovered (seen m.vault)) i → OpensAs (allowed stop more_killed more_cut) groups_now many_now (recovered i)
@@ -124,7 +129,7 @@ module _ {V : Type 0} (known : V → Type 0) (seen : V → Image) (may_leave : V
         (opens_on marks table_at groups_now many_now (allowed stop more_killed more_cut) (recovered (seen m.vault)) (recovered i) stands (now_opens stop (recovered (seen m.vault)) kept_mid))
 
     first : (stop : Stop) → LeavesOnly moment left_since stop p.vault m.vault (IsBeforeOrNow w.lost (seen p.vault) (w.low stop) (parts_of p.tiers).drives)
-    first stop = run known seen may_leave moment left_since counts_now only_now p m now holds f killed cut more_killed more_cut out kc cc works stop
+    first stop = run known seen may_leave moment left_since counts_now only_now p m now holds one_was f killed cut more_killed more_cut out kc cc works stop
 
     left_at : (t : ℕ) → t ≤ moment p.vault → (stop : Stop) (i : Image) → left_since vault stop t i
         → (left_since p.vault stop t i → OpensAs (allowed stop more_killed more_cut) groups_now many_now (recovered i)) → OpensAs (allowed stop more_killed more_cut) groups_now many_now (recovered i)
@@ -132,7 +137,7 @@ module _ {V : Type 0} (known : V → Type 0) (seen : V → Image) (may_leave : V
       | inr stands ↦ stands_as stop i stands
       | inl mid ↦ (elim ((first stop).before t i le mid) [
         | inl before ↦ was before
-        | inr is ↦ at_moment known seen may_leave moment left_since counts_now only_now p m now holds f killed cut more_killed more_cut out kc cc works stop i is
+        | inr is ↦ at_moment known seen may_leave moment left_since counts_now only_now p m now holds one_was f killed cut more_killed more_cut out kc cc works stop i is
       ])
     ]
 
@@ -141,7 +146,7 @@ module _ {V : Type 0} (known : V → Type 0) (seen : V → Image) (may_leave : V
 
     during_by : OutlastsSince left_since q (moment p.vault) more_killed more_cut
     during_by stop i left = left_at (moment p.vault) (omega arith) stop i left (λ was.
-        old_as known seen may_leave moment left_since counts_now only_now p m now holds f killed cut more_killed more_cut out kc cc stop i (only_now p.vault out.is_known stop i was))
+        old_as known seen may_leave moment left_since counts_now only_now p m now holds one_was f killed cut more_killed more_cut out kc cc stop i (only_now p.vault out.is_known stop i was))
 
     pub settled_outlasts : Outlasts known seen may_leave q more_killed more_cut
     settled_outlasts = record {
@@ -166,7 +171,7 @@ module _ {V : Type 0} (known : V → Type 0) (seen : V → Image) (may_leave : V
         → Within since_killed more_killed → Within since_cut more_cut → OutlastsSince left_since q t more_killed more_cut
     earlier_by t since_killed since_cut le since k c stop i left = left_at t le stop i left (λ was. let o = since stop i was in
         subst (λ (t : TiersView). OpensAs (allowed stop more_killed more_cut) (parts_of t).groups (length (parts_of t).drives) (recovered i)) (sym f.tiers)
-        (record { bytes = o.bytes; listed = allowed_within stop since_killed since_cut more_killed more_cut k c o.bytes o.listed; left = o.left }))
+        (record { bytes = o.bytes; listed = allowed_within stop since_killed since_cut more_killed more_cut k c o.bytes o.listed; left = λ absent d there same. o.left absent d there same }))
 
   pub settled_lasts : Lasts (Outlasts known seen may_leave) (λ (r : Point V). moment r.vault) (OutlastsSince left_since) now now p q
   settled_lasts = record {
@@ -175,3 +180,26 @@ module _ {V : Type 0} (known : V → Type 0) (seen : V → Image) (may_leave : V
     during = λ killed cut more_killed more_cut out k c. during_by killed cut more_killed more_cut out k c;
     earlier = λ t since_killed since_cut killed cut more_killed more_cut le since out wk wc k c. earlier_by killed cut more_killed more_cut out k c t since_killed since_cut le since wk wc;
   }
+
+-- a store whose journal is empty, and whose vault has all that the drives hold but for lost ones
+pub settled_begins : {V : Type 0} (known : V → Type 0) (seen : V → Image) (may_leave : V → Stop → Image → Type 0) (moment : V → ℕ) (left_since : V → Stop → ℕ → Image → Type 0)
+    → ((vault : V) → known vault → (stop : Stop) (t : ℕ) (i : Image) → t ≤ moment vault → may_leave vault stop i → left_since vault stop t i)
+    → ((vault : V) → known vault → (stop : Stop) (i : Image) → left_since vault stop (moment vault) i → may_leave vault stop i)
+    → (q : Point V) (now : List ℕ) → Holds q.tiers now → MissesOne (parts_of q.tiers).drives
+    → (marks : List Bool) → length marks ≡ 16 → ((d : ℕ) → d < 16 → slice_index_or marks d true ≡ lost_of (parts_of q.tiers) d)
+    → known q.vault → IsLive marks q.keeper q.noted q.batch (recovered (seen q.vault)) → AreLogged seen may_leave marks q.vault
+    → IsKept marks (parts_of q.tiers).drives (recovered (seen q.vault)) → Outlasts known seen may_leave q (now ∷ []) (now ∷ [])
+settled_begins known seen may_leave moment left_since counts_now only_now q now holds one marks long are is_known live logged kept =
+    begun known seen may_leave moment left_since counts_now only_now q (now ∷ []) (now ∷ []) is_known (record {
+      lost = marks;
+      few = past_all marks long (lost_of (parts_of q.tiers)) are;
+      gone = gone_are marks long (lost_of (parts_of q.tiers)) are;
+      live = live;
+      low = λ stop. length (seen q.vault).journal;
+      logged = logged;
+      all = refl;
+      opens = λ stop n least most. subst (λ b. OpensBut marks (allowed stop (now ∷ []) (now ∷ [])) (parts_of q.tiers).groups (length (parts_of q.tiers).drives) (after (seen q.vault).cells (flat b)))
+          (sym (take_all n (seen q.vault).journal least))
+          (opens_now marks (past_all marks long (lost_of (parts_of q.tiers)) are 16 (omega arith)) (parts_of q.tiers).groups (length (parts_of q.tiers).drives) (allowed stop (now ∷ []) (now ∷ []))
+          q.tiers now (recovered (seen q.vault)) refl refl (gone_are marks long (lost_of (parts_of q.tiers)) are) one holds (allowed_has stop (now ∷ []) (now ∷ []) now (alone now) (alone now)) kept);
+    })

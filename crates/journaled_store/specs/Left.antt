@@ -1,5 +1,5 @@
 -- What is left of an array in a vault.
-use Rattle.std.specs.Prelude.{◌≡◌, ◌⊎◌, ◌<◌, ℕ, Bool, true, Some, List, length, slice_get}
+use Rattle.std.specs.Prelude.{◌≡◌, ◌⊎◌, ◌<◌, ℕ, Bool, true, Some, List, length, slice_get, slice_index_or}
 use Rattle.extent_groups.specs.Groups.{Groups}
 use Rattle.extent_groups.specs.Cells.{Cells}
 use Rattle.array_parts.specs.Views.{DriveView}
@@ -12,13 +12,22 @@ use Rattle.journaled_store.specs.Steps.{IsKept}
 abbrev pub IsLostIn : List DriveView → ℕ → Type 0
 IsLostIn drives d = (v : DriveView) × (slice_get drives d ≡ Some v) × (v.lost ≡ true)
 
+-- of the first drives no two are marked as lost
+abbrev pub IsOneLost : List Bool → ℕ → Type 0
+IsOneLost lost count = (d e : ℕ) → d < count → e < count → slice_index_or lost d true ≡ true → slice_index_or lost e true ≡ true → d ≡ e
+
+-- no two drives are lost
+abbrev pub MissesOne : List DriveView → Type 0
+MissesOne drives = (d e : ℕ) → IsLostIn drives d → IsLostIn drives e → d ≡ e
+
 -- The units of a vault are those of an array that held these bytes, with these groups and as many drives. Of some drives the vault
--- may have other units, and each of these is absent now or was lost.
+-- may have other units, and each of these is absent now or was lost. No two drives of the array were.
 pub record IsLeftOf (bytes : List ℕ) (groups : Groups) (count : ℕ) (absent : List Bool) (c : Cells) : Type 0 where
   pub tiers : TiersView
   pub holds : Holds tiers bytes
   pub groups_are : tiers.world.array.parts.groups ≡ groups
   pub many : length tiers.world.array.parts.drives ≡ count
+  pub one : MissesOne tiers.world.array.parts.drives
   pub lost : List Bool
   pub kept : IsKept lost tiers.world.array.parts.drives c
   pub excused : (d : ℕ) → d < count → is_lost lost d ≡ true → (is_lost absent d ≡ true) ⊎ IsLostIn tiers.world.array.parts.drives d

@@ -1,5 +1,5 @@
 -- What stops leave of a journaled store, as the bytes with which it is opened again.
-use Rattle.std.specs.Prelude.{◌≡◌, ◌<◌, ◌≤◌, ℕ, Bool, true, false, List, [], length, take, Contains}
+use Rattle.std.specs.Prelude.{◌≡◌, ◌<◌, ◌≤◌, ℕ, Bool, true, false, List, length, take, Contains}
 use Rattle.extent_groups.specs.Groups.{Groups}
 use Rattle.extent_groups.specs.Cells.{Cells}
 use Rattle.extent_groups.specs.Planned.{Wanted, after}
@@ -9,12 +9,12 @@ use Rattle.history.specs.Entries.{Course}
 use Rattle.history.specs.declared.naming.Chronicle.{Ghosts}
 use Rattle.cached_drive.specs.Saving.{Units}
 use Rattle.array_store.specs.Blocks.{Holds}
-use Rattle.vault.specs.Images.{Image, flat, is_lost, recovered}
+use Rattle.vault.specs.Images.{Image, SameOn, flat, is_lost, recovered}
 use Rattle.vault.specs.Moments.{IsLogged}
 use Rattle.vault.specs.declared.store.Stop.{Stop}
 use Rattle.vault.specs.declared.store.Stop.TheVariants.{Killed, PowerLost}
 use Rattle.journaled_store.specs.Steps.{IsKept, IsLive}
-use Rattle.journaled_store.specs.Left.{IsLeftOf, IsLostIn}
+use Rattle.journaled_store.specs.Left.{IsLeftOf, IsLostIn, MissesOne}
 use Rattle.journaled_store.specs.declared.store.JournaledStore.{JournaledStore}
 
 -- the bytes that may be there after a stop of a kind
@@ -22,11 +22,11 @@ abbrev pub allowed : Stop → List (List ℕ) → List (List ℕ) → List (List
 allowed Killed killed cut = killed
 allowed PowerLost killed cut = cut
 
--- units of which an array is opened that has bytes of a list, whichever of its drives are absent
+-- Units of which an array is opened that has bytes of a list, whichever of its drives are absent then: with other units of these, too.
 pub record OpensAs (list : List (List ℕ)) (groups : Groups) (count : ℕ) (c : Cells) : Type 0 where
   pub bytes : List ℕ
   pub listed : Contains list bytes
-  pub left : IsLeftOf bytes groups count [] c
+  pub left : (absent : List Bool) (d : Cells) → is_lost absent 16 ≡ false → SameOn absent d c → IsLeftOf bytes groups count absent d
 
 -- the same, and the drives of which the vault may have other units are these
 pub record OpensBut (lost : List Bool) (list : List (List ℕ)) (groups : Groups) (count : ℕ) (c : Cells) : Type 0 where
@@ -36,6 +36,7 @@ pub record OpensBut (lost : List Bool) (list : List (List ℕ)) (groups : Groups
   pub holds : Holds tiers bytes
   pub groups_are : tiers.world.array.parts.groups ≡ groups
   pub many : length tiers.world.array.parts.drives ≡ count
+  pub one : MissesOne tiers.world.array.parts.drives
   pub kept : IsKept lost tiers.world.array.parts.drives c
   pub gone : (d : ℕ) → d < count → is_lost lost d ≡ true → IsLostIn tiers.world.array.parts.drives d
 

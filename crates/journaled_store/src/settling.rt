@@ -1,5 +1,5 @@
 // The journal of a store is emptied.
-ghost use Rattle.std.specs.Prelude.{◌≡◌, ◌≤◌, ◌<◌, [], ℕ, List, Bool, length, slice_index_or, true, OnOk};
+ghost use Rattle.std.specs.Prelude.{◌≡◌, ◌≤◌, ◌<◌, [], ◌∷◌, ℕ, List, Bool, length, slice_index_or, slice_set, true, OnOk};
 ghost use Rattle.array_parts.specs.Views.{lost_of};
 ghost use Rattle.extent_groups.specs.Cells.{Cells};
 ghost use Rattle.byte_store.specs.Flat.{Flat};
@@ -19,7 +19,9 @@ use history::Chronicle;
 use vault::{Batch, Vault, VaultError, settle};
 
 // Notes that a drive failed. Of a number past the last drive's there is nothing to note.
-fn note_failed(failed: &mut [bool; DRIVES], drive: u8) {
+fn note_failed(failed: &mut [bool; DRIVES], drive: u8)
+    ensures { drive < 16 → failed.new ≡ slice_set failed.old drive true }
+{
     let drive = usize::from(drive);
     if drive < DRIVES {
         failed[drive] = true;
@@ -83,6 +85,14 @@ impl<N: Chronicle, V: Vault + Drop> JournaledStore<N, V> {
             → (low : Stop → ℕ) → ((stop : Stop) → IsLogged V.seen V.may_leave self.new.changes.lost stop self.old.vault (low stop))
             → (stop : Stop) → LeavesOnly V.moment V.left_since stop self.old.vault self.new.vault
             (IsBeforeOrNow self.new.changes.lost (V.seen self.old.vault) (low stop) self.old.store.tiers.world.array.parts.drives) }
+
+        // After Ok any stop leaves the bytes, also where drives that were absent when the array was opened are lost only since.
+        ensures begins { V.known self.old.vault → (F : Flat) → IsStoreOf self.old.store.tiers self.old.store.size self.old.unsynced F
+            → UnlessFailed self.old.failed
+            (IsLive self.new.changes.lost self.old.changes.keeper self.old.changes.noted self.old.changes.batch (recovered (V.seen self.old.vault)))
+            → (low : Stop → ℕ) → ((stop : Stop) → UnlessFailed self.old.failed
+            (IsLogged V.seen V.may_leave self.new.changes.lost stop self.old.vault (low stop)))
+            → OnOk result (Outlasts V.known V.seen V.may_leave (point self.new) (F.bytes ∷ []) (F.bytes ∷ [])) }
 
         // A stop leaves the bytes, with all groups and drives.
         ensures follows { (F : Flat) → IsStoreOf self.old.store.tiers self.old.store.size self.old.unsynced F → Follows self.old.store.tiers self.new.store.tiers }

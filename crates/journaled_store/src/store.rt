@@ -1,5 +1,5 @@
 // The bytes of a disk, each change of which is kept by a vault.
-ghost use Rattle.std.specs.Prelude.{◌≡◌, ◌+◌, ◌≤◌, ℕ, List, Bool, length, replicate, false, true, OnOk};
+ghost use Rattle.std.specs.Prelude.{◌≡◌, ◌+◌, ◌≤◌, ℕ, List, Bool, length, replicate, slice_index_or, false, true, OnOk};
 ghost use Rattle.byte_store.specs.Flat.{Flat};
 ghost use Rattle.byte_store.specs.Changes.{IsChanged, IsFlushed};
 ghost use Rattle.byte_store.specs.Lasting.{Acknowledges, Flushes, Lasts};
@@ -9,6 +9,7 @@ ghost use Rattle.vault.specs.Moments.{LeavesOnly, IsLogged, StandsForSome};
 ghost use Rattle.vault.specs.declared.store.Stop.{Stop};
 ghost use Rattle.vault.specs.declared.store.Stop.TheVariants.{Killed};
 ghost use Rattle.journaled_store.specs.Steps.{IsBeforeOrNow, IsKept, IsLive, UnlessFailed, is_sync};
+ghost use Rattle.journaled_store.specs.Left.{IsOneLost, MissesOne};
 ghost use Rattle.journaled_store.specs.Outlasting.{Outlasts, OutlastsSince, Works, point};
 
 use crate::changes::Changes;
@@ -16,22 +17,44 @@ use crate::publishing::{publish, sync};
 use array_store::ArrayStore;
 use byte_store::{ByteStore, StoreFault};
 use cached_drive::CachedDrive;
-use extents::Drive;
+use extents::{DRIVES, Drive};
 use history::Chronicle;
 use std::alloc::Global;
 use step_core::World;
 use vault::{Batch, Vault};
 
-// Whether more than one drive is lost. Then the array may not have all that was answered, but the vault has it.
-fn has_lost_two<D: Drive>(world: &World<D>) -> bool {
-    let lost = world.array().lost();
-    let mut count = 0u8;
-    for drive in 0..world.array().drive_count() {
-        if lost[usize::from(drive % 16)] {
-            count = count.saturating_add(1);
+// Whether a drive of this number is lost, or there is none.
+fn is_lost(lost: &[bool; DRIVES], drive: u8) -> bool
+    ensures { result ≡ slice_index_or lost.now drive true }
+{
+    match lost.get(usize::from(drive)) {
+        Some(lost) => *lost,
+        None => true,
+    }
+}
+
+// Whether two of the first drives are lost.
+fn are_two_lost(lost: &[bool; DRIVES], count: u8) -> bool
+    ensures { result ≡ false → IsOneLost lost.now count }
+{
+    let mut found = false;
+    for drive in 0..count {
+        if is_lost(lost, drive) {
+            if found {
+                return true;
+            }
+            found = true;
         }
     }
-    count > 1
+    false
+}
+
+// Whether more than one drive is lost. Then the array may not have all that was answered, but the vault has it.
+fn has_lost_two<D: Drive>(world: &World<D>) -> bool
+    ensures { result ≡ false → MissesOne world.now.array.parts.drives }
+{
+    let array = world.array();
+    are_two_lost(&array.lost(), array.drive_count())
 }
 
 // Whether the journal failed.
@@ -95,7 +118,7 @@ impl<N: Chronicle, V: Vault + Drop> JournaledStore<N, V> {
     /// drive is lost, so that the vault keeps what it has.
     pub fn publish(&mut self) -> Result<(), StoreFault>
         ensures same { (self.new.store ≡ self.old.store) × (self.new.unsynced ≡ self.old.unsynced) }
-        ensures works { OnOk result (self.new.failed ≡ false) }
+        ensures works { OnOk result ((self.new.failed ≡ false) × MissesOne self.new.store.tiers.world.array.parts.drives) }
         ensures still { self.old.failed ≡ true → (self.new.vault ≡ self.old.vault) × (self.new.failed ≡ true) }
         ensures stays { V.known self.old.vault → V.known self.new.vault }
         ensures step { V.known self.old.vault → (lost : List Bool)
@@ -149,7 +172,7 @@ impl<N: Chronicle, V: Vault + Drop> JournaledStore<N, V> {
     /// Publishes, and makes all batches of the journal durable. `Sync` where that failed.
     pub fn publish_durably(&mut self) -> Result<(), StoreFault>
         ensures same { (self.new.store ≡ self.old.store) × (self.new.unsynced ≡ self.old.unsynced) }
-        ensures works { OnOk result (self.new.failed ≡ false) }
+        ensures works { OnOk result ((self.new.failed ≡ false) × MissesOne self.new.store.tiers.world.array.parts.drives) }
         ensures still { self.old.failed ≡ true → (self.new.vault ≡ self.old.vault) × (self.new.failed ≡ true) }
         ensures stays { V.known self.old.vault → V.known self.new.vault }
         ensures step { V.known self.old.vault → (lost : List Bool)

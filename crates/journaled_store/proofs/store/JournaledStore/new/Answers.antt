@@ -1,4 +1,3 @@
-use Rattle.journaled_store.specs.Outlasting.{point}
 use Rattle.journaled_store.proofs.Lasting.{begun}
 use Rattle.journaled_store.proofs.store.JournaledStore.new.Goals as goal
 

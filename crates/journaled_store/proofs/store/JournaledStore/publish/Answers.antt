@@ -1,10 +1,12 @@
 use Rattle.std.proofs.Common.{refl, arith, sym, subst, ◌∙◌}
 use Rattle.std.proofs.lemmas.Bool.{true≢false}
 use Rattle.vault.specs.Moments.{LeavesOnly}
+use Rattle.slot_tables.specs.Views.{WorldView}
 use Rattle.background.specs.Views.{TiersView}
 use Rattle.vault.proofs.Runs.{started}
 use Rattle.vault.specs.Images.{recovered}
 use Rattle.journaled_store.specs.Steps.{IsBeforeOrNow, IsKept}
+use Rattle.journaled_store.specs.Left.{MissesOne}
 use Rattle.journaled_store.specs.Outlasting.{point}
 use Rattle.journaled_store.proofs.Batching.{logged_now, when_ok}
 use Rattle.journaled_store.proofs.Lasting.{follows_same, moved_lasts, ok_not_sync, on_ok_by, published_acknowledges, published_lasts, unless_sync}
@@ -52,7 +54,7 @@ returns-clause-lasts g c F is =
     let e = c.publish-published.ensures in
     let r = c.publish-published.result in
     let works = c.if-self.false in
-    published_lasts v.known v.seen v.may_leave v.moment v.left_since g.met.V.Vault.counts_now g.met.V.Vault.only_now (point c.args.self.now) _ F.bytes is.holds (record {
+    published_lasts v.known v.seen v.may_leave v.moment v.left_since g.met.V.Vault.counts_now g.met.V.Vault.only_now (point c.args.self.now) _ F.bytes is.holds (subst (λ (w : WorldView). MissesOne w.array.parts.drives) c.world.ensures (c.has_lost_two.ensures c.if-has_lost_two.false)) (record {
       tiers = e.same.0;
       stays = e.stays;
       still = λ failed. absurd (true≢false (sym failed ∙ works));
@@ -69,7 +71,7 @@ returns-clause-acknowledged g c F is = on_ok_by c.publish-published.result (λ o
     let e = c.publish-published.ensures in
     let r = c.publish-published.result in
     let works = c.if-self.false in
-    published_acknowledges v.known v.seen v.may_leave v.moment v.left_since g.met.V.Vault.counts_now g.met.V.Vault.only_now (point c.args.self.now) _ F.bytes is.holds (record {
+    published_acknowledges v.known v.seen v.may_leave v.moment v.left_since g.met.V.Vault.counts_now g.met.V.Vault.only_now (point c.args.self.now) _ F.bytes is.holds (subst (λ (w : WorldView). MissesOne w.array.parts.drives) c.world.ensures (c.has_lost_two.ensures c.if-has_lost_two.false)) (record {
       tiers = e.same.0;
       stays = e.stays;
       still = λ failed. absurd (true≢false (sym failed ∙ works));
@@ -80,3 +82,10 @@ returns-clause-acknowledged g c F is = on_ok_by c.publish-published.result (λ o
       any_moment = λ known lost live stop low logged. e.any_moment known lost (live works) stop low logged;
     }) (c.is_sync-self.ensures ∙ ok_not_sync r ok)
     (λ known lost live. subst (λ (t : TiersView). IsKept lost t.world.array.parts.drives (recovered (v.seen c.publish-published.new.vault))) (sym e.same.0) (when_ok r ok (e.kept known lost (live works)))))
+
+pub returns-clause-works : goal.returns-clause-works
+returns-clause-works g c = on_ok_by c.publish-published.result (λ ok.
+    let r = c.publish-published.result in (
+      c.is_sync-self.ensures ∙ ok_not_sync r ok,
+      subst (λ (t : TiersView). MissesOne t.world.array.parts.drives) (sym c.publish-published.ensures.same.0) (subst (λ (w : WorldView). MissesOne w.array.parts.drives) c.world.ensures (c.has_lost_two.ensures c.if-has_lost_two.false)),
+    ))

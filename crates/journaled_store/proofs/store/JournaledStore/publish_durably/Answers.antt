@@ -20,17 +20,17 @@ pub returns-clause-step : goal.returns-clause-step
 returns-clause-step g c known lost live works =
     let changes = c.publish.new.self.changes in
     subst (λ (i : Image). IsLive lost changes.keeper changes.noted changes.batch (recovered i)) (sym (c.sync-synced.ensures.seen (c.publish.ensures.stays known)))
-    (c.publish.ensures.step known lost live c.in_ok-publish.ensures.works)
+    (c.publish.ensures.step known lost live c.in_ok-publish.ensures.works.0)
 
 pub returns-clause-flushed : goal.returns-clause-flushed
 returns-clause-flushed g c known lost stop low is =
-    c.sync-synced.ensures.flushed (c.publish.ensures.stays known) lost stop low (c.publish.ensures.added known lost stop low is c.in_ok-publish.ensures.works)
+    c.sync-synced.ensures.flushed (c.publish.ensures.stays known) lost stop low (c.publish.ensures.added known lost stop low is c.in_ok-publish.ensures.works.0)
 
 pub returns-clause-logged : goal.returns-clause-logged
 returns-clause-logged g c known lost stop low is works =
     let v = g.V.Vault in
     let now = c.publish.ensures.stays known in
-    let logged = c.publish.ensures.added known lost stop low is c.in_ok-publish.ensures.works in
+    let logged = c.publish.ensures.added known lost stop low is c.in_ok-publish.ensures.works.0 in
     let most = logged.flushed in
     let all = unless_err c.sync-synced.result (sym c.is_err-self.ensures.value ∙ works) (c.sync-synced.ensures.flushed now lost stop low logged) in (
       length (Image.journal (v.seen c.sync-synced.new.vault)),
@@ -45,20 +45,20 @@ returns-clause-any_moment g c known lost live stop low is =
     let mid = c.publish.new.self.vault in
     let base = v.seen old in
     let drives = c.publish.new.self.store.tiers.world.array.parts.drives in
-    let logged = c.publish.ensures.added known lost stop low (λ was. is) c.in_ok-publish.ensures.works in
+    let logged = c.publish.ensures.added known lost stop low (λ was. is) c.in_ok-publish.ensures.works.0 in
     both_runs v.moment v.left_since stop old mid c.sync-synced.new.vault
     (IsBeforeOrNow lost base low drives) (StandsForSome lost (Image.cells (v.seen mid)) low (Image.journal (v.seen mid))) (IsBeforeOrNow lost base low drives)
     (c.publish.ensures.any_moment known lost live stop low is)
     (c.sync-synced.ensures.any_moment (c.publish.ensures.stays known) lost stop low logged)
     (λ i now. now)
     (λ i some. subst (λ (s : StoreView). IsBeforeOrNow lost base low s.tiers.world.array.parts.drives i) (sym c.publish.ensures.same.0)
-    (c.publish.ensures.batches known lost live c.in_ok-publish.ensures.works low i some))
+    (c.publish.ensures.batches known lost live c.in_ok-publish.ensures.works.0 low i some))
 
 pub returns-clause-killed : goal.returns-clause-killed
 returns-clause-killed g c known lost logged works =
     let v = g.V.Vault in
     unless_err c.sync-synced.result (sym c.is_err-self.ensures.value ∙ works) (c.sync-synced.ensures.flushed (c.publish.ensures.stays known) lost Killed
-    (length (Image.journal (v.seen c.publish.new.self.vault))) (c.publish.ensures.killed known lost logged c.in_ok-publish.ensures.works))
+    (length (Image.journal (v.seen c.publish.new.self.vault))) (c.publish.ensures.killed known lost logged c.in_ok-publish.ensures.works.0))
 
 pub returns-in_err-publish-clause-lasts : goal.returns-in_err-publish-clause-lasts
 returns-in_err-publish-clause-lasts g c F is =
@@ -73,12 +73,12 @@ returns-clause-lasts g c F is =
     let q : Point _ = record { keeper = m.keeper; noted = m.noted; batch = m.batch; failed = c.is_err-self.result; tiers = m.tiers; vault = c.sync-synced.new.vault } in
     let holds : Holds m.tiers F.bytes = subst (λ (s : StoreView). Holds s.tiers F.bytes) (sym c.publish.ensures.same.0) is.holds in (
       lasts_after (Outlasts v.known v.seen v.may_leave) (λ r. v.moment r.vault) (OutlastsSince v.left_since) F.bytes F.bytes (point c.args.self.now) m q (c.publish.ensures.lasts F is)
-          (published_lasts v.known v.seen v.may_leave v.moment v.left_since g.met.V.Vault.counts_now g.met.V.Vault.only_now m q F.bytes holds
-          (synced v.known v.seen v.may_leave v.moment v.left_since g.met.V.Vault.counts_now g.met.V.Vault.only_now m q c.in_ok-publish.ensures.works refl refl refl refl e.stays e.seen
+          (published_lasts v.known v.seen v.may_leave v.moment v.left_since g.met.V.Vault.counts_now g.met.V.Vault.only_now m q F.bytes holds c.in_ok-publish.ensures.works.1
+          (synced v.known v.seen v.may_leave v.moment v.left_since g.met.V.Vault.counts_now g.met.V.Vault.only_now m q c.in_ok-publish.ensures.works.0 refl refl refl refl e.stays e.seen
           (λ on known lost stop low logged. unless_err c.sync-synced.result (sym c.is_err-self.ensures.value ∙ on) (e.flushed known lost stop low logged))
           e.any_moment)),
       on_ok_by c.sync-synced.result (λ ok killed cut out.
-          synced_outlasts v.known v.seen v.may_leave v.moment v.left_since g.met.V.Vault.counts_now g.met.V.Vault.only_now m q c.in_ok-publish.ensures.works refl refl refl refl e.stays e.seen
+          synced_outlasts v.known v.seen v.may_leave v.moment v.left_since g.met.V.Vault.counts_now g.met.V.Vault.only_now m q c.in_ok-publish.ensures.works.0 refl refl refl refl e.stays e.seen
           (λ on known lost stop low logged. unless_err c.sync-synced.result (sym c.is_err-self.ensures.value ∙ on) (e.flushed known lost stop low logged))
           e.any_moment
           (c.is_err-self.ensures.value ∙ ok_not_err c.sync-synced.result ok) (F.bytes ∷ []) (cut ++ F.bytes ∷ F.bytes ∷ [])

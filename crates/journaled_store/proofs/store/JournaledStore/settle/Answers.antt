@@ -8,11 +8,12 @@ use Rattle.vault.specs.declared.store.VaultError.{VaultError}
 use Rattle.vault.specs.declared.store.VaultError.TheVariants as error
 use Rattle.vault.proofs.Runs.{both_runs}
 use Rattle.array_parts.specs.Views.{lost_of}
+use Rattle.array_store.specs.Blocks.{Holds}
 use Rattle.array_store.specs.Stores.{Follows, IsStoreOf, StoreView}
 use Rattle.byte_store.proofs.Lasts.{lasts_after}
 use Rattle.journaled_store.specs.Outlasting.{Outlasts, OutlastsSince, Point, point}
 use Rattle.journaled_store.proofs.Lasting.{follows_same, moved_lasts}
-use Rattle.journaled_store.proofs.SettledLasting.{settled_lasts}
+use Rattle.journaled_store.proofs.SettledLasting.{settled_begins, settled_lasts}
 use Rattle.journaled_store.specs.Steps.{IsBeforeOrNow, IsKept, IsLive, UnlessFailed, UnlessJournal}
 use Rattle.journaled_store.proofs.Settled.{kept_on, live_on, not_journal, table_there}
 use Rattle.journaled_store.proofs.store.JournaledStore.settle.Goals as goal
@@ -120,7 +121,7 @@ returns-in-Err-clause-step g c known live low logged works =
     let left : IsLive lost c.give_up.new.self.changes.keeper c.give_up.new.self.changes.noted c.give_up.new.self.changes.batch (recovered (v.seen new)) =
     c.give_up.ensures.step lost (recovered (v.seen new))
     (live_on lost changes.keeper changes.noted changes.batch (recovered (v.seen mid)) (recovered (v.seen new)) (table_there lost c.settle_vault.ensures.long) units
-    (c.publish_durably-published.ensures.step known lost live_now c.in_ok-published.ensures.works)) in
+    (c.publish_durably-published.ensures.step known lost live_now c.in_ok-published.ensures.works.0)) in
     subst (λ (l : List Bool). IsLive l c.give_up.new.self.changes.keeper c.give_up.new.self.changes.noted c.give_up.new.self.changes.batch (recovered (v.seen c.give_up.new.self.vault))) (sym c.give_up.ensures.lost)
     (subst (λ w. IsLive lost c.give_up.new.self.changes.keeper c.give_up.new.self.changes.noted c.give_up.new.self.changes.batch (recovered (v.seen w))) (sym c.give_up.ensures.vault) left)
 
@@ -198,7 +199,7 @@ returns-in-Ok-clause-lasts g c F is =
       batches = e.batches;
       any_moment = λ known lost live stop low logged. subst (λ (s : StoreView). LeavesOnly v.moment v.left_since stop c.args.self.now.vault c.publish_durably-published.new.self.vault
           (IsBeforeOrNow lost (v.seen c.args.self.now.vault) low s.tiers.world.array.parts.drives)) same (e.any_moment known lost live stop low logged);
-    }) o.works o.kept o.flushed c.lost-lost.result n.long
+    }) o.works.0 o.works.1 o.kept o.flushed c.lost-lost.result n.long
     (λ d low. subst (λ (s : StoreView). slice_index_or c.lost-lost.result d true ≡ lost_of s.tiers.world.array.parts d) (sym same) (are d low))
     c.settle_vault.new.vault m.failed n.stays (λ known all on. c.in-Ok.ensures.units known all) (λ known all on. c.in-Ok.ensures.logged known all) n.any_moment
 
@@ -236,7 +237,7 @@ returns-in-Err-clause-lasts g c F is =
       batches = e.batches;
       any_moment = λ known lost live stop low logged. subst (λ (s : StoreView). LeavesOnly v.moment v.left_since stop c.args.self.now.vault c.publish_durably-published.new.self.vault
           (IsBeforeOrNow lost (v.seen c.args.self.now.vault) low s.tiers.world.array.parts.drives)) same (e.any_moment known lost live stop low logged);
-    }) o.works o.kept o.flushed c.lost-lost.result n.long
+    }) o.works.0 o.works.1 o.kept o.flushed c.lost-lost.result n.long
     (λ d low. subst (λ (s : StoreView). slice_index_or c.lost-lost.result d true ≡ lost_of s.tiers.world.array.parts d) (sym same) (are d low))
     c.settle_vault.new.vault q.failed n.stays
     (λ known all on. not_journal c.in-Err.error _ (λ j. true≢false (sym (c.give_up.ensures.failed j) ∙ on))
@@ -245,3 +246,19 @@ returns-in-Err-clause-lasts g c F is =
     (subst (λ (r : Result (Unit {0}) VaultError). UnlessJournal r (AreLogged v.seen v.may_leave c.lost-lost.result c.settle_vault.new.vault)) c.in-Err.is (n.logged known all)))
     n.any_moment)
     (moved_lasts v.known v.seen v.may_leave v.moment v.left_since g.met.V.Vault.counts_now g.met.V.Vault.only_now mid q c.give_up.ensures.vault follows (λ on. on) c.give_up.ensures.step F.bytes F.bytes)
+
+pub returns-in-Ok-clause-begins : goal.returns-in-Ok-clause-begins
+returns-in-Ok-clause-begins g c known F is live low logged =
+    let v = g.V.Vault in
+    let e = c.publish_durably-published.ensures in
+    let same = e.same.0 in
+    let o = c.in_ok-published.ensures in
+    let n = c.settle_vault.ensures in
+    let m = point c.publish_durably-published.new.self in
+    let q : Point _ = record { keeper = m.keeper; noted = m.noted; batch = m.batch; failed = m.failed; tiers = m.tiers; vault = c.settle_vault.new.vault } in
+    let done = returns-in-Ok-clause-settled g c known live low logged in
+    let are : (d : ℕ) → d < 16 → slice_index_or c.lost-lost.result d true ≡ lost_of c.args.self.now.store.tiers.world.array.parts d = search rules in
+    settled_begins v.known v.seen v.may_leave v.moment v.left_since g.met.V.Vault.counts_now g.met.V.Vault.only_now q F.bytes (subst (λ (s : StoreView). Holds s.tiers F.bytes) (sym same) is.holds) o.works.1 c.lost-lost.result n.long
+    (λ d low. subst (λ (s : StoreView). slice_index_or c.lost-lost.result d true ≡ lost_of s.tiers.world.array.parts d) (sym same) (are d low))
+    (n.stays (e.stays known)) (returns-in-Ok-clause-step g c known live low logged o.works.0) done.durable
+    (subst (λ (s : StoreView). IsKept c.lost-lost.result s.tiers.world.array.parts.drives (recovered (v.seen c.settle_vault.new.vault))) (sym same) done.kept)
