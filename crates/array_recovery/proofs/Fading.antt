@@ -1,5 +1,5 @@
 -- Drives that show units still show them where more are lost. Sizes are asked of the units that slots have, and of no others.
-use Rattle.std.proofs.Common.{◌≡◌, ℕ, ◌+◌, ◌<◌, ◌++◌, inl, inr, Option, Some, None, List, length, length-append, take, drop, refl, sym, ◌∙◌, ap, subst, arith}
+use Rattle.std.proofs.Common.{◌≡◌, ℕ, ◌+◌, Option, Some, None, List, length, length-append, take, drop, refl, sym, ◌∙◌, ap, arith}
 use Rattle.std.proofs.lemmas.Option.{none-some}
 use Rattle.std.proofs.lemmas.List.{take-append-drop}
 use Rattle.extents.proofs.Headers.{spelled_length}
@@ -8,8 +8,8 @@ use Rattle.extent_groups.specs.Groups.{Groups}
 use Rattle.extent_groups.specs.Cells.{Cells, held}
 use Rattle.extent_groups.specs.Units.{Site, Pair, InStripe, or_else, others, row_of, unit_at, unit_in, IsSoundAt, site_of}
 use Rattle.extent_groups.specs.Calls.{Fades, FadesAt}
-use Rattle.extent_groups.specs.Layout.{IsOf, IsWhole, IsLayout}
-use Rattle.extent_groups.specs.Stores.{unit_bytes, unit_of, KeepsAt}
+use Rattle.extent_groups.specs.Layout.{IsWhole, IsLayout}
+use Rattle.extent_groups.specs.Stores.{unit_bytes, KeepsAt}
 use Rattle.extent_groups.proofs.Fading.{faded, fade_effective, fade_sound, row_fades}
 use Rattle.flat_machine.specs.Flat.{Stored}
 use Rattle.array_parts.specs.Shows.{IsUnit, ShowsUnits}

@@ -6,3 +6,4 @@ mod Seating
 mod Fading
 mod Rebuilding
 mod Reopening
+mod Outlasting

@@ -1,6 +1,5 @@
 -- Units of drives in memory.
-use Rattle.std.proofs.Common.{◌≡◌, ◌≢◌, ◌≤◌, ◌<◌, ◌+◌, ◌⊎◌, inl, inr, ℕ, zero, suc, Bool, true, false, Option, Some, None, List, [], ◌∷◌, ◌++◌, length, take, drop, get_or, slice_get, slice_set, refl, sym, ◌∙◌, ap, subst, arith}
-use Rattle.std.proofs.lemmas.Bool.{true≢false}
+use Rattle.std.proofs.Common.{◌≡◌, ◌≢◌, ◌<◌, ◌+◌, ◌⊎◌, inl, inr, ℕ, zero, suc, Bool, false, Some, List, [], ◌∷◌, ◌++◌, length, take, drop, get_or, slice_get, slice_set, refl, sym, ◌∙◌, ap, subst, arith}
 use Rattle.std.proofs.lemmas.Option.{same_Some, none-some, slice_get_within, slice_get_cases, slice_get-get_or}
 use Rattle.std.proofs.lemmas.List.{length-set}
 use Rattle.std.proofs.Math.Seq.{take-append_seam}
@@ -9,7 +8,7 @@ use Rattle.extents.specs.Units.{IsSized}
 use Rattle.extents.specs.declared.mem_drive.Condition.TheVariants.{Present}
 use Rattle.extent_groups.specs.declared.place.Place.{Place}
 use Rattle.extent_groups.specs.Cells.{Cells}
-use Rattle.extent_groups.specs.Planned.{Wanted, with_unit}
+use Rattle.extent_groups.specs.Planned.{with_unit}
 use Rattle.extent_groups.proofs.Places.{same_or_not, get-set_same, get-set_other}
 use Rattle.vault.specs.Images.{is_lost}
 use Rattle.array_recovery.specs.Found.{AreFormed, HaveUnits}

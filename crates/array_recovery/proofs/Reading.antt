@@ -1,5 +1,5 @@
 -- Calls that only read a vault, one after the other.
-use Rattle.std.proofs.Common.{◌≡◌, ◌≤◌, ◌⊎◌, inl, inr, ℕ, refl, sym, ◌∙◌, subst, arith}
+use Rattle.std.proofs.Common.{◌≡◌, inl, inr, ℕ, refl, ◌∙◌, subst, arith}
 use Rattle.std.specs.Prelude.{Bool, true, Some, List}
 use Rattle.extent_groups.specs.Cells.{Cells, held}
 use Rattle.extent_groups.specs.declared.place.Place.{Place}

@@ -1,14 +1,18 @@
 -- A restarted array has the bytes of the array whose units its drives had.
-use Rattle.std.proofs.Common.{◌≡◌, ℕ, ◌<◌, ◌≤◌, Bool, false, List, map, length, Contains, is_some, refl, sym, ◌∙◌, ap, subst, Option, Some}
+use Rattle.std.proofs.Common.{◌≡◌, ℕ, Bool, List, map, Contains, refl, sym, ◌∙◌, ap, subst, Option, Some}
 use Rattle.std.specs.Prelude.{◌/◌, ◌%◌, ◌↔◌, slice_index}
 use Rattle.map_join.specs.declared.records.Record.{Record}
 use Rattle.map_join.specs.Record.{record_at}
 use Rattle.map_join.specs.Maps.{IsSame, IsListOf}
 use Rattle.extent_groups.specs.Groups.{Groups}
-use Rattle.extent_groups.specs.Cells.{Cells}
 use Rattle.extent_groups.proofs.LayoutLaw.{layout_law}
 use Rattle.array_parts.specs.Shows.{ShowsUnits}
-use Rattle.array_parts.specs.Views.{PartsView, cells_of, lost_of, failed_of}
+use Rattle.array_parts.specs.Views.{PartsView, cells_of, lost_of, failed_of, view_of}
+use Rattle.array_parts.specs.Losses.{LosesOnly}
+use Rattle.array_parts.specs.declared.parts.Parts.{Parts}
+use Rattle.array_parts.proofs.Reading.{keeps_fare}
+use Rattle.array_parts.proofs.Views.{view_fares}
+use Rattle.extents.specs.Failures.{Failures}
 use Rattle.flat_machine.specs.Cases.{Leaves}
 use Rattle.flat_machine.specs.Flat.{Flat, Stored, Write, last_write}
 use Rattle.flat_machine.specs.History.{IsHistory}
@@ -22,7 +26,7 @@ use Rattle.background.specs.Stands.{StandsFor}
 use Rattle.background.specs.Tiered.{begun}
 use Rattle.background.specs.Views.{TiersView}
 use Rattle.array_store.specs.Blocks.{Holds, Shows, bytes_in}
-use Rattle.array_recovery.specs.Reopened.{Outlives}
+use Rattle.array_recovery.specs.Reopened.{LosesMore, Outlives}
 use Rattle.array_recovery.proofs.Fading.{shows_fade}
 
 -- the laws of restarts
@@ -113,3 +117,14 @@ module _ (laws : Laws) (was : TiersView) (bytes : List ℕ) (v : PartsView) (hol
   rebuilt_of a keys same flat tiers stands =
       let made = flat left has there in
       rebuilt a keys same made.0 made.1 made.2 made.3 made.4 tiers (stands made.1 made.4 (idle a keys same made.0 made.1 made.2 made.3 made.4))
+
+-- what a restart left of the parts
+pub loses_more : {D : Type 0} (units : D → List (List ℕ)) (lost : D → Bool) (failures : D → Failures) (parts left : Parts D) → LosesOnly units lost failures parts left
+    → (v : PartsView) → v ≡ view_of units lost failures left → LosesMore (view_of units lost failures parts) v
+loses_more units lost failures parts left loses v is =
+    let fares = view_fares units lost failures parts left (keeps_fare parts.drives.items left.drives.items loses.drives) in
+    subst (λ (w : PartsView). LosesMore (view_of units lost failures parts) w) (sym is) (record {
+      groups = loses.tables.groups;
+      many = fares.many;
+      lost = λ d was. (fares.each d).stays was;
+    })

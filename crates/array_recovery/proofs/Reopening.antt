@@ -1,21 +1,20 @@
 -- What is found of a vault's drives outlives the array that the vault has.
-use Rattle.std.proofs.Common.{◌≡◌, ◌≢◌, ℕ, ◌<◌, ◌≤◌, ◌⊎◌, inl, inr, Bool, true, false, Option, Some, None, List, [], length, slice_get, refl, sym, ◌∙◌, ap, subst, arith, if◌then◌else◌}
+use Rattle.std.proofs.Common.{◌≡◌, ℕ, ◌<◌, ◌⊎◌, inl, inr, Bool, true, false, Option, Some, None, List, [], length, slice_get, refl, sym, ◌∙◌, ap, subst, arith, if◌then◌else◌}
 use Rattle.std.specs.Prelude.{◌||◌, ◌==◌, not, map, option_map}
 use Rattle.std.proofs.lemmas.List.{length-map}
 use Rattle.std.proofs.lemmas.Bool.{true≢false}
-use Rattle.std.proofs.lemmas.Option.{same_Some, none-some, slice_get-map, slice_get_cases, slice_get_within, slice_get_past}
+use Rattle.std.proofs.lemmas.Option.{same_Some, slice_get-map, slice_get_cases, slice_get_within}
 use Rattle.extents.specs.Condition.{Held}
 use Rattle.extents.specs.Failures.{Failures}
 use Rattle.extent_groups.specs.Groups.{Groups}
-use Rattle.extent_groups.specs.Cells.{Cells, cell, held}
-use Rattle.extent_groups.specs.Calls.{Fades, FadesAt}
-use Rattle.extent_groups.specs.declared.place.Place.{Place}
+use Rattle.extent_groups.specs.Cells.{Cells, cell}
+use Rattle.extent_groups.specs.Calls.{Fades}
 use Rattle.extent_groups.specs.Planned.{Wanted}
 use Rattle.history.specs.Entries.{Course}
 use Rattle.array_parts.specs.Views.{DriveView, PartsView, drive_units, drive_lost, drive_view, cells_of}
 use Rattle.vault.specs.Images.{is_lost}
 use Rattle.cached_drive.specs.Saving.{Units, saved_by}
-use Rattle.journaled_store.specs.Steps.{IsLive, IsKept, mark_of}
+use Rattle.journaled_store.specs.Steps.{IsLive, mark_of}
 use Rattle.array_recovery.specs.Found.{AreFormed, AreGone, AreSeated, HaveUnits, IsTable, is_marked}
 use Rattle.array_recovery.proofs.Marking.{index_is}
 use Rattle.journaled_store.specs.Left.{IsLeftOf, IsLostIn}
@@ -29,7 +28,7 @@ or_false : (a b : Bool) → (a || b) ≡ false → (a ≡ false) × (b ≡ false
 or_false false b e = (refl, e)
 or_false true b e = absurd (true≢false e)
 
-bool_cases : (b : Bool) → (b ≡ true) ⊎ (b ≡ false)
+pub bool_cases : (b : Bool) → (b ≡ true) ⊎ (b ≡ false)
 bool_cases true = inl refl
 bool_cases false = inr refl
 

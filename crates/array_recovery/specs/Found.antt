@@ -1,5 +1,5 @@
 -- What is read of a vault, and held in memory.
-use Rattle.std.specs.Prelude.{◌≡◌, ◌==◌, ◌||◌, ◌<◌, ◌≤◌, ℕ, Bool, true, false, not, Some, List, length, slice_get, slice_index_or}
+use Rattle.std.specs.Prelude.{◌≡◌, ◌==◌, ◌||◌, ◌<◌, ℕ, Bool, false, not, Some, List, length, slice_get, slice_index_or}
 use Rattle.extents.specs.Condition.{Held}
 use Rattle.extents.specs.Units.{IsSized}
 use Rattle.extents.specs.declared.mem_drive.Condition.TheVariants.{Present}

@@ -4,10 +4,12 @@
 mod fault;
 mod load;
 mod marks;
+mod open;
 mod rebuild;
 mod reopen;
 mod replay;
 mod seat;
 
 pub use fault::RecoveryFault;
+pub use open::open_store;
 pub use reopen::recover;

@@ -1,5 +1,5 @@
 // Which drives the table says are lost.
-ghost use Rattle.std.specs.Prelude.{◌≡◌, ◌==◌, ◌||◌, not, OnOk, IfOk};
+ghost use Rattle.std.specs.Prelude.{◌≡◌, ◌==◌, ◌||◌, not, length, OnOk, IfOk};
 ghost use Rattle.extent_groups.specs.Cells.{Cells};
 ghost use Rattle.extent_groups.specs.Planned.{after, with_unit};
 ghost use Rattle.vault.specs.Images.{recovered};
@@ -68,7 +68,8 @@ fn is_gone(mark: u8, is_absent: bool) -> bool
 
 /// The drives that are lost: those with a mark, and those that are absent.
 pub(crate) fn lost_drives(marks: &[u8; DRIVES], absent: &[bool; DRIVES]) -> [bool; DRIVES]
-    ensures { AreGone marks.now absent.now result }
+    ensures gone { AreGone marks.now absent.now result }
+    ensures long { length marks.now ≡ 16 }
 {
     let mut lost = *absent;
     for drive in 0..DRIVES {

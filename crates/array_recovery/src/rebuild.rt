@@ -4,7 +4,8 @@ ghost use Rattle.array_parts.specs.Views.{view_of};
 ghost use Rattle.background.specs.Views.{TiersView};
 ghost use Rattle.array_store.specs.Blocks.{Holds};
 ghost use Rattle.array_store.specs.Stores.{IsStoreOf};
-ghost use Rattle.array_recovery.specs.Reopened.{Outlives};
+ghost use Rattle.array_recovery.specs.Reopened.{LosesMore, Outlives};
+ghost use Rattle.journaled_store.specs.Outlasting.{parts_of};
 
 use crate::fault::RecoveryFault;
 use array_parts::Parts;
@@ -41,8 +42,9 @@ fn fault_of(fault: ScanFault) -> RecoveryFault {
 // The array that the parts hold, and what is kept next to it.
 fn tiers_of<D: Drive + Drop>(alloc: Global, parts: Parts<D>) -> Result<Tiers<D>, RecoveryFault>
     requires note { parts.note ≡ None }
-    ensures { IfOk result (λ tiers. (was : TiersView) (bytes : List ℕ) → Holds was bytes
+    ensures bytes { IfOk result (λ tiers. (was : TiersView) (bytes : List ℕ) → Holds was bytes
         → Outlives was.world.array.parts (view_of D.units D.lost D.failures parts) → Holds tiers bytes) }
+    ensures same { IfOk result (λ tiers. LosesMore (view_of D.units D.lost D.failures parts) (parts_of tiers)) }
 {
     if !parts.is_fit() {
         return Err(RecoveryFault::Unsound);

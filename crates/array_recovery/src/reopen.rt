@@ -8,7 +8,7 @@ ghost use Rattle.extent_groups.specs.Cells.{Cells};
 ghost use Rattle.vault.specs.Images.{recovered};
 ghost use Rattle.journaled_store.specs.Steps.{IsLive};
 ghost use Rattle.array_store.specs.Stores.{IsStoreOf};
-ghost use Rattle.array_recovery.specs.Found.{AreFormed, IsFoundIn, OnlyRead};
+ghost use Rattle.array_recovery.specs.Found.{AreFormed, IsFoundIn, IsTable, OnlyRead};
 ghost use Rattle.journaled_store.specs.Left.{IsLeftOf};
 ghost use Rattle.array_recovery.specs.Reopened.{CoversGone, EndsAt};
 
@@ -47,6 +47,7 @@ fn find<V: Vault>(
     ensures stays { V.known vault.old → V.known vault.new }
     ensures read { V.known vault.old → OnlyRead V.seen V.may_leave V.moment V.left_since vault.old vault.new }
     ensures found { V.known vault.old → IfOk result (λ f. IsFoundIn (recovered (V.seen vault.old)) absent.now f.marks f.lost f.caches.items) }
+    ensures long { IfOk result (λ f. length f.marks ≡ 16) }
     ensures many { IfOk result (λ f. length f.caches.items ≡ drives) }
     ensures formed { IfOk result (λ f. AreFormed (shape.now.extents * extent_units shape.now.segments) (HEADER_BYTES + shape.now.payload) f.caches.items) }
 {
@@ -78,6 +79,7 @@ fn open_found<N: Chronicle>(
         → length bytes ≡ size → IsLeftOf bytes groups (length found.caches.items) absent c
         → IsStoreOf r.0.tiers r.0.size r.0.unsynced (record { bytes = bytes; unsynced = false })) }
     ensures size { IfOk result (λ r. r.0.size ≡ size) }
+    ensures marks { IfOk result (λ r. r.1.noted ≡ found.marks) }
     ensures live { IfOk result (λ r. (c : Cells) (absent lost : List Bool) (count size : ℕ) → IsFoundIn c absent found.marks found.lost found.caches.items
         → AreFormed count size found.caches.items → CoversGone (length found.caches.items) r.1.noted absent lost
         → EndsAt lost (length found.caches.items) count c → IsLive lost r.1.keeper r.1.noted r.1.batch c) }
@@ -124,6 +126,10 @@ pub fn recover<N: Chronicle, V: Vault>(
     ensures reopened { V.known vault.old → (bytes : List ℕ) → length bytes ≡ size → IsLeftOf bytes groups drives absent.now (recovered (V.seen vault.old))
         → IfOk result (λ r. IsStoreOf r.0.tiers r.0.size r.0.unsynced (record { bytes = bytes; unsynced = false })) }
     ensures size { IfOk result (λ r. r.0.size ≡ size) }
+
+    // Its marks are those of the table.
+    ensures long { IfOk result (λ r. length r.1.noted ≡ 16) }
+    ensures marks { V.known vault.old → IfOk result (λ r. IsTable r.1.noted (recovered (V.seen vault.old))) }
 
     // What the first `publish` needs.
     ensures live { V.known vault.old → (lost : List Bool) → IfOk result (λ r. CoversGone drives r.1.noted absent.now lost

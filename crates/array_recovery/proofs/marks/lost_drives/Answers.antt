@@ -15,7 +15,7 @@ loop-drive-preserved c =
           (slice_get-get_or c.args.absent.now n _ (omega (arith, c.loop-drive-test.true, c.told-absent))) c.is_gone.ensures c.loop-drive.invariant.each;
     }
 
-pub returns : goal.returns
-returns c =
+pub returns-clause-gone : goal.returns-clause-gone
+returns-clause-gone c =
     gone_all c.args.marks.now c.args.absent.now c.loop-drive.lost c.told-marks c.told-absent c.loop-drive.invariant.long
     (λ d low. c.loop-drive.invariant.each d (omega (arith, low, c.loop-drive-test.false)))

@@ -3,7 +3,7 @@ use Rattle.std.specs.Prelude.{slice_get}
 use Rattle.extent_groups.specs.Cells.{Cells}
 use Rattle.extent_groups.specs.Planned.{after}
 use Rattle.vault.specs.Images.{Image, flat}
-use Rattle.array_recovery.specs.Found.{IsTable, OnlyRead}
+use Rattle.array_recovery.specs.Found.{IsTable}
 use Rattle.array_recovery.proofs.Reading.{read_call, unit_found}
 use Rattle.array_recovery.proofs.Replaying.{after_batch}
 use Rattle.array_recovery.proofs.marks.read_marks.Goals as goal

@@ -47,7 +47,7 @@ returns-clause-found g c = λ known.
     let back = written_back c.in_ok-caches.caches.len c.replay.new.caches items (c.replay.auto.caches ∙ ap length lent) (omega (arith, c.in_ok-caches.caches.ok)) in
     record {
       table = c.in_ok-marks.ensures.marks known;
-      gone = c.lost_drives-lost.ensures;
+      gone = c.lost_drives-lost.ensures.gone;
       units = subst (λ (l : List Held). HaveUnits lost (recovered (g.V.Vault.seen c.args.vault.now)) l) (sym back)
           (subst (λ (s : Image). HaveUnits lost (recovered s) c.replay.new.caches) finds now);
     }

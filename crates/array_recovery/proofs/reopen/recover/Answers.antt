@@ -1,9 +1,10 @@
-use Rattle.std.proofs.Common.{◌*◌, sym, subst}
+use Rattle.std.proofs.Common.{◌*◌, ◌∙◌, ℕ, List, length, sym, ap, subst}
 use Rattle.extents.specs.Sizes.{extent_units}
 use Rattle.std.proofs.lemmas.Result.{IfOk-weaker}
 use Rattle.vault.specs.Images.{recovered}
 use Rattle.journaled_store.specs.Left.{IsLeftOf}
 use Rattle.array_recovery.specs.Reopened.{CoversGone, EndsAt}
+use Rattle.array_recovery.specs.Found.{IsTable}
 use Rattle.array_recovery.proofs.reopen.recover.Goals as goal
 
 pub returns-clause-reopened : goal.returns-clause-reopened
@@ -20,3 +21,13 @@ returns-clause-live g c = λ known lost.
     IfOk-weaker c.open_found.result _ _
     (λ r h covers ends. h cells c.args.absent.now lost _ _ (told.found known) told.formed (subst (λ n. CoversGone n r.1.noted c.args.absent.now lost) (sym told.many) covers)
     (subst (λ n. EndsAt lost n (c.args.shape.now.extents * extent_units c.args.shape.now.segments) cells) (sym told.many) ends)) c.open_found.ensures.live
+
+pub returns-clause-long : goal.returns-clause-long
+returns-clause-long g c = IfOk-weaker c.open_found.result _ _ (λ r h. ap length h ∙ c.in_ok-found.ensures.long) c.open_found.ensures.marks
+
+pub returns-clause-marks : goal.returns-clause-marks
+returns-clause-marks g c = λ known.
+    let cells = recovered (g.V.Vault.seen c.args.vault.now) in
+    let found = c.in_ok-found.ensures.found known in
+    IfOk-weaker c.open_found.result _ _
+    (λ r h. subst (λ (l : List ℕ). IsTable l cells) (sym h) found.table) c.open_found.ensures.marks

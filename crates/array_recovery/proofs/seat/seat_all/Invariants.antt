@@ -1,7 +1,5 @@
-use Rattle.std.proofs.Common.{◌≡◌, ◌+◌, ◌≤◌, ℕ, Some, length, slice_get}
+use Rattle.std.proofs.Common.{◌≡◌, ◌≤◌, length}
 use Rattle.std.specs.Prelude.{drop}
-use Rattle.vault.specs.Images.{is_lost}
-use Rattle.cached_drive.specs.Saving.{saved_by}
 use Rattle.array_recovery.proofs.Seating.{AreSeatedTo}
 use Rattle.array_recovery.proofs.seat.seat_all.Given as goal
 

@@ -1,0 +1,61 @@
+// A store is opened from a vault.
+ghost use Rattle.std.specs.Prelude.{◌≡◌, ◌*◌, ℕ, List, [], ◌∷◌, false, length, IfErr, IfOk};
+ghost use Rattle.extents.specs.Sizes.{extent_units};
+ghost use Rattle.vault.specs.Images.{recovered};
+ghost use Rattle.journaled_store.specs.Left.{IsLeftOf};
+ghost use Rattle.journaled_store.specs.Outlasting.{Outlasts, point};
+ghost use Rattle.array_recovery.specs.Found.{OnlyRead};
+ghost use Rattle.array_recovery.specs.Reopened.{IsOpenedWith, IsSoundFor};
+
+use crate::fault::RecoveryFault;
+use crate::reopen::recover;
+use byte_store::ByteStore;
+use cached_drive::Saved;
+use extent_groups::GroupTable;
+use extents::{DRIVES, ExtentTable, Shape};
+use history::{Chronicle, Opened};
+use journaled_store::JournaledStore;
+use std::alloc::Global;
+use vault::Vault;
+
+/// Opens a store of `drives` drives and `size` bytes from what outlived a stop, and goes on in the same vault. `settle_at` is that
+/// of `JournaledStore::new`, the rest that of `recover`. The vault is only read; where nothing is opened, it is returned.
+pub fn open_store<N: Chronicle, V: Vault + Drop>(
+    alloc: Global,
+    vault: V,
+    opened: Opened<Saved>,
+    shape: &Shape,
+    groups: GroupTable,
+    extents: ExtentTable,
+    drives: u8,
+    size: u64,
+    absent: &[bool; DRIVES],
+    settle_at: u64,
+) -> Result<JournaledStore<N, V>, (RecoveryFault, V)>
+    requires { opened ≡ N.chronicle }
+
+    // The vault is only read, whether or not a store is opened.
+    ensures read { V.known vault → IfOk result (λ s. V.known s.vault × OnlyRead V.seen V.may_leave V.moment V.left_since vault s.vault) }
+    ensures back { V.known vault → IfErr result (λ e. V.known e.1 × OnlyRead V.seen V.may_leave V.moment V.left_since vault e.1) }
+
+    // A store of which the vault has all is opened with the same bytes.
+    ensures reopened { V.known vault → (bytes : List ℕ) → length bytes ≡ size → IsLeftOf bytes groups drives absent.now (recovered (V.seen vault))
+        → IfOk result (λ s. ⟦<JournaledStore<N, V> as ByteStore>⟧.represents s (record { bytes = bytes; unsynced = false })) }
+    ensures size { IfOk result (λ s. s.store.size ≡ size) }
+    ensures works { IfOk result (λ s. s.failed ≡ false) }
+
+    // A stop leaves a vault of which a store with the same bytes is opened again, provided that the store keeps the array that was
+    // made of the parts: `ArrayStore::new` doesn't say so.
+    ensures lasts { V.known vault → (bytes : List ℕ) → length bytes ≡ size
+        → IsSoundFor V.seen V.may_leave bytes groups drives (shape.now.extents * extent_units shape.now.segments) absent.now vault
+        → IfOk result (λ s. IsOpenedWith groups drives s.changes.noted absent.now s.store.tiers
+        → Outlasts V.known V.seen V.may_leave (point s) (bytes ∷ []) (bytes ∷ [])) }
+{
+    let mut vault = vault;
+    match recover::<N, V>(
+        alloc, &mut vault, opened, shape, groups, extents, drives, size, absent,
+    ) {
+        Ok((store, changes)) => Ok(JournaledStore::new(alloc, store, changes, vault, settle_at)),
+        Err(fault) => Err((fault, vault)),
+    }
+}
