@@ -18,7 +18,10 @@ use Rattle.journaled_store.specs.Steps.{IsLive, mark_of}
 use Rattle.array_recovery.specs.Found.{AreFormed, AreGone, AreSeated, HaveUnits, IsTable, is_marked}
 use Rattle.array_recovery.proofs.Marking.{index_is}
 use Rattle.journaled_store.specs.Left.{IsLeftOf, IsLostIn}
-use Rattle.array_recovery.specs.Reopened.{CoversGone, EndsAt, Outlives}
+use Rattle.journaled_store.specs.Outlasting.{parts_of}
+use Rattle.background.specs.Views.{TiersView}
+use Rattle.extent_groups.specs.Missing.{is_missing}
+use Rattle.array_recovery.specs.Reopened.{CoversGone, EndsAt, IsOpenedWith, LosesMore, Outlives}
 
 -- an element below the length
 pub there : {A : Type 0} (xs : List A) (i : ℕ) → i < length xs → (x : A) × (slice_get xs i ≡ Some x)
@@ -143,3 +146,22 @@ module _ {D : Type 0} (units : D → Units) (gone : D → Bool) (failures : D �
       (live count size unsure formed
       (subst (λ n. CoversGone n marks absent unsure) (sym seated.many) (subst (λ (l : List ℕ). CoversGone (length caches) l absent unsure) told covers))
       (subst (λ n. EndsAt unsure n count c) (sym seated.many) ends))))
+
+module _ {D : Type 0} (units : D → Units) (gone : D → Bool) (failures : D → Failures) (drives : List D) (caches : List Held) (marks : List ℕ) (absent lost : List Bool) (k : Course Units)
+    (seated : AreSeated units gone lost caches drives k) (are : AreGone marks absent lost) where
+  -- a drive that is marked or absent is missing
+  missing : (d : ℕ) (o : Option D) → slice_get drives d ≡ o → (is_marked marks d || is_lost absent d) ≡ true → is_missing drive_lost (option_map (drive_view units gone failures) o) ≡ true
+  missing d None e one = refl
+  missing d (Some x) e one = seated.gone_are d x e ∙ are.each d ∙ one
+
+  missing_view : (d : ℕ) → (is_marked marks d || is_lost absent d) ≡ true → is_missing drive_lost (slice_get (map (drive_view units gone failures) drives) d) ≡ true
+  missing_view d one = ap (is_missing drive_lost) (slice_get-map (drive_view units gone failures) drives d) ∙ missing d (slice_get drives d) refl one
+
+  -- what was made of the drives
+  pub opened_with : (old : PartsView) (tiers : TiersView) (noted : List ℕ) → old.drives ≡ map (drive_view units gone failures) drives → noted ≡ marks → LosesMore old (parts_of tiers)
+      → IsOpenedWith old.groups (length caches) noted absent tiers
+  opened_with old tiers noted drives_are told loses = subst (λ (l : List ℕ). IsOpenedWith old.groups (length caches) l absent tiers) (sym told) (record {
+    groups_are = loses.groups;
+    many = loses.many ∙ ap length drives_are ∙ length-map drives (drive_view units gone failures) ∙ seated.many;
+    gone = λ d one. loses.lost d (ap (λ (ds : List DriveView). is_missing drive_lost (slice_get ds d)) drives_are ∙ missing_view d one);
+  })

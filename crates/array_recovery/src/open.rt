@@ -43,13 +43,12 @@ pub fn open_store<N: Chronicle, V: Vault + Drop>(
         → IfOk result (λ s. ⟦<JournaledStore<N, V> as ByteStore>⟧.represents s (record { bytes = bytes; unsynced = false })) }
     ensures size { IfOk result (λ s. s.store.size ≡ size) }
     ensures works { IfOk result (λ s. s.failed ≡ false) }
+    ensures same { IfOk result (λ s. IsOpenedWith groups drives s.changes.noted absent.now s.store.tiers) }
 
-    // A stop leaves a vault of which a store with the same bytes is opened again, provided that the store keeps the array that was
-    // made of the parts: `ArrayStore::new` doesn't say so.
+    // A stop leaves a vault of which a store with the same bytes is opened again.
     ensures lasts { V.known vault → (bytes : List ℕ) → length bytes ≡ size
         → IsSoundFor V.seen V.may_leave bytes groups drives (shape.now.extents * extent_units shape.now.segments) absent.now vault
-        → IfOk result (λ s. IsOpenedWith groups drives s.changes.noted absent.now s.store.tiers
-        → Outlasts V.known V.seen V.may_leave (point s) (bytes ∷ []) (bytes ∷ [])) }
+        → IfOk result (λ s. Outlasts V.known V.seen V.may_leave (point s) (bytes ∷ []) (bytes ∷ [])) }
 {
     let mut vault = vault;
     match recover::<N, V>(

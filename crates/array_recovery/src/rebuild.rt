@@ -73,6 +73,7 @@ pub(crate) fn rebuild<D: Drive + Drop>(
         → Outlives was.world.array.parts (view_of D.units D.lost D.failures parts)
         → IsStoreOf s.tiers s.size s.unsynced (record { bytes = bytes; unsynced = false })) }
     ensures size { IfOk result (λ s. s.size ≡ size) }
+    ensures same { IfOk result (λ s. LosesMore (view_of D.units D.lost D.failures parts) (parts_of s.tiers)) }
 {
     let tiers = tiers_of(alloc, parts)?;
     let shape = tiers.world().array().shape();

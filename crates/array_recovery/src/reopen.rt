@@ -8,9 +8,9 @@ ghost use Rattle.extent_groups.specs.Cells.{Cells};
 ghost use Rattle.vault.specs.Images.{recovered};
 ghost use Rattle.journaled_store.specs.Steps.{IsLive};
 ghost use Rattle.array_store.specs.Stores.{IsStoreOf};
-ghost use Rattle.array_recovery.specs.Found.{AreFormed, IsFoundIn, IsTable, OnlyRead};
+ghost use Rattle.array_recovery.specs.Found.{AreFormed, AreGone, IsFoundIn, IsTable, OnlyRead};
 ghost use Rattle.journaled_store.specs.Left.{IsLeftOf};
-ghost use Rattle.array_recovery.specs.Reopened.{CoversGone, EndsAt};
+ghost use Rattle.array_recovery.specs.Reopened.{CoversGone, EndsAt, IsOpenedWith};
 
 use crate::fault::RecoveryFault;
 use crate::load::load_drives;
@@ -47,6 +47,7 @@ fn find<V: Vault>(
     ensures stays { V.known vault.old → V.known vault.new }
     ensures read { V.known vault.old → OnlyRead V.seen V.may_leave V.moment V.left_since vault.old vault.new }
     ensures found { V.known vault.old → IfOk result (λ f. IsFoundIn (recovered (V.seen vault.old)) absent.now f.marks f.lost f.caches.items) }
+    ensures gone { IfOk result (λ f. AreGone f.marks absent.now f.lost) }
     ensures long { IfOk result (λ f. length f.marks ≡ 16) }
     ensures many { IfOk result (λ f. length f.caches.items ≡ drives) }
     ensures formed { IfOk result (λ f. AreFormed (shape.now.extents * extent_units shape.now.segments) (HEADER_BYTES + shape.now.payload) f.caches.items) }
@@ -79,6 +80,8 @@ fn open_found<N: Chronicle>(
         → length bytes ≡ size → IsLeftOf bytes groups (length found.caches.items) absent c
         → IsStoreOf r.0.tiers r.0.size r.0.unsynced (record { bytes = bytes; unsynced = false })) }
     ensures size { IfOk result (λ r. r.0.size ≡ size) }
+    ensures same { IfOk result (λ r. (absent : List Bool) → AreGone found.marks absent found.lost
+        → IsOpenedWith groups (length found.caches.items) r.1.noted absent r.0.tiers) }
     ensures marks { IfOk result (λ r. r.1.noted ≡ found.marks) }
     ensures live { IfOk result (λ r. (c : Cells) (absent lost : List Bool) (count size : ℕ) → IsFoundIn c absent found.marks found.lost found.caches.items
         → AreFormed count size found.caches.items → CoversGone (length found.caches.items) r.1.noted absent lost
@@ -127,7 +130,8 @@ pub fn recover<N: Chronicle, V: Vault>(
         → IfOk result (λ r. IsStoreOf r.0.tiers r.0.size r.0.unsynced (record { bytes = bytes; unsynced = false })) }
     ensures size { IfOk result (λ r. r.0.size ≡ size) }
 
-    // Its marks are those of the table.
+    // It has the groups and as many drives as are given, and each drive that is marked or absent is lost in it.
+    ensures same { IfOk result (λ r. IsOpenedWith groups drives r.1.noted absent.now r.0.tiers) }
     ensures long { IfOk result (λ r. length r.1.noted ≡ 16) }
     ensures marks { V.known vault.old → IfOk result (λ r. IsTable r.1.noted (recovered (V.seen vault.old))) }
 

@@ -1,7 +1,8 @@
 use Rattle.std.proofs.Common.{false, refl, length}
 use Rattle.extents.specs.Failures.{unsteady}
 use Rattle.extents.specs.Units.{loss}
-use Rattle.array_recovery.proofs.Reopening.{outlives, live_now}
+use Rattle.array_parts.specs.Views.{view_of}
+use Rattle.array_recovery.proofs.Reopening.{outlives, live_now, opened_with}
 use Rattle.array_recovery.proofs.reopen.open_found.Goals as goal
 
 pub returns-clause-reopened : goal.returns-clause-reopened
@@ -19,3 +20,9 @@ returns-clause-live g c = λ d absent lost count size is formed covers ends.
     live_now (λ x. x.cache.units) (λ x. x.lost) (λ x. unsteady (loss false x.lost)) c.in_ok-seated.seated.items c.args.found.caches.items c.args.found.marks absent c.args.found.lost
     c.seat_all.new.keeper d seated is.units is.gone is.table count size lost c.in_ok-changes.changes.keeper c.in_ok-changes.changes.noted c.in_ok-changes.changes.batch
     made.0 made.1 made.2 formed covers ends
+
+pub returns-clause-same : goal.returns-clause-same
+returns-clause-same g c = λ absent are.
+    let seated = c.in_ok-seated.ensures in
+    opened_with (λ x. x.cache.units) (λ x. x.lost) (λ x. unsteady (loss false x.lost)) c.in_ok-seated.seated.items c.args.found.caches.items c.args.found.marks absent c.args.found.lost
+    c.seat_all.new.keeper seated are _ c.in_ok-store.store.tiers c.in_ok-changes.changes.noted refl c.in_ok-changes.ensures.2 c.in_ok-store.ensures.same

@@ -3,7 +3,7 @@ use Rattle.extents.specs.Sizes.{extent_units}
 use Rattle.std.proofs.lemmas.Result.{IfOk-weaker}
 use Rattle.vault.specs.Images.{recovered}
 use Rattle.journaled_store.specs.Left.{IsLeftOf}
-use Rattle.array_recovery.specs.Reopened.{CoversGone, EndsAt}
+use Rattle.array_recovery.specs.Reopened.{CoversGone, EndsAt, IsOpenedWith}
 use Rattle.array_recovery.specs.Found.{IsTable}
 use Rattle.array_recovery.proofs.reopen.recover.Goals as goal
 
@@ -21,6 +21,12 @@ returns-clause-live g c = λ known lost.
     IfOk-weaker c.open_found.result _ _
     (λ r h covers ends. h cells c.args.absent.now lost _ _ (told.found known) told.formed (subst (λ n. CoversGone n r.1.noted c.args.absent.now lost) (sym told.many) covers)
     (subst (λ n. EndsAt lost n (c.args.shape.now.extents * extent_units c.args.shape.now.segments) cells) (sym told.many) ends)) c.open_found.ensures.live
+
+pub returns-clause-same : goal.returns-clause-same
+returns-clause-same g c =
+    let told = c.in_ok-found.ensures in
+    IfOk-weaker c.open_found.result _ _
+    (λ r h. subst (λ n. IsOpenedWith c.args.groups n r.1.noted c.args.absent.now r.0.tiers) told.many (h c.args.absent.now told.gone)) c.open_found.ensures.same
 
 pub returns-clause-long : goal.returns-clause-long
 returns-clause-long g c = IfOk-weaker c.open_found.result _ _ (λ r h. ap length h ∙ c.in_ok-found.ensures.long) c.open_found.ensures.marks
