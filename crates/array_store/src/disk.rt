@@ -36,6 +36,7 @@ impl<D: Drive + Drop> Disk<D> {
         ensures ok { IfOk result (λ s. (F : Flat) → Holds tiers F.bytes → length F.bytes ≡ size → F.unsynced ≡ false
             → IsStoreOf s.tiers s.size s.unsynced F) }
         ensures size { IfOk result (λ s. s.size ≡ size) }
+        ensures same { IfOk result (λ s. s.tiers ≡ tiers) }
     {
         let bytes = tiers.world().array().shape().payload as usize;
         Ok(Disk {

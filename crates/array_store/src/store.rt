@@ -35,6 +35,7 @@ impl<D: Drive + Drop> ArrayStore<D> {
         ensures ok { IfOk result (λ s. (F : Flat) → Holds tiers F.bytes → length F.bytes ≡ size → F.unsynced ≡ false
             → IsStoreOf s.tiers s.size s.unsynced F) }
         ensures size { IfOk result (λ s. s.size ≡ size) }
+        ensures same { IfOk result (λ s. s.tiers ≡ tiers) }
     {
         let disk = Disk::new(alloc, tiers, size)?;
         Ok(ArrayStore { disk })
