@@ -76,6 +76,7 @@ module _ {V : Type 0} (seen : V → Image) (may_leave : V → Stop → Image →
     holds = is.left.holds;
     groups_are = is.left.groups_are;
     many = is.left.many;
+    one = is.left.one;
     kept = record {
       has = record { each = λ d at v e not. is.left.kept.has.each d at v e (sure d v e not) };
       marks = marks_were;

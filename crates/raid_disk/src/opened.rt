@@ -7,7 +7,7 @@ use crate::folder::{Folder, Name};
 use crate::identity::boot_of;
 use crate::table::{Table, table_in};
 use crate::trouble::{Trouble, unread};
-use array_recovery::{RecoveryFault, recover};
+use array_recovery::{RecoveryFault, open_store};
 use cached_drive::Saved;
 use disk_shape::{Plan, class_of, member_at};
 use extent_groups::{GroupRefusal, GroupTable, Member, Place, are_there};
@@ -288,13 +288,17 @@ pub(crate) fn open_disk<N: Chronicle>(
     let (groups, extents) = groups_of(alloc, &plan)?;
     let (mut files, absent) = open_files(rt, folder, &plan, &layout, usage)?;
     test_headers(&mut files, &layout, &absent, &table)?;
-    let mut vault = match FileVault::open(alloc, files, layout, &boot_of(rt)?) {
+    let vault = match FileVault::open(alloc, files, layout, &boot_of(rt)?) {
         Ok(vault) => vault,
         Err((error, _files)) => return Err(Trouble::Vault(error)),
     };
-    let recovered = recover::<N, DiskVault>(
+    let units = journal
+        .checked_div(u64::from(layout.unit_bytes))
+        .unwrap_or(1)
+        .max(1);
+    let store = open_store::<N, DiskVault>(
         alloc,
-        &mut vault,
+        vault,
         opened,
         &plan.shape,
         groups,
@@ -302,18 +306,14 @@ pub(crate) fn open_disk<N: Chronicle>(
         plan.drives,
         plan.size,
         &absent,
+        units,
     );
-    let (store, changes) = match recovered {
-        Ok(recovered) => recovered,
-        Err(fault) => return Err(trouble_of(fault)),
-    };
-    let units = journal
-        .checked_div(u64::from(layout.unit_bytes))
-        .unwrap_or(1)
-        .max(1);
-    Ok(Disk {
-        plan,
-        store: JournaledStore::new(alloc, store, changes, vault, units),
-        table: file,
-    })
+    match store {
+        Ok(store) => Ok(Disk {
+            plan,
+            store,
+            table: file,
+        }),
+        Err((fault, _vault)) => Err(trouble_of(fault)),
+    }
 }

@@ -1,7 +1,6 @@
 use Rattle.std.proofs.Common.{false, refl, length}
 use Rattle.extents.specs.Failures.{unsteady}
 use Rattle.extents.specs.Units.{loss}
-use Rattle.array_parts.specs.Views.{view_of}
 use Rattle.array_recovery.proofs.Reopening.{outlives, live_now, opened_with}
 use Rattle.array_recovery.proofs.reopen.open_found.Goals as goal
 
