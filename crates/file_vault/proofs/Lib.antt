@@ -12,3 +12,4 @@ pub mod Gates
 pub mod Blocks
 pub mod Recovered
 pub mod Opened
+pub mod Boots

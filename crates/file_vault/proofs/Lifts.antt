@@ -9,6 +9,8 @@ use Rattle.file_vault.specs.Folders.{Bytes, Folder}
 use Rattle.file_vault.specs.Layouts.{Plan}
 use Rattle.file_vault.specs.Journals.{IsSound, AreAt, AreOpen, opens, gate_at, image_of}
 use Rattle.file_vault.specs.Vaults.{left_of, IsKnown}
+use Rattle.file_vault.specs.Headers.{boot_in}
+use Rattle.file_vault.proofs.Boots.{boot_on}
 
 -- time goes on for what files stand for
 pub lifted : (plan : Plan) (stop : Stop) (m0 m1 : ℕ) (past since : ℕ → Folder → Type 0) (during leaves : Folder → Type 0) (images : Image → Type 0) → Elapses m0 m1 past since during leaves
@@ -44,11 +46,12 @@ sound_on seen may_leave old new gates batches end durable sound same leaves = re
       };
 }
 
-pub known_on : {F : Type 0} (known : F → Type 0) (seen : F → Folder) (may_leave : F → Stop → Folder → Type 0) (faults : F → ℕ) (old new : F) (gates : List ℕ) (end durable : ℕ) (broken : Bool)
-    → IsKnown known seen may_leave faults old gates end durable broken → known new → faults old ≤ faults new → seen new 17 ≡ seen old 17
-    → ((stop : Stop) (g : Folder) → may_leave new stop g → (f : Folder) × may_leave old stop f × (g 17 ≡ f 17)) → IsKnown known seen may_leave faults new gates end durable broken
-known_on known seen may_leave faults old new gates end durable broken was is later same leaves = record {
+pub known_on : {F : Type 0} (known : F → Type 0) (seen : F → Folder) (may_leave : F → Stop → Folder → Type 0) (faults : F → ℕ) (old new : F) (boot gates : List ℕ) (end durable : ℕ) (broken : Bool)
+    → IsKnown known seen may_leave faults old boot gates end durable broken → known new → faults old ≤ faults new → seen new 17 ≡ seen old 17 → boot_in (seen new) ≡ boot_in (seen old)
+    → ((stop : Stop) (g : Folder) → may_leave new stop g → (f : Folder) × may_leave old stop f × (g 17 ≡ f 17) × (boot_in g ≡ boot_in f)) → IsKnown known seen may_leave faults new boot gates end durable broken
+known_on known seen may_leave faults old new boot gates end durable broken was is later same id leaves = record {
   files_known = is;
-  batches = λ whole. (let some = was.batches whole in record { batches = some.batches; sound = sound_on seen may_leave old new gates some.batches end durable some.sound same leaves });
+  booted = boot_on boot (seen old) (seen new) (may_leave old) (may_leave new) was.booted id (λ stop g now. let from = leaves stop g now in (from.0, from.1, from.3));
+  batches = λ whole. (let some = was.batches whole in record { batches = some.batches; sound = sound_on seen may_leave old new gates some.batches end durable some.sound same (λ stop g now. let from = leaves stop g now in (from.0, from.1, from.2)) });
   failed = λ is_broken. (let some = was.failed is_broken in omega (arith, some, later));
 }

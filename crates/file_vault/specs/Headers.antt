@@ -35,6 +35,11 @@ behind_at file outcomes g = (f : Folder) × outcomes f × SameBehind file f g
 abbrev pub boot_in : Folder → List ℕ
 boot_in f = part (f 16) 64 16
 
+-- the files that calls find have this boot's id, and so have those that each stop leaves
+pub record HasBoot (boot : List ℕ) (f : Folder) (outcomes : Stop → Folder → Type 0) : Type 0 where
+  pub now : boot_in f ≡ boot
+  pub left : (stop : Stop) (g : Folder) → outcomes stop g → boot_in g ≡ boot
+
 -- by which rule files are read in a boot: as a kill left them if they were last opened in it, else as a loss of power did
 pub record IsReadAs (boot : List ℕ) (f : Folder) (kind : Stop) : Type 0 where
   pub same : kind ≡ Killed → boot_in f ≡ boot

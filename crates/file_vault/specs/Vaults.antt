@@ -7,6 +7,7 @@ use Rattle.vault.specs.declared.store.VaultError.TheVariants.{Journal, Drive}
 use Rattle.vault.specs.Images.{Image, is_lost}
 use Rattle.file_vault.specs.Folders.{Folder, HasFile}
 use Rattle.file_vault.specs.Layouts.{Plan}
+use Rattle.file_vault.specs.Headers.{HasBoot}
 use Rattle.file_vault.specs.Journals.{IsSound, image_of}
 use Rattle.file_vault.specs.declared.layout.Layout.{Layout}
 
@@ -23,9 +24,10 @@ pub record HasBatches {F : Type 0} (seen : F → Folder) (may_leave : F → Stop
   pub batches : List (List Wanted)
   pub sound : IsSound seen may_leave files gates batches end durable
 
--- the files are known, and the journal is sound unless its file has failed
-pub record IsKnown {F : Type 0} (known : F → Type 0) (seen : F → Folder) (may_leave : F → Stop → Folder → Type 0) (faults : F → ℕ) (files : F) (gates : List ℕ) (end durable : ℕ) (broken : Bool) : Type 0 where
+-- the files are known and have the boot's id, also after each stop; and the journal is sound unless its file has failed
+pub record IsKnown {F : Type 0} (known : F → Type 0) (seen : F → Folder) (may_leave : F → Stop → Folder → Type 0) (faults : F → ℕ) (files : F) (boot : List ℕ) (gates : List ℕ) (end durable : ℕ) (broken : Bool) : Type 0 where
   pub files_known : known files
+  pub booted : HasBoot boot (seen files) (may_leave files)
   pub batches : broken ≡ false → HasBatches seen may_leave files gates end durable
   pub failed : broken ≡ true → 0 < faults files
 

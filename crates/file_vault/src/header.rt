@@ -4,7 +4,7 @@ ghost use Rattle.std.specs.Prelude.{◌≡◌, ◌≢◌, ◌<◌, ◌^◌, ◌�
 ghost use Rattle.std.specs.Int.{w32, to_le_bytes};
 ghost use Rattle.vault.specs.Moments.{Elapses};
 ghost use Rattle.vault.specs.declared.store.Stop.{Stop};
-ghost use Rattle.file_vault.specs.Folders.{HasFault, Wrote, part};
+ghost use Rattle.file_vault.specs.Folders.{HasFault, HasFile, Wrote, part};
 ghost use Rattle.file_vault.specs.Headers.{HasHeader, SameBehind, behind_at, boot_in, mark as the_mark, number_at};
 
 use crate::files::{FileFault, Files};
@@ -136,6 +136,8 @@ pub(crate) fn is_boot<F: Files>(files: &mut F, boot: &[u8; 16]) -> Result<bool, 
 pub(crate) fn put_boot<F: Files>(files: &mut F, boot: &[u8; 16]) -> Result<(), FileFault>
     ensures stays { F.known files.old → F.known files.new }
     ensures behind { F.known files.old → SameBehind 16 (F.seen files.old) (F.seen files.new) }
+    ensures boot { F.known files.old → OnOk result (boot_in (F.seen files.new) ≡ boot.now) }
+    ensures durable { F.known files.old → OnOk result ((stop : Stop) → HasFile 16 (F.seen files.new) (F.may_leave files.new stop)) }
     ensures time { F.known files.old
         → (stop : Stop) → Elapses (F.moment files.old) (F.moment files.new) (F.left_since files.old stop) (F.left_since files.new stop)
         (behind_at 16 (F.may_leave files.old stop)) (F.may_leave files.new stop) }

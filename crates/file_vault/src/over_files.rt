@@ -25,6 +25,8 @@ pub(crate) const LIMIT: u64 = 1 << 60;
 pub struct FileVault<F: Files + Drop> {
     pub(crate) files: F,
     pub(crate) layout: Layout,
+    // The id of the boot in which the files were opened.
+    pub(crate) boot: [u8; 16],
     // The places of the gates of the journal's batches.
     pub(crate) gates: Vec<u64>,
     // The place of the closed gate behind them.
@@ -144,7 +146,7 @@ impl From<FileFault> for VaultError {
 }
 
 impl<F: Files + Drop> Vault for FileVault<F> {
-    ghost known = { λ v. IsKnown F.Files.known F.Files.seen F.Files.may_leave F.Files.faults v.files v.gates.items v.end v.durable v.broken };
+    ghost known = { λ v. IsKnown F.Files.known F.Files.seen F.Files.may_leave F.Files.faults v.files v.boot v.gates.items v.end v.durable v.broken };
 
     ghost seen = { λ v. image_of (plan_of v.layout) Killed (F.Files.seen v.files) };
 

@@ -6,7 +6,7 @@ ghost use Rattle.vault.specs.declared.store.Stop.{Stop};
 ghost use Rattle.vault.specs.declared.store.Stop.TheVariants.{Killed, PowerLost};
 ghost use Rattle.file_vault.specs.Folders.{HasFile};
 ghost use Rattle.file_vault.specs.Layouts.{Plan, cells_of};
-ghost use Rattle.file_vault.specs.Headers.{boot_in, IsReadAs};
+ghost use Rattle.file_vault.specs.Headers.{boot_in, HasBoot, IsReadAs};
 ghost use Rattle.file_vault.specs.Journals.{IsSound, SameUnits, journal_of, image_of, leaves_more};
 ghost use Rattle.file_vault.specs.Vaults.{HasBatches};
 ghost use Rattle.file_vault.specs.Recoveries.{IsFound, LeavesOver, leaves_kept, leaves_as_read, leaves_read, read_on};
@@ -19,7 +19,7 @@ use crate::layout::{HEADER, JOURNAL, Layout};
 use crate::over_files::{FileVault, sync_drives};
 use extents::DRIVES;
 use std::alloc::Global;
-use vault::VaultError;
+use vault::{TABLE, VaultError};
 
 // Makes all batches durable that a killed process left. They lie behind open gates, and the gate behind them is closed.
 fn keep_all<F: Files>(files: &mut F, chain: &Chain) -> Result<(), FileFault>
@@ -57,13 +57,14 @@ fn close_end<F: Files>(files: &mut F, end: u64) -> Result<(), FileFault>
     files.sync(JOURNAL)
 }
 
-// Takes the batches that a killed process left.
+// Takes the batches that a killed process left, and makes the boot's id durable.
 fn adopt_killed<F: Files>(alloc: Global, files: &mut F) -> Result<Chain, VaultError>
     ensures stays { F.known files.old → F.known files.new }
     ensures known { F.known files.old
         → IfOk result (λ chain. HasBatches F.seen F.may_leave files.new chain.gates.items chain.end (length chain.gates.items)) }
     ensures seen { F.known files.old → (plan : Plan)
         → IfOk result (λ chain. image_of plan Killed (F.seen files.new) ≡ image_of plan Killed (F.seen files.old)) }
+    ensures boot { F.known files.old → OnOk result (HasBoot (boot_in (F.seen files.old)) (F.seen files.new) (F.may_leave files.new)) }
     ensures time { F.known files.old
         → (stop : Stop) → Elapses (F.moment files.old) (F.moment files.new) (F.left_since files.old stop) (F.left_since files.new stop)
         (leaves_more stop (journal_of Killed (F.seen files.old)) (F.may_leave files.old stop)) (F.may_leave files.new stop) }
@@ -71,6 +72,7 @@ fn adopt_killed<F: Files>(alloc: Global, files: &mut F) -> Result<Chain, VaultEr
 {
     let chain = find_chain(alloc, files, true)?;
     keep_all(files, &chain)?;
+    files.sync(TABLE)?;
     Ok(chain)
 }
 
@@ -81,6 +83,7 @@ fn adopt_lost<F: Files>(alloc: Global, files: &mut F, boot: &[u8; 16]) -> Result
         → IfOk result (λ chain. HasBatches F.seen F.may_leave files.new chain.gates.items chain.end (length chain.gates.items)) }
     ensures seen { F.known files.old → (plan : Plan)
         → IfOk result (λ chain. image_of plan Killed (F.seen files.new) ≡ image_of plan PowerLost (F.seen files.old)) }
+    ensures boot { F.known files.old → OnOk result (HasBoot boot.now (F.seen files.new) (F.may_leave files.new)) }
     ensures time { F.known files.old
         → (plan : Plan) (stop : Stop) → Elapses (F.moment files.old) (F.moment files.new) (F.left_since files.old stop) (F.left_since files.new stop)
         (read_on plan (F.may_leave files.old stop)) (F.may_leave files.new stop) }
@@ -99,6 +102,7 @@ fn adopt<F: Files>(alloc: Global, files: &mut F, boot: &[u8; 16]) -> Result<Chai
         → IfOk result (λ chain. HasBatches F.seen F.may_leave files.new chain.gates.items chain.end (length chain.gates.items)) }
     ensures seen { F.known files.old → (plan : Plan) (rule : Stop) → IsReadAs boot.now (F.seen files.old) rule
         → IfOk result (λ chain. image_of plan Killed (F.seen files.new) ≡ image_of plan rule (F.seen files.old)) }
+    ensures boot { F.known files.old → OnOk result (HasBoot boot.now (F.seen files.new) (F.may_leave files.new)) }
     ensures killed { F.known files.old → boot_in (F.seen files.old) ≡ boot.now
         → LeavesOver F.moment F.left_since F.may_leave (leaves_kept (journal_of Killed (F.seen files.old))) files.old files.new }
     ensures lost { F.known files.old → boot_in (F.seen files.old) ≢ boot.now → (plan : Plan)
@@ -118,6 +122,7 @@ fn begin<F: Files>(files: &mut F, layout: &Layout, boot: &[u8; 16]) -> Result<()
     ensures kept { F.known files.old → OnOk result (IsSound F.seen F.may_leave files.new [] [] 4096 0) }
     ensures cells { F.known files.old → (plan : Plan)
         → OnOk result (cells_of plan (F.seen files.new) ≡ cells_of plan (F.seen files.old)) }
+    ensures boot { F.known files.old → OnOk result (HasBoot boot.now (F.seen files.new) (F.may_leave files.new)) }
 {
     close_first(files)?;
     put_boot(files, boot)?;
@@ -127,15 +132,17 @@ fn begin<F: Files>(files: &mut F, layout: &Layout, boot: &[u8; 16]) -> Result<()
 impl<F: Files + Drop> FileVault<F> {
     ghost use Rattle.file_vault.specs.Vaults.{IsKnown, plan_of, left_of};
 
-    /// Files whose journal is emptied, and the units that are there. An error hands the files back.
+    /// Files whose journal is emptied, and the units that are there. They have the boot's id, also after each stop (`known`). An error
+    /// hands the files back.
     pub fn create(
         alloc: Global,
         files: F,
         layout: Layout,
         boot: &[u8; 16],
     ) -> Result<FileVault<F>, (VaultError, F)>
-        ensures known { F.known files → IfOk result (λ v. IsKnown F.known F.seen F.may_leave F.faults v.files v.gates.items v.end v.durable v.broken) }
+        ensures known { F.known files → IfOk result (λ v. IsKnown F.known F.seen F.may_leave F.faults v.files v.boot v.gates.items v.end v.durable v.broken) }
         ensures layout { IfOk result (λ v. v.layout ≡ layout) }
+        ensures boot { IfOk result (λ v. v.boot ≡ boot.now) }
 
         // Calls find the units that were there, and no batches; no stop leaves batches.
         ensures cells { F.known files
@@ -148,6 +155,7 @@ impl<F: Files + Drop> FileVault<F> {
             Ok(()) => Ok(FileVault {
                 files,
                 layout,
+                boot: *boot,
                 gates: Vec::new(alloc),
                 end: HEADER,
                 durable: 0,
@@ -168,8 +176,9 @@ impl<F: Files + Drop> FileVault<F> {
         layout: Layout,
         boot: &[u8; 16],
     ) -> Result<FileVault<F>, (VaultError, F)>
-        ensures known { F.known files → IfOk result (λ v. IsKnown F.known F.seen F.may_leave F.faults v.files v.gates.items v.end v.durable v.broken) }
+        ensures known { F.known files → IfOk result (λ v. IsKnown F.known F.seen F.may_leave F.faults v.files v.boot v.gates.items v.end v.durable v.broken) }
         ensures layout { IfOk result (λ v. v.layout ≡ layout) }
+        ensures boot { IfOk result (λ v. v.boot ≡ boot.now) }
 
         // Calls find what the files stood for, by the boot's id, and each stop leaves all these batches.
         ensures seen { F.known files → (rule : Stop) → IsReadAs boot.now (F.seen files) rule
@@ -192,6 +201,7 @@ impl<F: Files + Drop> FileVault<F> {
                 Ok(FileVault {
                     files,
                     layout,
+                    boot: *boot,
                     gates: chain.gates,
                     end: chain.end,
                     durable,

@@ -2,6 +2,7 @@ use Rattle.std.proofs.Common.{◌∙◌, ap, arith}
 use Rattle.vault.specs.declared.store.Stop.TheVariants.{Killed, PowerLost}
 use Rattle.file_vault.specs.Folders.{Folder}
 use Rattle.file_vault.specs.Journals.{journal_of}
+use Rattle.file_vault.proofs.Boots.{boot_synced}
 use Rattle.file_vault.proofs.Lifts.{sound_on}
 use Rattle.file_vault.proofs.Opened.{behind_image, crossed, read_first, read_closed, read_booted}
 use Rattle.file_vault.proofs.Puts.{one_elapse, both_elapse}
@@ -60,3 +61,8 @@ returns-clause-time g c = λ known plan stop.
     (read_booted plan (g.F.Files.may_leave c.args.files.now stop) (g.F.Files.may_leave c.close_end.new.files stop) (g.F.Files.seen c.close_end.new.files) (journal_of PowerLost (g.F.Files.seen c.args.files.now))
     (λ h now. let from = closing.ends h now in (from.0, (read.time stop).ends from.0 from.1, from.2, from.3)) (λ h now. c.in_ok-close_end.ensures.durable read.keeps stop h now)
     (read_both _ _ _ _ _ _ (c.in_ok-close_end.ensures.kept read.keeps _ _ _ found)))
+
+pub returns-clause-boot : goal.returns-clause-boot
+returns-clause-boot g c = λ known.
+    let now = c.close_end.ensures.stays (c.find_chain.ensures.read known).keeps in
+    boot_synced c.args.boot.now (g.F.Files.seen c.put_boot.new.files) (g.F.Files.may_leave c.put_boot.new.files) (c.in_ok-put_boot.ensures.boot now) (c.in_ok-put_boot.ensures.durable now)

@@ -4,6 +4,8 @@ use Rattle.vault.specs.Images.{Image}
 use Rattle.vault.proofs.Carried.{on_ok_of}
 use Rattle.file_vault.specs.Folders.{Folder}
 use Rattle.file_vault.specs.Layouts.{cells_of}
+use Rattle.file_vault.specs.Headers.{boot_in}
+use Rattle.file_vault.proofs.Boots.{boot_on, boot_synced}
 use Rattle.file_vault.proofs.JournalCalls.{cells_are}
 use Rattle.file_vault.proofs.Lifts.{sound_on}
 use Rattle.file_vault.proofs.Opened.{behind_image}
@@ -25,3 +27,11 @@ returns-clause-cells g c = λ known plan.
     on_ok_of _ c.sync_drives.result (ap (λ (f : Folder). cells_of plan f) (c.sync_drives.ensures.seen k2)
     ∙ ap (λ (i : Image). i.cells) (behind_image plan Killed (g.F.Files.seen c.close_first.new.files) (g.F.Files.seen c.put_boot.new.files) (c.put_boot.ensures.behind k1))
     ∙ cells_are plan (g.F.Files.seen c.args.files.now) (g.F.Files.seen c.close_first.new.files) (c.close_first.ensures.others known))
+
+pub returns-clause-boot : goal.returns-clause-boot
+returns-clause-boot g c = λ known.
+    let k1 = c.close_first.ensures.stays known in
+    let k2 = c.put_boot.ensures.stays k1 in
+    let booted = boot_synced c.args.boot.now (g.F.Files.seen c.put_boot.new.files) (g.F.Files.may_leave c.put_boot.new.files) (c.in_ok-put_boot.ensures.boot k1) (c.in_ok-put_boot.ensures.durable k1) in
+    on_ok_of _ c.sync_drives.result (boot_on _ _ _ _ (g.F.Files.may_leave c.sync_drives.new.files) booted (ap boot_in (c.sync_drives.ensures.seen k2))
+    (λ stop h there. (h, (c.sync_drives.ensures.time k2 stop).ends h there, refl)))

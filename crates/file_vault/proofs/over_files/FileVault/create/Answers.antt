@@ -9,6 +9,7 @@ use Rattle.file_vault.proofs.over_files.FileVault.create.Goals as goal
 pub returns-in-Ok-clause-known : goal.returns-in-Ok-clause-known
 returns-in-Ok-clause-known g c = λ known. record {
   files_known = c.begin.ensures.stays known;
+  booted = c.in-Ok.ensures.boot known;
   batches = λ whole. record { batches = []; sound = sound_as _ _ _ _ _ _ _ _ _ _ (c.in-Ok.ensures.kept known) (sym c.new.ensures.items) refl refl };
   failed = λ broken. absurd (false≢true broken);
 }

@@ -10,6 +10,7 @@ returns-in-Ok-clause-known g c = λ known.
     let some = c.in-Ok.ensures.known known in
     record {
       files_known = c.adopt.ensures.stays known;
+      booted = c.in-Ok.ensures.boot known;
       batches = λ whole. record { batches = some.batches; sound = sound_as _ _ _ _ _ _ _ _ _ _ some.sound refl refl (sym (c.len-durable.ensures ∙ c.in-Ok.chain.gates.ok.0)) };
       failed = λ broken. absurd (false≢true broken);
     }

@@ -1,7 +1,9 @@
-use Rattle.std.proofs.Common.{arith, refl, sym, ◌∙◌, ap, subst, [], ◌∷◌, ◌++◌, ◌+◌, List, ℕ}
+use Rattle.std.proofs.Common.{arith, refl, sym, ◌∙◌, ap, subst, rules, [], ◌∷◌, ◌++◌, ◌+◌, List, ℕ}
+use Rattle.std.proofs.lemmas.Bool.{true≢false}
 use Rattle.vault.specs.declared.store.Stop.TheVariants.{Killed}
 use Rattle.file_vault.specs.Journals.{MayPut, IsRecord}
 use Rattle.file_vault.specs.Vaults.{plan_of}
+use Rattle.file_vault.proofs.Boots.{boot_units_on}
 use Rattle.file_vault.proofs.Gates.{sound_as}
 use Rattle.file_vault.proofs.Lifts.{lifted}
 use Rattle.file_vault.proofs.JournalCalls.{append_to, append_killed, appended}
@@ -18,6 +20,9 @@ returns-in-Ok-clause-stays g c = λ known.
     } in
     record {
       files_known = c.put_record.ensures.stays known.files_known;
+      booted = boot_units_on _ _ _ _ (g.F.Files.may_leave c.put_record.new.files) known.booted (c.put_record.ensures.others known.files_known) (λ stop h now.
+          let from = (c.put_record.ensures.time known.files_known c.args.self.now.gates.items some.batches c.args.self.now.durable c.args.batch.now may stop).ends h now in
+          (from.0, from.1, from.2));
       batches = λ whole. record {
         batches = some.batches ++ c.args.batch.now ∷ [];
         sound = sound_as _ _ _ _ _ _ _ _ _ _ (c.in-Ok.ensures.put known.files_known c.args.self.now.gates.items some.batches c.args.self.now.durable c.args.batch.now may)
@@ -63,6 +68,24 @@ returns-in-Ok-clause-time g c = λ known stop.
     lifted (plan_of c.args.self.now.layout) stop _ _ _ _ _ _ _
     (c.put_record.ensures.time known.files_known c.args.self.now.gates.items some.batches c.args.self.now.durable c.args.batch.now may stop)
     (append_to (plan_of c.args.self.now.layout) g.F.Files.seen g.F.Files.may_leave c.args.self.now.files c.args.self.now.gates.items some.batches c.args.self.now.end c.args.self.now.durable some.sound stop c.args.batch.now)
+
+pub returns-in-Err-clause-stays : goal.returns-in-Err-clause-stays
+returns-in-Err-clause-stays g c = λ known.
+    let some = known.batches c.if-self.false in
+    let may : MayPut g.F.Files.seen g.F.Files.may_leave c.args.self.now.files c.args.self.now.gates.items some.batches c.args.self.now.end c.args.self.now.durable c.deref.result.now c.args.batch.now =
+    record {
+      sound = some.sound;
+      put = subst (λ (b : List ℕ). IsRecord b c.args.batch.now) (sym c.deref.ensures.value) c.in_ok-make_record.ensures;
+      room = omega (arith, c.deref.ensures.len, c.len-length.ensures, c.if-length-gt-LIMIT.false, c.if-self-gt-LIMIT.false);
+    } in
+    record {
+      files_known = c.put_record.ensures.stays known.files_known;
+      booted = boot_units_on _ _ _ _ (g.F.Files.may_leave c.put_record.new.files) known.booted (c.put_record.ensures.others known.files_known) (λ stop h now.
+          let from = (c.put_record.ensures.time known.files_known c.args.self.now.gates.items some.batches c.args.self.now.durable c.args.batch.now may stop).ends h now in
+          (from.0, from.1, from.2));
+      batches = λ whole. absurd (true≢false whole);
+      failed = λ broken. (c.put_record.ensures.cause known.files_known).failed (search rules);
+    }
 
 pub returns-in-Err-clause-time : goal.returns-in-Err-clause-time
 returns-in-Err-clause-time g c = λ known stop.

@@ -1,6 +1,7 @@
 use Rattle.std.proofs.Common.{Some, refl, sym, ◌∙◌, ap, arith}
 use Rattle.std.proofs.lemmas.Result.{on_ok_weaker}
 use Rattle.file_vault.specs.Folders.{Folder}
+use Rattle.file_vault.specs.Headers.{boot_in}
 use Rattle.file_vault.specs.Vaults.{plan_of}
 use Rattle.file_vault.proofs.Lifts.{lifted, known_on}
 use Rattle.file_vault.proofs.JournalCalls.{counted, batch_read}
@@ -16,8 +17,8 @@ returns-then-index-len-clause-cause g c = λ known low.
 pub returns-in_err-read_body-clause-stays : goal.returns-in_err-read_body-clause-stays
 returns-in_err-read_body-clause-stays g c = λ known.
     let is = known.files_known in
-    known_on _ _ _ _ c.args.self.now.files c.read_body.new.files _ _ _ _ known (c.read_body.ensures.stays is) ((c.read_body.ensures.cause is).later)
-    (ap (λ (f : Folder). f 17) (c.read_body.ensures.seen is)) (λ stop h now. (h, (c.read_body.ensures.time is stop).ends h now, refl))
+    known_on _ _ _ _ c.args.self.now.files c.read_body.new.files _ _ _ _ _ known (c.read_body.ensures.stays is) ((c.read_body.ensures.cause is).later)
+    (ap (λ (f : Folder). f 17) (c.read_body.ensures.seen is)) (ap boot_in (c.read_body.ensures.seen is)) (λ stop h now. (h, (c.read_body.ensures.time is stop).ends h now, refl, refl))
 
 pub returns-in_err-read_body-clause-time : goal.returns-in_err-read_body-clause-time
 returns-in_err-read_body-clause-time g c = λ known stop. lifted (plan_of c.args.self.now.layout) stop _ _ _ _ _ _ _ (c.read_body.ensures.time known.files_known stop) (λ h was. (h, was, refl))
@@ -25,8 +26,8 @@ returns-in_err-read_body-clause-time g c = λ known stop. lifted (plan_of c.args
 pub returns-clause-stays : goal.returns-clause-stays
 returns-clause-stays g c = λ known.
     let is = known.files_known in
-    known_on _ _ _ _ c.args.self.now.files c.read_body.new.files _ _ _ _ known (c.read_body.ensures.stays is) ((c.read_body.ensures.cause is).later)
-    (ap (λ (f : Folder). f 17) (c.read_body.ensures.seen is)) (λ stop h now. (h, (c.read_body.ensures.time is stop).ends h now, refl))
+    known_on _ _ _ _ c.args.self.now.files c.read_body.new.files _ _ _ _ _ known (c.read_body.ensures.stays is) ((c.read_body.ensures.cause is).later)
+    (ap (λ (f : Folder). f 17) (c.read_body.ensures.seen is)) (ap boot_in (c.read_body.ensures.seen is)) (λ stop h now. (h, (c.read_body.ensures.time is stop).ends h now, refl, refl))
 
 pub returns-clause-time : goal.returns-clause-time
 returns-clause-time g c = λ known stop. lifted (plan_of c.args.self.now.layout) stop _ _ _ _ _ _ _ (c.read_body.ensures.time known.files_known stop) (λ h was. (h, was, refl))

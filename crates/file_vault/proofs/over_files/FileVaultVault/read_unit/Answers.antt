@@ -1,5 +1,6 @@
 use Rattle.std.proofs.Common.{refl, sym, ◌∙◌, ap, subst}
 use Rattle.file_vault.specs.Folders.{Folder, Reads}
+use Rattle.file_vault.specs.Headers.{boot_in}
 use Rattle.file_vault.specs.Vaults.{plan_of}
 use Rattle.file_vault.proofs.Units.{unit_read, other_length}
 use Rattle.file_vault.proofs.Lifts.{lifted, known_on}
@@ -12,8 +13,8 @@ returns-then-size-out-clause-found g c = λ known.
 pub returns-in-Ok-clause-stays : goal.returns-in-Ok-clause-stays
 returns-in-Ok-clause-stays g c = λ known.
     let is = known.files_known in
-    known_on _ _ _ _ c.args.self.now.files c.read_at.new.self _ _ _ _ known (c.read_at.ensures.stays is) ((c.read_at.ensures.cause is).later)
-    (ap (λ (f : Folder). f 17) (c.read_at.ensures.seen is)) (λ stop h now. (h, (c.read_at.ensures.time is stop).ends h now, refl))
+    known_on _ _ _ _ c.args.self.now.files c.read_at.new.self _ _ _ _ _ known (c.read_at.ensures.stays is) ((c.read_at.ensures.cause is).later)
+    (ap (λ (f : Folder). f 17) (c.read_at.ensures.seen is)) (ap boot_in (c.read_at.ensures.seen is)) (λ stop h now. (h, (c.read_at.ensures.time is stop).ends h now, refl, refl))
 
 pub returns-in-Ok-clause-found : goal.returns-in-Ok-clause-found
 returns-in-Ok-clause-found g c = λ known.
@@ -26,8 +27,8 @@ returns-in-Ok-clause-time g c = λ known stop. lifted (plan_of c.args.self.now.l
 pub returns-in-Err-clause-stays : goal.returns-in-Err-clause-stays
 returns-in-Err-clause-stays g c = λ known.
     let is = known.files_known in
-    known_on _ _ _ _ c.args.self.now.files c.read_at.new.self _ _ _ _ known (c.read_at.ensures.stays is) ((c.read_at.ensures.cause is).later)
-    (ap (λ (f : Folder). f 17) (c.read_at.ensures.seen is)) (λ stop h now. (h, (c.read_at.ensures.time is stop).ends h now, refl))
+    known_on _ _ _ _ c.args.self.now.files c.read_at.new.self _ _ _ _ _ known (c.read_at.ensures.stays is) ((c.read_at.ensures.cause is).later)
+    (ap (λ (f : Folder). f 17) (c.read_at.ensures.seen is)) (ap boot_in (c.read_at.ensures.seen is)) (λ stop h now. (h, (c.read_at.ensures.time is stop).ends h now, refl, refl))
 
 pub returns-in-Err-clause-time : goal.returns-in-Err-clause-time
 returns-in-Err-clause-time g c = λ known stop. lifted (plan_of c.args.self.now.layout) stop _ _ _ _ _ _ _ (c.read_at.ensures.time known.files_known stop) (λ h was. (h, was, refl))

@@ -1,7 +1,9 @@
-use Rattle.std.proofs.Common.{arith, refl, sym, ◌∙◌}
+use Rattle.std.proofs.Common.{arith, rules, refl, sym, ◌∙◌}
+use Rattle.std.proofs.lemmas.Bool.{true≢false}
 use Rattle.vault.specs.declared.store.Stop.TheVariants.{Killed}
 use Rattle.file_vault.specs.Journals.{image_of}
 use Rattle.file_vault.specs.Vaults.{plan_of, left_of}
+use Rattle.file_vault.proofs.Boots.{boot_units_on}
 use Rattle.file_vault.proofs.Gates.{sound_as, rest_is}
 use Rattle.file_vault.proofs.Lifts.{lifted, at_once}
 use Rattle.file_vault.proofs.JournalCalls.{flush_to, flush_seen, flush_durable, all_seen, more_not}
@@ -26,6 +28,10 @@ returns-in-Ok-clause-stays g c = λ known.
     let some = known.batches c.if-self.false in
     record {
       files_known = c.flush_gates.ensures.stays known.files_known;
+      booted = boot_units_on _ _ _ _ (g.F.Files.may_leave c.flush_gates.new.files) known.booted (c.flush_gates.ensures.others known.files_known) (λ stop h now.
+          let from = (c.flush_gates.ensures.time known.files_known c.args.self.now.gates.items some.batches c.args.self.now.end c.args.self.now.durable some.sound
+          (rest_is c.args.self.now.durable c.deref.result.now c.args.self.now.gates.items c.deref.ensures.value) stop).ends h now in
+          (from.0, from.1, from.2));
       batches = λ whole. record {
         batches = some.batches;
         sound = sound_as _ _ _ _ _ _ _ _ _ _ (c.in-Ok.ensures.flushed known.files_known c.args.self.now.gates.items some.batches c.args.self.now.end c.args.self.now.durable some.sound
@@ -56,6 +62,19 @@ returns-in-Ok-clause-time g c = λ known stop.
     (c.flush_gates.ensures.time known.files_known c.args.self.now.gates.items some.batches c.args.self.now.end c.args.self.now.durable some.sound
     (rest_is c.args.self.now.durable c.deref.result.now c.args.self.now.gates.items c.deref.ensures.value) stop)
     (flush_to (plan_of c.args.self.now.layout) g.F.Files.seen g.F.Files.may_leave c.args.self.now.files c.args.self.now.gates.items some.batches c.args.self.now.end c.args.self.now.durable some.sound stop)
+
+pub returns-in-Err-clause-stays : goal.returns-in-Err-clause-stays
+returns-in-Err-clause-stays g c = λ known.
+    let some = known.batches c.if-self.false in
+    record {
+      files_known = c.flush_gates.ensures.stays known.files_known;
+      booted = boot_units_on _ _ _ _ (g.F.Files.may_leave c.flush_gates.new.files) known.booted (c.flush_gates.ensures.others known.files_known) (λ stop h now.
+          let from = (c.flush_gates.ensures.time known.files_known c.args.self.now.gates.items some.batches c.args.self.now.end c.args.self.now.durable some.sound
+          (rest_is c.args.self.now.durable c.deref.result.now c.args.self.now.gates.items c.deref.ensures.value) stop).ends h now in
+          (from.0, from.1, from.2));
+      batches = λ whole. absurd (true≢false whole);
+      failed = λ broken. (c.flush_gates.ensures.cause known.files_known).failed (search rules);
+    }
 
 pub returns-in-Err-clause-seen : goal.returns-in-Err-clause-seen
 returns-in-Err-clause-seen g c = λ known.

@@ -1,6 +1,7 @@
 use Rattle.std.proofs.Common.{rules, refl, ◌∙◌, ap, arith}
 use Rattle.vault.proofs.Carried.{cause_passed}
 use Rattle.file_vault.specs.Folders.{Folder}
+use Rattle.file_vault.specs.Headers.{boot_in}
 use Rattle.file_vault.specs.Vaults.{plan_of}
 use Rattle.file_vault.proofs.Puts.{both_elapse}
 use Rattle.file_vault.proofs.Lifts.{lifted, known_on}
@@ -10,8 +11,8 @@ use Rattle.file_vault.proofs.over_files.FileVaultVault.sync_units.Goals as goal
 pub returns-in_err-sync_drives-clause-stays : goal.returns-in_err-sync_drives-clause-stays
 returns-in_err-sync_drives-clause-stays g c = λ known.
     let is = known.files_known in
-    known_on _ _ _ _ c.args.self.now.files c.sync_drives.new.files _ _ _ _ known (c.sync_drives.ensures.stays is) ((c.sync_drives.ensures.cause is).later)
-    (ap (λ (f : Folder). f 17) (c.sync_drives.ensures.seen is)) (λ stop h now. (h, (c.sync_drives.ensures.time is stop).ends h now, refl))
+    known_on _ _ _ _ c.args.self.now.files c.sync_drives.new.files _ _ _ _ _ known (c.sync_drives.ensures.stays is) ((c.sync_drives.ensures.cause is).later)
+    (ap (λ (f : Folder). f 17) (c.sync_drives.ensures.seen is)) (ap boot_in (c.sync_drives.ensures.seen is)) (λ stop h now. (h, (c.sync_drives.ensures.time is stop).ends h now, refl, refl))
 
 pub returns-in_err-sync_drives-clause-time : goal.returns-in_err-sync_drives-clause-time
 returns-in_err-sync_drives-clause-time g c = λ known stop.
@@ -27,9 +28,9 @@ returns-in-Ok-clause-stays g c = λ known.
     let mid = c.sync_drives.ensures.stays is in
     let first = (c.sync_drives.ensures.cause is).later in
     let second = (c.sync.ensures.cause mid).later in
-    known_on _ _ _ _ c.args.self.now.files c.sync.new.self _ _ _ _ known (c.sync.ensures.stays mid) (omega (arith, first, second))
-    (ap (λ (f : Folder). f 17) (c.sync.ensures.seen mid ∙ c.sync_drives.ensures.seen is))
-    (λ stop h now. (h, (c.sync_drives.ensures.time is stop).ends h ((c.sync.ensures.time mid stop).ends h now), refl))
+    known_on _ _ _ _ c.args.self.now.files c.sync.new.self _ _ _ _ _ known (c.sync.ensures.stays mid) (omega (arith, first, second))
+    (ap (λ (f : Folder). f 17) (c.sync.ensures.seen mid ∙ c.sync_drives.ensures.seen is)) (ap boot_in (c.sync.ensures.seen mid ∙ c.sync_drives.ensures.seen is))
+    (λ stop h now. (h, (c.sync_drives.ensures.time is stop).ends h ((c.sync.ensures.time mid stop).ends h now), refl, refl))
 
 pub returns-in-Ok-clause-durable : goal.returns-in-Ok-clause-durable
 returns-in-Ok-clause-durable g c = λ known stop.
@@ -52,9 +53,9 @@ returns-in-Err-clause-stays g c = λ known.
     let mid = c.sync_drives.ensures.stays is in
     let first = (c.sync_drives.ensures.cause is).later in
     let second = (c.sync.ensures.cause mid).later in
-    known_on _ _ _ _ c.args.self.now.files c.sync.new.self _ _ _ _ known (c.sync.ensures.stays mid) (omega (arith, first, second))
-    (ap (λ (f : Folder). f 17) (c.sync.ensures.seen mid ∙ c.sync_drives.ensures.seen is))
-    (λ stop h now. (h, (c.sync_drives.ensures.time is stop).ends h ((c.sync.ensures.time mid stop).ends h now), refl))
+    known_on _ _ _ _ c.args.self.now.files c.sync.new.self _ _ _ _ _ known (c.sync.ensures.stays mid) (omega (arith, first, second))
+    (ap (λ (f : Folder). f 17) (c.sync.ensures.seen mid ∙ c.sync_drives.ensures.seen is)) (ap boot_in (c.sync.ensures.seen mid ∙ c.sync_drives.ensures.seen is))
+    (λ stop h now. (h, (c.sync_drives.ensures.time is stop).ends h ((c.sync.ensures.time mid stop).ends h now), refl, refl))
 
 pub returns-in-Err-clause-time : goal.returns-in-Err-clause-time
 returns-in-Err-clause-time g c = λ known stop.

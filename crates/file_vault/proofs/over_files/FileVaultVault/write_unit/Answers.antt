@@ -1,6 +1,7 @@
-use Rattle.std.proofs.Common.{sym, ◌∙◌}
+use Rattle.std.proofs.Common.{arith, sym, ◌∙◌}
 use Rattle.vault.specs.declared.store.Stop.TheVariants.{Killed}
 use Rattle.file_vault.specs.Vaults.{plan_of}
+use Rattle.file_vault.proofs.Boots.{boot_mixed}
 use Rattle.file_vault.proofs.Units.{misfit}
 use Rattle.file_vault.proofs.Lifts.{lifted, at_once, known_on}
 use Rattle.file_vault.proofs.UnitCalls.{other_file, mixed_torn, wrote_alike, torn_to, written_to, none_to, torn_not}
@@ -24,8 +25,9 @@ pub returns-in-Ok-clause-stays : goal.returns-in-Ok-clause-stays
 returns-in-Ok-clause-stays g c = λ known.
     let is = known.files_known in
     let ne = other_file c.args.place.drive c.in-Some.ensures.there.0 in
-    known_on _ _ _ _ c.args.self.now.files c.write_at.new.self _ _ _ _ known (c.write_at.ensures.stays is) ((c.write_at.ensures.cause is).later)
-    ((c.write_at.ensures.mixed is).others 17 (λ e. ne (sym e))) (λ stop h now. let from = (c.write_at.ensures.time is stop).ends h now in (from.0, from.1, from.2.others 17 (λ e. ne (sym e))))
+    known_on _ _ _ _ c.args.self.now.files c.write_at.new.self _ _ _ _ _ known (c.write_at.ensures.stays is) ((c.write_at.ensures.cause is).later)
+    ((c.write_at.ensures.mixed is).others 17 (λ e. ne (sym e))) (boot_mixed _ _ _ _ _ (omega (arith, c.offset-offset.ensures)) (c.write_at.ensures.mixed is))
+    (λ stop h now. let from = (c.write_at.ensures.time is stop).ends h now in (from.0, from.1, from.2.others 17 (λ e. ne (sym e)), boot_mixed _ _ _ _ _ (omega (arith, c.offset-offset.ensures)) from.2))
 
 pub returns-in-Ok-clause-written : goal.returns-in-Ok-clause-written
 returns-in-Ok-clause-written g c = λ known.
@@ -52,8 +54,9 @@ pub returns-in-Err-clause-stays : goal.returns-in-Err-clause-stays
 returns-in-Err-clause-stays g c = λ known.
     let is = known.files_known in
     let ne = other_file c.args.place.drive c.in-Some.ensures.there.0 in
-    known_on _ _ _ _ c.args.self.now.files c.write_at.new.self _ _ _ _ known (c.write_at.ensures.stays is) ((c.write_at.ensures.cause is).later)
-    ((c.write_at.ensures.mixed is).others 17 (λ e. ne (sym e))) (λ stop h now. let from = (c.write_at.ensures.time is stop).ends h now in (from.0, from.1, from.2.others 17 (λ e. ne (sym e))))
+    known_on _ _ _ _ c.args.self.now.files c.write_at.new.self _ _ _ _ _ known (c.write_at.ensures.stays is) ((c.write_at.ensures.cause is).later)
+    ((c.write_at.ensures.mixed is).others 17 (λ e. ne (sym e))) (boot_mixed _ _ _ _ _ (omega (arith, c.offset-offset.ensures)) (c.write_at.ensures.mixed is))
+    (λ stop h now. let from = (c.write_at.ensures.time is stop).ends h now in (from.0, from.1, from.2.others 17 (λ e. ne (sym e)), boot_mixed _ _ _ _ _ (omega (arith, c.offset-offset.ensures)) from.2))
 
 pub returns-in-Err-clause-torn : goal.returns-in-Err-clause-torn
 returns-in-Err-clause-torn g c = λ known.
