@@ -1,8 +1,10 @@
--- The files of drives are made durable, one after the other.
-use Rattle.std.proofs.Common.{◌≡◌, ◌≢◌, inl, inr, ℕ, ◌+◌, Bool, false, List, sym, subst, arith, get_or}
+-- The files of drives are made durable, one after the other, and what each stop leaves then.
+use Rattle.std.proofs.Common.{◌≡◌, ◌≢◌, inl, inr, ℕ, zero, suc, ◌+◌, Bool, false, List, [], refl, sym, ◌∙◌, ap, subst, arith, get_or, length}
+use Rattle.std.specs.Prelude.{is_some, replicate}
+use Rattle.std.proofs.lemmas.List.{take_all}
 use Rattle.vault.specs.declared.store.Stop.{Stop}
-use Rattle.vault.specs.Images.{is_lost}
-use Rattle.vault.specs.Moments.{Within}
+use Rattle.vault.specs.Images.{Image, is_lost}
+use Rattle.vault.specs.Moments.{Within, HasJournal, HasUnits, AreLogged}
 use Rattle.file_vault.specs.Folders.{Folder, HasFile}
 use Rattle.file_vault.specs.Vaults.{AreSynced}
 use Rattle.file_vault.proofs.Puts.{below_or}
@@ -24,3 +26,23 @@ synced_more lost counts f first later count so_far within now stop d low live so
     | inr (j, e) ↦ absurd (omega (arith, e, low))
   ]
 ]
+
+-- no drive is lost
+pub none_lost : (count d : ℕ) → is_lost (replicate count false) d ≡ false
+none_lost zero d = refl
+none_lost (suc count) zero = refl
+none_lost (suc count) (suc d) = none_lost count d
+
+-- with an empty journal each stop leaves all batches, if it leaves the units that calls find
+pub logged_empty : {V : Type 0} (seen : V → Image) (may_leave : V → Stop → Image → Type 0) (lost : List Bool) (vault : V) → (seen vault).journal ≡ [] → ((stop : Stop) → HasJournal [] (may_leave vault stop))
+    → ((stop : Stop) → HasUnits [] (seen vault).cells (may_leave vault stop)) → AreLogged seen may_leave lost vault
+logged_empty seen may_leave lost vault none journals units stop = record {
+  flushed = omega arith;
+  leaves = λ i left. record {
+    cells = record { there = λ x live. ap (λ u. is_some u) (units stop i left x refl); elsewhere = λ x live other. units stop i left x refl };
+    count = length (seen vault).journal;
+    least = omega arith;
+    most = omega arith;
+    journal = journals stop i left ∙ sym (take_all (length (seen vault).journal) (seen vault).journal (omega arith) ∙ none);
+  };
+}

@@ -1,14 +1,14 @@
 // A vault over files is made, or opened after a stop.
-ghost use Rattle.std.specs.Prelude.{◌≡◌, ◌≢◌, ◌≤◌, ◌^◌, [], ℕ, List, length, true, OnOk, IfOk, MatchResult};
+ghost use Rattle.std.specs.Prelude.{◌≡◌, ◌≢◌, ◌≤◌, ◌^◌, [], ℕ, Bool, List, length, true, OnOk, IfOk, MatchResult};
 ghost use Rattle.extent_groups.specs.Planned.{Wanted};
-ghost use Rattle.vault.specs.Moments.{Elapses, HasJournal};
+ghost use Rattle.vault.specs.Moments.{AreLogged, Elapses, HasJournal, HasUnits};
 ghost use Rattle.vault.specs.declared.store.Stop.{Stop};
 ghost use Rattle.vault.specs.declared.store.Stop.TheVariants.{Killed, PowerLost};
 ghost use Rattle.file_vault.specs.Folders.{HasFile};
 ghost use Rattle.file_vault.specs.Layouts.{Plan, cells_of};
 ghost use Rattle.file_vault.specs.Headers.{boot_in, HasBoot, IsReadAs};
 ghost use Rattle.file_vault.specs.Journals.{IsSound, SameUnits, journal_of, image_of, leaves_more};
-ghost use Rattle.file_vault.specs.Vaults.{HasBatches};
+ghost use Rattle.file_vault.specs.Vaults.{HasBatches, plan_of, left_of};
 ghost use Rattle.file_vault.specs.Recoveries.{IsFound, LeavesOver, leaves_kept, leaves_as_read, leaves_read, read_on};
 
 use crate::chain::{Chain, find_chain};
@@ -123,6 +123,8 @@ fn begin<F: Files>(files: &mut F, layout: &Layout, boot: &[u8; 16]) -> Result<()
     ensures cells { F.known files.old → (plan : Plan)
         → OnOk result (cells_of plan (F.seen files.new) ≡ cells_of plan (F.seen files.old)) }
     ensures boot { F.known files.old → OnOk result (HasBoot boot.now (F.seen files.new) (F.may_leave files.new)) }
+    ensures units { F.known files.old → OnOk result ((stop : Stop)
+        → HasUnits [] (cells_of (plan_of layout.now) (F.seen files.new)) (left_of (plan_of layout.now) stop (F.may_leave files.new stop))) }
 {
     close_first(files)?;
     put_boot(files, boot)?;
@@ -144,11 +146,17 @@ impl<F: Files + Drop> FileVault<F> {
         ensures layout { IfOk result (λ v. v.layout ≡ layout) }
         ensures boot { IfOk result (λ v. v.boot ≡ boot.now) }
 
-        // Calls find the units that were there, and no batches; no stop leaves batches.
+        // Calls find the units that were there, and no batches.
         ensures cells { F.known files
             → IfOk result (λ v. cells_of (plan_of layout) (F.seen v.files) ≡ cells_of (plan_of layout) (F.seen files)) }
         ensures empty { F.known files → IfOk result (λ v. journal_of Killed (F.seen v.files) ≡ []) }
+
+        // Each stop leaves these units and no batches: so all batches of the journal, which has none.
         ensures durable { F.known files → IfOk result (λ v. (stop : Stop) → HasJournal [] (left_of (plan_of layout) stop (F.may_leave v.files stop))) }
+        ensures units { F.known files → IfOk result (λ v. (stop : Stop)
+            → HasUnits [] (cells_of (plan_of layout) (F.seen v.files)) (left_of (plan_of layout) stop (F.may_leave v.files stop))) }
+        ensures logged { F.known files → IfOk result (λ v. (lost : List Bool) → AreLogged (λ w. image_of (plan_of w.layout) Killed (F.seen w.files))
+            (λ w stop i. left_of (plan_of w.layout) stop (F.may_leave w.files stop) i) lost v) }
     {
         let mut files = files;
         match begin(&mut files, &layout, boot) {

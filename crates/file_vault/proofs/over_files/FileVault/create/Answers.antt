@@ -4,6 +4,7 @@ use Rattle.file_vault.specs.Vaults.{plan_of}
 use Rattle.file_vault.proofs.Flushing.{sound_seen}
 use Rattle.file_vault.proofs.Gates.{sound_as}
 use Rattle.file_vault.proofs.JournalCalls.{all_durable}
+use Rattle.file_vault.proofs.Syncs.{logged_empty}
 use Rattle.file_vault.proofs.over_files.FileVault.create.Goals as goal
 
 pub returns-in-Ok-clause-known : goal.returns-in-Ok-clause-known
@@ -22,3 +23,8 @@ returns-in-Ok-clause-empty g c = λ known. sound_seen g.F.Files.seen g.F.Files.m
 
 pub returns-in-Ok-clause-durable : goal.returns-in-Ok-clause-durable
 returns-in-Ok-clause-durable g c = λ known. all_durable (plan_of c.args.layout) g.F.Files.seen g.F.Files.may_leave c.begin.new.files [] [] 4096 0 (c.in-Ok.ensures.kept known) (omega arith)
+
+pub returns-in-Ok-clause-logged : goal.returns-in-Ok-clause-logged
+returns-in-Ok-clause-logged g c = λ known lost.
+    logged_empty _ _ lost _ (sound_seen g.F.Files.seen g.F.Files.may_leave c.begin.new.files [] [] 4096 0 (c.in-Ok.ensures.kept known))
+    (all_durable (plan_of c.args.layout) g.F.Files.seen g.F.Files.may_leave c.begin.new.files [] [] 4096 0 (c.in-Ok.ensures.kept known) (omega arith)) (c.in-Ok.ensures.units known)
