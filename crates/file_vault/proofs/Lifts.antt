@@ -10,15 +10,18 @@ use Rattle.file_vault.specs.Layouts.{Plan}
 use Rattle.file_vault.specs.Journals.{IsSound, AreAt, AreOpen, opens, gate_at, image_of}
 use Rattle.file_vault.specs.Vaults.{left_of, IsKnown}
 use Rattle.file_vault.specs.Headers.{boot_in}
+use Rattle.file_vault.specs.Openings.{found_of, rule_only}
 use Rattle.file_vault.proofs.Boots.{boot_on}
 
 -- time goes on for what files stand for
-pub lifted : (plan : Plan) (stop : Stop) (m0 m1 : ℕ) (past since : ℕ → Folder → Type 0) (during leaves : Folder → Type 0) (images : Image → Type 0) → Elapses m0 m1 past since during leaves
-    → ((g : Folder) → during g → images (image_of plan stop g)) → Elapses m0 m1 (λ t i. left_of plan stop (past t) i) (λ t i. left_of plan stop (since t) i) images (λ i. left_of plan stop leaves i)
-lifted plan stop m0 m1 past since during leaves images time to = record {
+pub lifted : (plan : Plan) (boot : List ℕ) (stop : Stop) (m0 m1 : ℕ) (past since : ℕ → Folder → Type 0) (during leaves : Folder → Type 0) (images : Image → Type 0) → Elapses m0 m1 past since during leaves
+    → ((g : Folder) → during g → boot_in g ≡ boot) → ((g : Folder) → during g → images (image_of plan stop g))
+    → Elapses m0 m1 (λ t i. found_of plan boot stop (past t) i) (λ t i. found_of plan boot stop (since t) i) images (λ i. left_of plan stop leaves i)
+lifted plan boot stop m0 m1 past since during leaves images time has to = record {
   later = time.later;
-  nothing_else = λ t i le left. ⊎_elim (λ was. inl (left.0, was, left.2)) (λ now. inr (subst images (sym left.2) (to left.0 now))) (time.nothing_else t left.0 le left.1);
-  keeps = λ t i le left. (left.0, time.keeps t left.0 le left.1, left.2);
+  nothing_else = λ t i le left. ⊎_elim (λ was. inl (left.0, was, left.2, left.3, left.4))
+      (λ now. inr (subst images (sym left.4) (subst (λ r. images (image_of plan r left.0)) (sym (rule_only boot stop left.0 left.2 (has left.0 now) left.3)) (to left.0 now)))) (time.nothing_else t left.0 le left.1);
+  keeps = λ t i le left. (left.0, time.keeps t left.0 le left.1, left.2, left.3, left.4);
   ends = λ i left. subst images (sym left.2) (to left.0 (time.ends left.0 left.1));
 }
 

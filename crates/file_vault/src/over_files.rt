@@ -8,6 +8,7 @@ ghost use Rattle.vault.specs.declared.store.Stop.{Stop};
 ghost use Rattle.file_vault.specs.Folders.{HasFile};
 ghost use Rattle.file_vault.specs.Journals.{image_of, gate_at};
 ghost use Rattle.file_vault.specs.Vaults.{plan_of, left_of, IsKnown, fault_of, AreSynced};
+ghost use Rattle.file_vault.specs.Openings.{found_of, finds_left, left_found};
 ghost use Rattle.vault.specs.declared.store.Stop.TheVariants.{Killed};
 
 use crate::files::{FileFault, Files};
@@ -154,13 +155,16 @@ impl<F: Files + Drop> Vault for FileVault<F> {
 
     ghost moment = { λ v. F.Files.moment v.files };
 
-    ghost left_since = { λ v stop t i. left_of (plan_of v.layout) stop (F.Files.left_since v.files stop t) i };
+    // What the next opening may find, which reads the files by the boot's id in them: no stop during a call may leave another id.
+    ghost left_since = { λ v stop t i. found_of (plan_of v.layout) v.boot stop (F.Files.left_since v.files stop t) i };
 
     ghost faults = { λ v. F.Files.faults v.files };
 
-    ghost counts_now = { λ v known stop t i le now. (now.0, F.Files.counts_now v.files known.files_known stop t now.0 le now.1, now.2) };
+    ghost counts_now = { λ v known stop t i le now. finds_left (plan_of v.layout) v.boot stop (F.Files.may_leave v.files stop)
+        (F.Files.left_since v.files stop t) (known.booted.left stop) (λ g here. F.Files.counts_now v.files known.files_known stop t g le here) i now };
 
-    ghost only_now = { λ v known stop i left. (left.0, F.Files.only_now v.files known.files_known stop left.0 left.1, left.2) };
+    ghost only_now = { λ v known stop i left. left_found (plan_of v.layout) v.boot stop (F.Files.may_leave v.files stop)
+        (F.Files.left_since v.files stop (F.Files.moment v.files)) (known.booted.left stop) (F.Files.only_now v.files known.files_known stop) i left };
 
     fn write_unit(&mut self, place: Place, unit: &[u8]) -> Result<(), VaultError> {
         let Some(size) = self.layout.size_at(place) else {

@@ -3,7 +3,7 @@ use Rattle.std.proofs.lemmas.Bool.{true≢false}
 use Rattle.vault.specs.declared.store.Stop.TheVariants.{Killed}
 use Rattle.file_vault.specs.Journals.{MayPut, IsRecord}
 use Rattle.file_vault.specs.Vaults.{plan_of}
-use Rattle.file_vault.proofs.Boots.{boot_units_on}
+use Rattle.file_vault.proofs.Boots.{boot_units, boot_units_on}
 use Rattle.file_vault.proofs.Gates.{sound_as}
 use Rattle.file_vault.proofs.Lifts.{lifted}
 use Rattle.file_vault.proofs.JournalCalls.{append_to, append_killed, appended}
@@ -65,9 +65,9 @@ returns-in-Ok-clause-time g c = λ known stop.
       put = subst (λ (b : List ℕ). IsRecord b c.args.batch.now) (sym c.deref.ensures.value) c.in_ok-make_record.ensures;
       room = omega (arith, c.deref.ensures.len, c.len-length.ensures, c.if-length-gt-LIMIT.false, c.if-self-gt-LIMIT.false);
     } in
-    lifted (plan_of c.args.self.now.layout) stop _ _ _ _ _ _ _
+    lifted (plan_of c.args.self.now.layout) c.args.self.now.boot stop _ _ _ _ _ _ _
     (c.put_record.ensures.time known.files_known c.args.self.now.gates.items some.batches c.args.self.now.durable c.args.batch.now may stop)
-    (append_to (plan_of c.args.self.now.layout) g.F.Files.seen g.F.Files.may_leave c.args.self.now.files c.args.self.now.gates.items some.batches c.args.self.now.end c.args.self.now.durable some.sound stop c.args.batch.now)
+    (λ h from. boot_units from.0 h from.2 ∙ known.booted.left stop from.0 from.1) (append_to (plan_of c.args.self.now.layout) g.F.Files.seen g.F.Files.may_leave c.args.self.now.files c.args.self.now.gates.items some.batches c.args.self.now.end c.args.self.now.durable some.sound stop c.args.batch.now)
 
 pub returns-in-Err-clause-stays : goal.returns-in-Err-clause-stays
 returns-in-Err-clause-stays g c = λ known.
@@ -96,6 +96,6 @@ returns-in-Err-clause-time g c = λ known stop.
       put = subst (λ (b : List ℕ). IsRecord b c.args.batch.now) (sym c.deref.ensures.value) c.in_ok-make_record.ensures;
       room = omega (arith, c.deref.ensures.len, c.len-length.ensures, c.if-length-gt-LIMIT.false, c.if-self-gt-LIMIT.false);
     } in
-    lifted (plan_of c.args.self.now.layout) stop _ _ _ _ _ _ _
+    lifted (plan_of c.args.self.now.layout) c.args.self.now.boot stop _ _ _ _ _ _ _
     (c.put_record.ensures.time known.files_known c.args.self.now.gates.items some.batches c.args.self.now.durable c.args.batch.now may stop)
-    (append_to (plan_of c.args.self.now.layout) g.F.Files.seen g.F.Files.may_leave c.args.self.now.files c.args.self.now.gates.items some.batches c.args.self.now.end c.args.self.now.durable some.sound stop c.args.batch.now)
+    (λ h from. boot_units from.0 h from.2 ∙ known.booted.left stop from.0 from.1) (append_to (plan_of c.args.self.now.layout) g.F.Files.seen g.F.Files.may_leave c.args.self.now.files c.args.self.now.gates.items some.batches c.args.self.now.end c.args.self.now.durable some.sound stop c.args.batch.now)

@@ -1,7 +1,7 @@
 use Rattle.std.proofs.Common.{rules, refl, sym, ◌∙◌, []}
 use Rattle.std.proofs.lemmas.Bool.{true≢false}
 use Rattle.file_vault.specs.Vaults.{plan_of}
-use Rattle.file_vault.proofs.Boots.{boot_units_on}
+use Rattle.file_vault.proofs.Boots.{boot_units, boot_units_on}
 use Rattle.file_vault.proofs.Gates.{sound_as}
 use Rattle.file_vault.proofs.Lifts.{lifted, at_once}
 use Rattle.file_vault.proofs.JournalCalls.{clear_to}
@@ -30,8 +30,8 @@ returns-in-Err-clause-stays g c = λ known. record {
 
 pub returns-in-Ok-clause-time : goal.returns-in-Ok-clause-time
 returns-in-Ok-clause-time g c = λ known stop.
-    lifted (plan_of c.args.self.now.layout) stop _ _ _ _ _ _ _ (c.close_first.ensures.time known.files_known stop) (clear_to (plan_of c.args.self.now.layout) stop (g.F.Files.may_leave c.args.self.now.files stop))
+    lifted (plan_of c.args.self.now.layout) c.args.self.now.boot stop _ _ _ _ _ _ _ (c.close_first.ensures.time known.files_known stop) (λ h from. boot_units from.0 h from.2 ∙ known.booted.left stop from.0 from.1) (clear_to (plan_of c.args.self.now.layout) stop (g.F.Files.may_leave c.args.self.now.files stop))
 
 pub returns-in-Err-clause-time : goal.returns-in-Err-clause-time
 returns-in-Err-clause-time g c = λ known stop.
-    lifted (plan_of c.args.self.now.layout) stop _ _ _ _ _ _ _ (c.close_first.ensures.time known.files_known stop) (clear_to (plan_of c.args.self.now.layout) stop (g.F.Files.may_leave c.args.self.now.files stop))
+    lifted (plan_of c.args.self.now.layout) c.args.self.now.boot stop _ _ _ _ _ _ _ (c.close_first.ensures.time known.files_known stop) (λ h from. boot_units from.0 h from.2 ∙ known.booted.left stop from.0 from.1) (clear_to (plan_of c.args.self.now.layout) stop (g.F.Files.may_leave c.args.self.now.files stop))

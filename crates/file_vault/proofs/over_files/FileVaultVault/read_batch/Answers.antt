@@ -21,7 +21,7 @@ returns-in_err-read_body-clause-stays g c = λ known.
     (ap (λ (f : Folder). f 17) (c.read_body.ensures.seen is)) (ap boot_in (c.read_body.ensures.seen is)) (λ stop h now. (h, (c.read_body.ensures.time is stop).ends h now, refl, refl))
 
 pub returns-in_err-read_body-clause-time : goal.returns-in_err-read_body-clause-time
-returns-in_err-read_body-clause-time g c = λ known stop. lifted (plan_of c.args.self.now.layout) stop _ _ _ _ _ _ _ (c.read_body.ensures.time known.files_known stop) (λ h was. (h, was, refl))
+returns-in_err-read_body-clause-time g c = λ known stop. lifted (plan_of c.args.self.now.layout) c.args.self.now.boot stop _ _ _ _ _ _ _ (c.read_body.ensures.time known.files_known stop) (known.booted.left stop) (λ h was. (h, was, refl))
 
 pub returns-clause-stays : goal.returns-clause-stays
 returns-clause-stays g c = λ known.
@@ -30,7 +30,7 @@ returns-clause-stays g c = λ known.
     (ap (λ (f : Folder). f 17) (c.read_body.ensures.seen is)) (ap boot_in (c.read_body.ensures.seen is)) (λ stop h now. (h, (c.read_body.ensures.time is stop).ends h now, refl, refl))
 
 pub returns-clause-time : goal.returns-clause-time
-returns-clause-time g c = λ known stop. lifted (plan_of c.args.self.now.layout) stop _ _ _ _ _ _ _ (c.read_body.ensures.time known.files_known stop) (λ h was. (h, was, refl))
+returns-clause-time g c = λ known stop. lifted (plan_of c.args.self.now.layout) c.args.self.now.boot stop _ _ _ _ _ _ _ (c.read_body.ensures.time known.files_known stop) (known.booted.left stop) (λ h was. (h, was, refl))
 
 pub returns-clause-batch : goal.returns-clause-batch
 returns-clause-batch g c = λ known low.

@@ -22,7 +22,7 @@ returns-in-Ok-clause-found g c = λ known.
     (subst (λ n. Reads (g.F.Files.seen c.args.self.now.files c.args.place.drive) n c.read_at.new.out) c.offset-offset.ensures (c.in-Ok.ensures.bytes known.files_known))
 
 pub returns-in-Ok-clause-time : goal.returns-in-Ok-clause-time
-returns-in-Ok-clause-time g c = λ known stop. lifted (plan_of c.args.self.now.layout) stop _ _ _ _ _ _ _ (c.read_at.ensures.time known.files_known stop) (λ h was. (h, was, refl))
+returns-in-Ok-clause-time g c = λ known stop. lifted (plan_of c.args.self.now.layout) c.args.self.now.boot stop _ _ _ _ _ _ _ (c.read_at.ensures.time known.files_known stop) (known.booted.left stop) (λ h was. (h, was, refl))
 
 pub returns-in-Err-clause-stays : goal.returns-in-Err-clause-stays
 returns-in-Err-clause-stays g c = λ known.
@@ -31,4 +31,4 @@ returns-in-Err-clause-stays g c = λ known.
     (ap (λ (f : Folder). f 17) (c.read_at.ensures.seen is)) (ap boot_in (c.read_at.ensures.seen is)) (λ stop h now. (h, (c.read_at.ensures.time is stop).ends h now, refl, refl))
 
 pub returns-in-Err-clause-time : goal.returns-in-Err-clause-time
-returns-in-Err-clause-time g c = λ known stop. lifted (plan_of c.args.self.now.layout) stop _ _ _ _ _ _ _ (c.read_at.ensures.time known.files_known stop) (λ h was. (h, was, refl))
+returns-in-Err-clause-time g c = λ known stop. lifted (plan_of c.args.self.now.layout) c.args.self.now.boot stop _ _ _ _ _ _ _ (c.read_at.ensures.time known.files_known stop) (known.booted.left stop) (λ h was. (h, was, refl))

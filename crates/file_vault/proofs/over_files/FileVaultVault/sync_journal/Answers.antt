@@ -3,7 +3,7 @@ use Rattle.std.proofs.lemmas.Bool.{true≢false}
 use Rattle.vault.specs.declared.store.Stop.TheVariants.{Killed}
 use Rattle.file_vault.specs.Journals.{image_of}
 use Rattle.file_vault.specs.Vaults.{plan_of, left_of}
-use Rattle.file_vault.proofs.Boots.{boot_units_on}
+use Rattle.file_vault.proofs.Boots.{boot_units, boot_units_on}
 use Rattle.file_vault.proofs.Gates.{sound_as, rest_is}
 use Rattle.file_vault.proofs.Lifts.{lifted, at_once}
 use Rattle.file_vault.proofs.JournalCalls.{flush_to, flush_seen, flush_durable, all_seen, more_not}
@@ -58,10 +58,10 @@ returns-in-Ok-clause-durable g c = λ known.
 pub returns-in-Ok-clause-time : goal.returns-in-Ok-clause-time
 returns-in-Ok-clause-time g c = λ known stop.
     let some = known.batches c.if-self.false in
-    lifted (plan_of c.args.self.now.layout) stop _ _ _ _ _ _ _
+    lifted (plan_of c.args.self.now.layout) c.args.self.now.boot stop _ _ _ _ _ _ _
     (c.flush_gates.ensures.time known.files_known c.args.self.now.gates.items some.batches c.args.self.now.end c.args.self.now.durable some.sound
     (rest_is c.args.self.now.durable c.deref.result.now c.args.self.now.gates.items c.deref.ensures.value) stop)
-    (flush_to (plan_of c.args.self.now.layout) g.F.Files.seen g.F.Files.may_leave c.args.self.now.files c.args.self.now.gates.items some.batches c.args.self.now.end c.args.self.now.durable some.sound stop)
+    (λ h from. boot_units from.0 h from.2 ∙ known.booted.left stop from.0 from.1) (flush_to (plan_of c.args.self.now.layout) g.F.Files.seen g.F.Files.may_leave c.args.self.now.files c.args.self.now.gates.items some.batches c.args.self.now.end c.args.self.now.durable some.sound stop)
 
 pub returns-in-Err-clause-stays : goal.returns-in-Err-clause-stays
 returns-in-Err-clause-stays g c = λ known.
@@ -87,7 +87,7 @@ returns-in-Err-clause-seen g c = λ known.
 pub returns-in-Err-clause-time : goal.returns-in-Err-clause-time
 returns-in-Err-clause-time g c = λ known stop.
     let some = known.batches c.if-self.false in
-    lifted (plan_of c.args.self.now.layout) stop _ _ _ _ _ _ _
+    lifted (plan_of c.args.self.now.layout) c.args.self.now.boot stop _ _ _ _ _ _ _
     (c.flush_gates.ensures.time known.files_known c.args.self.now.gates.items some.batches c.args.self.now.end c.args.self.now.durable some.sound
     (rest_is c.args.self.now.durable c.deref.result.now c.args.self.now.gates.items c.deref.ensures.value) stop)
-    (flush_to (plan_of c.args.self.now.layout) g.F.Files.seen g.F.Files.may_leave c.args.self.now.files c.args.self.now.gates.items some.batches c.args.self.now.end c.args.self.now.durable some.sound stop)
+    (λ h from. boot_units from.0 h from.2 ∙ known.booted.left stop from.0 from.1) (flush_to (plan_of c.args.self.now.layout) g.F.Files.seen g.F.Files.may_leave c.args.self.now.files c.args.self.now.gates.items some.batches c.args.self.now.end c.args.self.now.durable some.sound stop)

@@ -16,7 +16,7 @@ returns-in_err-sync_drives-clause-stays g c = λ known.
 
 pub returns-in_err-sync_drives-clause-time : goal.returns-in_err-sync_drives-clause-time
 returns-in_err-sync_drives-clause-time g c = λ known stop.
-    lifted (plan_of c.args.self.now.layout) stop _ _ _ _ _ _ _ (c.sync_drives.ensures.time known.files_known stop) (λ h was. (h, was, refl))
+    lifted (plan_of c.args.self.now.layout) c.args.self.now.boot stop _ _ _ _ _ _ _ (c.sync_drives.ensures.time known.files_known stop) (known.booted.left stop) (λ h was. (h, was, refl))
 
 pub returns-in_err-sync_drives-clause-cause : goal.returns-in_err-sync_drives-clause-cause
 returns-in_err-sync_drives-clause-cause g c = λ known.
@@ -44,8 +44,8 @@ pub returns-in-Ok-clause-time : goal.returns-in-Ok-clause-time
 returns-in-Ok-clause-time g c = λ known stop.
     let is = known.files_known in
     let first = c.sync_drives.ensures.time is stop in
-    lifted (plan_of c.args.self.now.layout) stop _ _ _ _ (g.F.Files.may_leave c.args.self.now.files stop) _ _
-    (both_elapse _ _ _ _ _ _ _ _ _ _ _ first (c.sync.ensures.time (c.sync_drives.ensures.stays is) stop) (λ h d. d) (λ h there. first.ends h there)) (λ h was. (h, was, refl))
+    lifted (plan_of c.args.self.now.layout) c.args.self.now.boot stop _ _ _ _ (g.F.Files.may_leave c.args.self.now.files stop) _ _
+    (both_elapse _ _ _ _ _ _ _ _ _ _ _ first (c.sync.ensures.time (c.sync_drives.ensures.stays is) stop) (λ h d. d) (λ h there. first.ends h there)) (known.booted.left stop) (λ h was. (h, was, refl))
 
 pub returns-in-Err-clause-stays : goal.returns-in-Err-clause-stays
 returns-in-Err-clause-stays g c = λ known.
@@ -61,5 +61,5 @@ pub returns-in-Err-clause-time : goal.returns-in-Err-clause-time
 returns-in-Err-clause-time g c = λ known stop.
     let is = known.files_known in
     let first = c.sync_drives.ensures.time is stop in
-    lifted (plan_of c.args.self.now.layout) stop _ _ _ _ (g.F.Files.may_leave c.args.self.now.files stop) _ _
-    (both_elapse _ _ _ _ _ _ _ _ _ _ _ first (c.sync.ensures.time (c.sync_drives.ensures.stays is) stop) (λ h d. d) (λ h there. first.ends h there)) (λ h was. (h, was, refl))
+    lifted (plan_of c.args.self.now.layout) c.args.self.now.boot stop _ _ _ _ (g.F.Files.may_leave c.args.self.now.files stop) _ _
+    (both_elapse _ _ _ _ _ _ _ _ _ _ _ first (c.sync.ensures.time (c.sync_drives.ensures.stays is) stop) (λ h d. d) (λ h there. first.ends h there)) (known.booted.left stop) (λ h was. (h, was, refl))

@@ -46,7 +46,8 @@ returns-in-Ok-clause-killed g c = λ known.
 
 pub returns-in-Ok-clause-time : goal.returns-in-Ok-clause-time
 returns-in-Ok-clause-time g c = λ known stop.
-    lifted (plan_of c.args.self.now.layout) stop _ _ _ _ _ _ _ (c.write_at.ensures.time known.files_known stop)
+    lifted (plan_of c.args.self.now.layout) c.args.self.now.boot stop _ _ _ _ _ _ _ (c.write_at.ensures.time known.files_known stop)
+    (λ h from. boot_mixed _ _ _ _ _ (omega (arith, c.offset-offset.ensures)) from.2 ∙ known.booted.left stop from.0 from.1)
     (torn_to (plan_of c.args.self.now.layout) c.args.place c.args.unit.now c.offset-offset.result c.offset-offset.ensures (sym c.if-size-unit.false ∙ c.in-Some.ensures.size) c.in-Some.ensures.there.0 stop
     (g.F.Files.may_leave c.args.self.now.files stop))
 
@@ -65,6 +66,7 @@ returns-in-Err-clause-torn g c = λ known.
 
 pub returns-in-Err-clause-time : goal.returns-in-Err-clause-time
 returns-in-Err-clause-time g c = λ known stop.
-    lifted (plan_of c.args.self.now.layout) stop _ _ _ _ _ _ _ (c.write_at.ensures.time known.files_known stop)
+    lifted (plan_of c.args.self.now.layout) c.args.self.now.boot stop _ _ _ _ _ _ _ (c.write_at.ensures.time known.files_known stop)
+    (λ h from. boot_mixed _ _ _ _ _ (omega (arith, c.offset-offset.ensures)) from.2 ∙ known.booted.left stop from.0 from.1)
     (torn_to (plan_of c.args.self.now.layout) c.args.place c.args.unit.now c.offset-offset.result c.offset-offset.ensures (sym c.if-size-unit.false ∙ c.in-Some.ensures.size) c.in-Some.ensures.there.0 stop
     (g.F.Files.may_leave c.args.self.now.files stop))
