@@ -95,9 +95,11 @@ impl<N: Chronicle, V: Vault + Drop> JournaledStore<N, V> {
             → OnOk result (Outlasts V.known V.seen V.may_leave (point self.new) (F.bytes ∷ []) (F.bytes ∷ [])) }
 
         // A stop leaves the bytes, with all groups and drives.
-        ensures follows { (F : Flat) → IsStoreOf self.old.store.tiers self.old.store.size self.old.unsynced F → Follows self.old.store.tiers self.new.store.tiers }
+        ensures follows { (F : Flat) → IsStoreOf self.old.store.tiers self.old.store.size self.old.unsynced F
+            → Follows self.old.store.tiers self.new.store.tiers }
         ensures lasts { (F : Flat) → IsStoreOf self.old.store.tiers self.old.store.size self.old.unsynced F
-            → Lasts (Outlasts V.known V.seen V.may_leave) (λ p. V.moment p.vault) (OutlastsSince V.left_since) F.bytes F.bytes (point self.old) (point self.new) }
+            → Lasts (Outlasts V.known V.seen V.may_leave) (λ p. V.moment p.vault)
+            (OutlastsSince V.left_since) F.bytes F.bytes (point self.old) (point self.new) }
     {
         let lost = self.store.world().array().lost();
         let published = self.publish_durably();
@@ -127,7 +129,8 @@ impl<N: Chronicle, V: Vault + Drop> JournaledStore<N, V> {
             → IsLive lost self.new.changes.keeper self.new.changes.noted self.new.changes.batch c }
         ensures stays { self.old.failed ≡ true → self.new.failed ≡ true }
         ensures failed { error ≡ VaultError.Journal → self.new.failed ≡ true }
-        ensures follows { (F : Flat) → IsStoreOf self.old.store.tiers self.old.store.size self.old.unsynced F → Follows self.old.store.tiers self.new.store.tiers }
+        ensures follows { (F : Flat) → IsStoreOf self.old.store.tiers self.old.store.size self.old.unsynced F
+            → Follows self.old.store.tiers self.new.store.tiers }
     {
         match error {
             VaultError::Journal => self.failed = true,
@@ -146,7 +149,8 @@ impl<N: Chronicle, V: Vault + Drop> JournaledStore<N, V> {
         ensures lost { self.new.changes.lost ≡ self.old.changes.lost }
         ensures step { (lost : List Bool) (c : Cells) → IsLive lost self.old.changes.keeper self.old.changes.noted self.old.changes.batch c
             → IsLive lost self.new.changes.keeper self.new.changes.noted self.new.changes.batch c }
-        ensures follows { (F : Flat) → IsStoreOf self.old.store.tiers self.old.store.size self.old.unsynced F → Follows self.old.store.tiers self.new.store.tiers }
+        ensures follows { (F : Flat) → IsStoreOf self.old.store.tiers self.old.store.size self.old.unsynced F
+            → Follows self.old.store.tiers self.new.store.tiers }
         ensures failed { self.new.failed ≡ self.old.failed }
     {
         note_failed(&mut self.changes.failed, drive);
@@ -164,9 +168,11 @@ impl<N: Chronicle, V: Vault + Drop> JournaledStore<N, V> {
             × (self.new.store.tiers.world.array.parts.groups.payload ≡ self.old.store.tiers.world.array.parts.groups.payload) }
 
         // A stop leaves the bytes, with all groups and drives.
-        ensures follows { (F : Flat) → IsStoreOf self.old.store.tiers self.old.store.size self.old.unsynced F → Follows self.old.store.tiers self.new.store.tiers }
+        ensures follows { (F : Flat) → IsStoreOf self.old.store.tiers self.old.store.size self.old.unsynced F
+            → Follows self.old.store.tiers self.new.store.tiers }
         ensures lasts { (F : Flat) → IsStoreOf self.old.store.tiers self.old.store.size self.old.unsynced F
-            → Lasts (Outlasts V.known V.seen V.may_leave) (λ p. V.moment p.vault) (OutlastsSince V.left_since) F.bytes F.bytes (point self.old) (point self.new) }
+            → Lasts (Outlasts V.known V.seen V.may_leave) (λ p. V.moment p.vault)
+            (OutlastsSince V.left_since) F.bytes F.bytes (point self.old) (point self.new) }
     {
         if self.changes.appended >= self.settle_at.saturating_mul(4) {
             let _ = self.settle();

@@ -141,7 +141,8 @@ impl<N: Chronicle, V: Vault + Drop> JournaledStore<N, V> {
         ensures batches { V.known self.old.vault → (lost : List Bool)
             → UnlessFailed self.old.failed (IsLive lost self.old.changes.keeper self.old.changes.noted self.old.changes.batch
             (recovered (V.seen self.old.vault)))
-            → UnlessFailed self.new.failed ((low : ℕ) (i : Image) → StandsForSome lost (Image.cells (V.seen self.new.vault)) low (Image.journal (V.seen self.new.vault)) i
+            → UnlessFailed self.new.failed ((low : ℕ) (i : Image)
+            → StandsForSome lost (Image.cells (V.seen self.new.vault)) low (Image.journal (V.seen self.new.vault)) i
             → IsBeforeOrNow lost (V.seen self.old.vault) low self.old.store.tiers.world.array.parts.drives i) }
 
         // A stop at any moment leaves the units of before, or those of the drives now.
@@ -154,7 +155,8 @@ impl<N: Chronicle, V: Vault + Drop> JournaledStore<N, V> {
 
         // Opened again, the store has the bytes that a stop before would have left, or those of now.
         ensures lasts { (F : Flat) → IsStoreOf self.old.store.tiers self.old.store.size self.old.unsynced F
-            → Lasts (Outlasts V.known V.seen V.may_leave) (λ p. V.moment p.vault) (OutlastsSince V.left_since) F.bytes F.bytes (point self.old) (point self.new) }
+            → Lasts (Outlasts V.known V.seen V.may_leave) (λ p. V.moment p.vault)
+            (OutlastsSince V.left_since) F.bytes F.bytes (point self.old) (point self.new) }
         ensures acknowledged { (F : Flat) → IsStoreOf self.old.store.tiers self.old.store.size self.old.unsynced F
             → OnOk result (Acknowledges (Outlasts V.known V.seen V.may_leave) F.bytes F.bytes (point self.old) (point self.new)) }
     {
@@ -198,7 +200,8 @@ impl<N: Chronicle, V: Vault + Drop> JournaledStore<N, V> {
         ensures batches { V.known self.old.vault → (lost : List Bool)
             → UnlessFailed self.old.failed (IsLive lost self.old.changes.keeper self.old.changes.noted self.old.changes.batch
             (recovered (V.seen self.old.vault)))
-            → UnlessFailed self.new.failed ((low : ℕ) (i : Image) → StandsForSome lost (Image.cells (V.seen self.new.vault)) low (Image.journal (V.seen self.new.vault)) i
+            → UnlessFailed self.new.failed ((low : ℕ) (i : Image)
+            → StandsForSome lost (Image.cells (V.seen self.new.vault)) low (Image.journal (V.seen self.new.vault)) i
             → IsBeforeOrNow lost (V.seen self.old.vault) low self.old.store.tiers.world.array.parts.drives i) }
 
         // A stop at any moment leaves the units of before, or those of the drives now.
@@ -256,10 +259,12 @@ impl<N: Chronicle, V: Vault + Drop> JournaledStore<N, V> {
             (IsBeforeOrNow lost (V.seen self.old.vault) low self.new.store.tiers.world.array.parts.drives) }
 
         // A stop leaves the bytes of before or of now, with all groups and drives.
-        ensures follows { (F : Flat) → IsStoreOf self.old.store.tiers self.old.store.size self.old.unsynced F → Follows self.old.store.tiers self.new.store.tiers }
+        ensures follows { (F : Flat) → IsStoreOf self.old.store.tiers self.old.store.size self.old.unsynced F
+            → Follows self.old.store.tiers self.new.store.tiers }
         ensures lasts { (F G : Flat) → IsStoreOf self.old.store.tiers self.old.store.size self.old.unsynced F
             → IsStoreOf self.new.store.tiers self.new.store.size self.new.unsynced G
-            → Lasts (Outlasts V.known V.seen V.may_leave) (λ p. V.moment p.vault) (OutlastsSince V.left_since) F.bytes G.bytes (point self.old) (point self.new) }
+            → Lasts (Outlasts V.known V.seen V.may_leave) (λ p. V.moment p.vault)
+            (OutlastsSince V.left_since) F.bytes G.bytes (point self.old) (point self.new) }
         ensures acknowledged { (F G : Flat) → IsStoreOf self.old.store.tiers self.old.store.size self.old.unsynced F
             → IsStoreOf self.new.store.tiers self.new.store.size self.new.unsynced G
             → OnOk result (Acknowledges (Outlasts V.known V.seen V.may_leave) F.bytes G.bytes (point self.old) (point self.new)) }
@@ -306,10 +311,12 @@ impl<N: Chronicle, V: Vault + Drop> JournaledStore<N, V> {
             (IsBeforeOrNow lost (V.seen self.old.vault) low self.new.store.tiers.world.array.parts.drives) }
 
         // A stop leaves the bytes of before or of now, with all groups and drives.
-        ensures follows { (F : Flat) → IsStoreOf self.old.store.tiers self.old.store.size self.old.unsynced F → Follows self.old.store.tiers self.new.store.tiers }
+        ensures follows { (F : Flat) → IsStoreOf self.old.store.tiers self.old.store.size self.old.unsynced F
+            → Follows self.old.store.tiers self.new.store.tiers }
         ensures lasts { (F G : Flat) → IsStoreOf self.old.store.tiers self.old.store.size self.old.unsynced F
             → IsStoreOf self.new.store.tiers self.new.store.size self.new.unsynced G
-            → Lasts (Outlasts V.known V.seen V.may_leave) (λ p. V.moment p.vault) (OutlastsSince V.left_since) F.bytes G.bytes (point self.old) (point self.new) }
+            → Lasts (Outlasts V.known V.seen V.may_leave) (λ p. V.moment p.vault)
+            (OutlastsSince V.left_since) F.bytes G.bytes (point self.old) (point self.new) }
         ensures acknowledged { (F G : Flat) → IsStoreOf self.old.store.tiers self.old.store.size self.old.unsynced F
             → IsStoreOf self.new.store.tiers self.new.store.size self.new.unsynced G
             → OnOk result (Acknowledges (Outlasts V.known V.seen V.may_leave) F.bytes G.bytes (point self.old) (point self.new)) }
@@ -354,9 +361,11 @@ impl<N: Chronicle, V: Vault + Drop> JournaledStore<N, V> {
             (IsBeforeOrNow lost (V.seen self.old.vault) low self.new.store.tiers.world.array.parts.drives) }
 
         // A stop leaves the bytes, with all groups and drives.
-        ensures follows { (F : Flat) → IsStoreOf self.old.store.tiers self.old.store.size self.old.unsynced F → Follows self.old.store.tiers self.new.store.tiers }
+        ensures follows { (F : Flat) → IsStoreOf self.old.store.tiers self.old.store.size self.old.unsynced F
+            → Follows self.old.store.tiers self.new.store.tiers }
         ensures lasts { (F : Flat) → IsStoreOf self.old.store.tiers self.old.store.size self.old.unsynced F
-            → Lasts (Outlasts V.known V.seen V.may_leave) (λ p. V.moment p.vault) (OutlastsSince V.left_since) F.bytes F.bytes (point self.old) (point self.new) }
+            → Lasts (Outlasts V.known V.seen V.may_leave) (λ p. V.moment p.vault)
+            (OutlastsSince V.left_since) F.bytes F.bytes (point self.old) (point self.new) }
         ensures durable { (F : Flat) → IsStoreOf self.old.store.tiers self.old.store.size self.old.unsynced F
             → OnOk result (Flushes (Outlasts V.known V.seen V.may_leave) F.bytes (point self.old) (point self.new)) }
     {
