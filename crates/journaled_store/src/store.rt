@@ -106,6 +106,13 @@ impl<N: Chronicle, V: Vault + Drop> JournaledStore<N, V> {
         }
     }
 
+    /// The vault, without the store.
+    pub fn into_vault(self) -> V
+        ensures { result ≡ self.vault }
+    {
+        self.vault
+    }
+
     /// The array's world, for the calls that only read it.
     pub fn world(&self) -> &World<CachedDrive<N>>
         ensures { result.now ≡ self.now.store.tiers.world }

@@ -15,3 +15,5 @@ mod recovered;
 mod rig;
 #[cfg(test)]
 mod room;
+#[cfg(test)]
+mod stopped;

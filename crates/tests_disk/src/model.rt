@@ -6,18 +6,18 @@ use std::alloc::Global;
 use std::process::Abort;
 
 /// The longest piece that is written.
-const PIECE: usize = 130;
+pub(crate) const PIECE: usize = 130;
 
-// Whether a range lies within the bytes.
-fn is_within(offset: usize, length: usize, size: u64) -> bool
+/// Whether a range lies within the bytes.
+pub(crate) fn is_within(offset: usize, length: usize, size: u64) -> bool
     ensures { IsTrue result → offset + length ≤ size }
 {
     let (offset, length) = (offset as u64, length as u64);
     offset <= size && length <= size - offset
 }
 
-// A piece of bytes that all differ, by its first one.
-fn piece_of(first: u8) -> [u8; PIECE] {
+/// A piece of bytes that all differ, by its first one.
+pub(crate) fn piece_of(first: u8) -> [u8; PIECE] {
     let mut piece = [first; PIECE];
     for (byte, place) in piece.iter_mut().zip(0u8..PIECE as u8) {
         *byte = first ^ place;
@@ -25,8 +25,8 @@ fn piece_of(first: u8) -> [u8; PIECE] {
     piece
 }
 
-// Puts bytes over those of the model.
-fn set(rt: &impl Abort, model: &mut [u8], offset: usize, bytes: &[u8]) {
+/// Puts bytes over those of the model.
+pub(crate) fn set(rt: &impl Abort, model: &mut [u8], offset: usize, bytes: &[u8]) {
     assert!(rt; is_within(offset, bytes.len(), model.len() as u64));
     model[offset..offset + bytes.len()].copy_from_slice(bytes);
 }

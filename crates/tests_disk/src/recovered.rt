@@ -63,8 +63,8 @@ fn run_once<N: Chronicle>(
     }
 }
 
-// The groups of a plan, and the owners of the extents.
-fn groups_of(rt: &impl Abort, alloc: Global, plan: &Plan) -> (GroupTable, ExtentTable) {
+/// The groups of a plan, and the owners of the extents.
+pub(crate) fn groups_of(rt: &impl Abort, alloc: Global, plan: &Plan) -> (GroupTable, ExtentTable) {
     let (Ok(mut groups), Ok(mut extents)) = (
         GroupTable::new(alloc, &plan.shape),
         ExtentTable::new(alloc, plan.drives, &plan.shape),
@@ -132,8 +132,8 @@ fn open_again<N: Chronicle>(
     Ok(())
 }
 
-// A history that nobody has.
-fn opened_in(rt: &impl Abort, alloc: Global) -> Opened<Saved> {
+/// A history that nobody has.
+pub(crate) fn opened_in(rt: &impl Abort, alloc: Global) -> Opened<Saved> {
     let Ok(opened) = Opened::new(alloc) else {
         panic!(rt; "no memory")
     };
