@@ -1,4 +1,4 @@
--- Batches that lie one behind the other in a journal's file.
+-- Batches that lie one after the other in a journal's file.
 use Rattle.std.proofs.Common.{◌≡◌, ◌≤◌, ◌<◌, ℕ, zero, suc, ◌+◌, ◌*◌, true, false, if◌then◌else◌, List, [], ◌∷◌, ◌++◌, refl, sym, ◌∙◌, ap, subst, arith, length, take}
 use Rattle.extent_groups.specs.Planned.{Wanted}
 use Rattle.vault.specs.declared.store.Stop.{Stop}

@@ -22,7 +22,7 @@ pub mixed_behind : (file at : ℕ) (bytes : List ℕ) (f g : Folder) → at + le
 mixed_behind file at bytes f g inside mixed = record { behind = λ k past. mixed.outside k (inr (omega (arith, inside, past))); others = mixed.others }
 
 module _ (plan : Plan) where
-  -- units and batches lie behind the first blocks
+  -- units and batches lie after the first blocks
   behind_cells : (f g : Folder) → SameBehind 16 f g → (x : Place) → held (cells_of plan g) x ≡ held (cells_of plan f) x
   behind_cells f g same x = elim (below_or x.drive 16) [
     | inl under ↦ cells_same plan f g x (same.others x.drive (λ e. omega (arith, e, under)))

@@ -1,4 +1,4 @@
--- A batch that is put behind the closed gate of a journal, byte by byte, and what each stop leaves of it.
+-- A batch that is put after the closed gate of a journal, byte by byte, and what each stop leaves of it.
 use Rattle.std.proofs.Common.{◌≡◌, ◌≤◌, ◌<◌, ◌⊎◌, inl, inr, ⊎_elim, ℕ, zero, suc, ◌+◌, ◌^◌, true, false, List, [], ◌∷◌, ◌++◌, refl, sym, ◌∙◌, ap, subst, arith, length, length-append, length-drop, take, drop, get_or}
 use Rattle.std.proofs.lemmas.List.{take_at, drop_at, take-append-le, get_or-append-add, append-nil}
 use Rattle.extent_groups.specs.Planned.{Wanted}
@@ -56,7 +56,7 @@ power_read f h gates batches end durable are inside some marked is =
     read_all PowerLost most f h 4096 (take durable gates) (take durable batches) (gate_at gates end durable) first marked is.same is.shut
     (few_gates f (take durable gates) (take durable batches) (gate_at gates end durable) first (let high = within.1 in omega (arith, high, inside)))
 
--- a record behind a gate
+-- a record after a gate
 module _ (bytes : List ℕ) (batch : List Wanted) (record_is : IsRecord bytes batch) where
   long : length bytes ≡ 9 + length record_is.body
   long =
@@ -152,11 +152,11 @@ module _ {F : Type 0} (seen : F → Folder) (may_leave : F → Stop → Folder �
       (record { same = λ k low high. same k (let last = within.1 in omega (arith, high, last)) ∙ is.same k low high; shut = ap (opens PowerLost) (same (gate_at gates gate durable) within.1) ∙ is.shut })
       ∙ sym (power_read f0 (f 17) gates batches gate durable may.sound.lie room_here may.sound.some may.sound.marked is)
 
-  -- what is written behind the gate
+  -- what is written after the gate
   pub first_during : (stop : Stop) → Within (mixed_at 17 (gate + 1) bytes (may_leave old stop)) (leaves_either stop (batches ++ batch ∷ []) (may_leave old stop))
   first_during stop g (f, was, mixed) = (f, was, mixed.others, inl (quiet_journal stop f g was (λ k le. mixed.outside k (inl (omega (arith, le))))))
 
-  -- a journal's file with the record behind the open gate
+  -- a journal's file with the record after the open gate
   record PutIn (h : Bytes) : Type 0 where
     below : (k : ℕ) → 4096 ≤ k → k < gate → h k ≡ f0 k
     ajar : h gate ≡ 1
@@ -198,7 +198,7 @@ module _ {F : Type 0} (seen : F → Folder) (may_leave : F → Stop → Folder �
   put_by_kill : (h g : Folder) → wrote_at 17 (gate + 1) bytes (may_leave old Killed) h → Wrote 17 gate (1 ∷ []) h g → PutIn (g 17)
   put_by_kill h g (f, was, wrote) gated = both_put f h g (λ k low high. may.sound.killed f was k low (omega (arith, high))) wrote (gate_is (g 17) 1 (gated.inside 0 (omega arith))) gated.outside
 
-  -- what lies up to the gate behind the durable batches, when the gate was opened or wasn't
+  -- what lies up to the gate after the durable batches, when the gate was opened or wasn't
   still_durable : (f g : Folder) → may_leave old PowerLost f → ((k : ℕ) → k < gate → g 17 k ≡ f 17 k) → (g 17 gate ≡ f 17 gate) ⊎ (g 17 gate ≡ 1) → IsDurable f0 (g 17) gates durable gate
   still_durable f g was same which =
       let within = gate_within f0 4096 durable gates batches gate may.sound.lie may.sound.some in

@@ -131,7 +131,7 @@ module _ {F : Type 0} (seen : F → Folder) (may_leave : F → Stop → Folder �
         };
       }
 
-  -- the durable batches, once the gate behind them is closed
+  -- the durable batches, once the gate after them is closed
   pub closed_sound : (f : Bytes) (gates : List ℕ) (batches : List (List Wanted)) (end marked : ℕ) → IsFound f PowerLost gates batches end marked → ((k : ℕ) → 4096 ≤ k → k < end → seen new 17 k ≡ f k) → seen new 17 end ≡ 0
       → IsSound seen may_leave new gates batches end (length gates)
   closed_sound f gates batches end marked found same closed =
@@ -154,7 +154,7 @@ module _ {F : Type 0} (seen : F → Folder) (may_leave : F → Stop → Folder �
       marked_open : (n : ℕ) → opens PowerLost n ≡ true → opens Killed n ≡ true
       marked_open n on = ⊎_elim (λ t. ap (opens Killed) t.1) (λ t. absurd (true≢false (sym on ∙ t.0))) (eqb_tells n 2)
 
--- the gate behind the durable batches is closed, or it isn't yet
+-- the gate after the durable batches is closed, or it isn't yet
 pub end_during : (f : Bytes) (gates : List ℕ) (batches : List (List Wanted)) (end marked : ℕ) → IsFound f PowerLost gates batches end marked → (first mid : Folder → Type 0) → Within mid first → ((h : Folder) → mid h → h 17 ≡ f)
     → Within (mixed_at 17 end (0 ∷ []) mid) (leaves_read first)
 end_during f gates batches end marked found first mid within synced g (h, now, mixed) = (

@@ -17,7 +17,7 @@ use Rattle.file_vault.specs.Journals.{journal_of, image_of, batches_from, most}
 use Rattle.file_vault.proofs.Chains.{part_same}
 use Rattle.file_vault.proofs.Puts.{part_is, below_or}
 
--- units one behind the other don't overlap
+-- units one after the other don't overlap
 apart : (a b size : ℕ) → a < b → a * size + size ≤ b * size
 apart a b size low = let le : (a + 1) * size ≤ b * size = mul-le-mul_right size (omega (arith, low)) in let one : (a + 1) * size ≡ a * size + 1 * size = add-mul a 1 size in omega (arith, le, one)
 

@@ -1,5 +1,5 @@
--- The journal's file: after its header batches, each behind a gate byte: 0 closed, 1 open, 2 open and durable. Behind a gate lie
--- the length of the batch's bytes, in eight bytes, and these bytes. Behind the last batch lies a closed gate.
+-- The journal's file: after its header batches, each after a gate byte: 0 closed, 1 open, 2 open and durable. After a gate lie
+-- the length of the batch's bytes, in eight bytes, and these bytes. After the last batch lies a closed gate.
 use Rattle.std.specs.Prelude.{◌≡◌, ◌≢◌, ◌⊎◌, ◌==◌, ◌++◌, ◌+◌, ◌<◌, ◌≤◌, ◌^◌, length, take, not, if◌then◌else◌, Bool, true, false, ℕ, zero, suc, List, [], ◌∷◌}
 use Rattle.extent_groups.specs.Planned.{Wanted}
 use Rattle.vault.specs.declared.store.Stop.{Stop}
@@ -24,12 +24,12 @@ abbrev pub opens : Stop → ℕ → Bool
 opens Killed gate = not (gate == 0)
 opens PowerLost gate = gate == 2
 
--- the batches behind open gates, at most so many
+-- the batches after open gates, at most so many
 abbrev pub batches_from : Stop → ℕ → Bytes → ℕ → List (List Wanted)
 batches_from stop zero f at = []
 batches_from stop (suc most) f at = if opens stop (f at) then decoded (body_at f at) ∷ batches_from stop most f (next_at f at) else []
 
--- the gates of these batches lie here, one behind the other
+-- the gates of these batches lie here, one after the other
 abbrev pub AreAt : Bytes → ℕ → List ℕ → List (List Wanted) → ℕ → Type 0
 AreAt f at [] [] end = at ≡ end
 AreAt f at (gate ∷ gates) (batch ∷ batches) end = (gate ≡ at) × IsCode (body_at f at) × (decoded (body_at f at) ≡ batch) × AreAt f (next_at f at) gates batches end
@@ -40,7 +40,7 @@ abbrev pub AreOpen : Stop → Bytes → List ℕ → Type 0
 AreOpen stop f [] = Unit {0}
 AreOpen stop f (gate ∷ gates) = (opens stop (f gate) ≡ true) × AreOpen stop f gates
 
--- the place of the gate behind so many batches
+-- the place of the gate after so many batches
 abbrev pub gate_at : List ℕ → ℕ → ℕ → ℕ
 gate_at [] end count = end
 gate_at (gate ∷ gates) end zero = gate
@@ -54,13 +54,13 @@ most = 2 ^ 62
 abbrev pub journal_of : Stop → Folder → List (List Wanted)
 journal_of stop f = batches_from stop most (f 17) 4096
 
--- Of each file that a loss of power may leave: up to the gate behind the durable batches it is as calls find it, and this gate isn't
+-- Of each file that a loss of power may leave: up to the gate after the durable batches it is as calls find it, and this gate isn't
 -- a 2.
 pub record IsDurable (f g : Bytes) (gates : List ℕ) (durable end : ℕ) : Type 0 where
   pub same : (k : ℕ) → 4096 ≤ k → k < gate_at gates end durable → g k ≡ f k
   pub shut : opens PowerLost (g (gate_at gates end durable)) ≡ false
 
--- these batches lie in the journal, behind open gates, and some of the first behind 2s; the gate behind the last is closed; and so
+-- these batches lie in the journal, after open gates, and some of the first after 2s; the gate after the last is closed; and so
 -- it is in what each stop leaves
 pub record IsSound {F : Type 0} (seen : F → Folder) (may_leave : F → Stop → Folder → Type 0) (files : F) (gates : List ℕ) (batches : List (List Wanted)) (end durable : ℕ) : Type 0 where
   pub lie : AreAt (seen files 17) 4096 gates batches end
@@ -72,7 +72,7 @@ pub record IsSound {F : Type 0} (seen : F → Folder) (may_leave : F → Stop �
   pub killed : (g : Folder) → may_leave files Killed g → (k : ℕ) → 4096 ≤ k → k ≤ end → g 17 k ≡ seen files 17 k
   pub power : (g : Folder) → may_leave files PowerLost g → IsDurable (seen files 17) (g 17) gates durable end
 
--- a batch's bytes behind their length and before a closed gate
+-- a batch's bytes after their length and before a closed gate
 pub record IsRecord (bytes : List ℕ) (batch : List Wanted) : Type 0 where
   pub body : List ℕ
   pub is : bytes ≡ word (length body) ++ (body ++ 0 ∷ [])
@@ -91,7 +91,7 @@ leaves_all stop batches outcomes g = (f : Folder) × outcomes f × SameUnits f g
 abbrev pub leaves_either : Stop → List (List Wanted) → (Folder → Type 0) → Folder → Type 0
 leaves_either stop batches outcomes g = (f : Folder) × outcomes f × SameUnits f g × ((journal_of stop g ≡ journal_of stop f) ⊎ (journal_of stop g ≡ batches))
 
--- a record may be put behind the closed gate of a sound journal
+-- a record may be put after the closed gate of a sound journal
 pub record MayPut {F : Type 0} (seen : F → Folder) (may_leave : F → Stop → Folder → Type 0) (files : F) (gates : List ℕ) (batches : List (List Wanted)) (gate durable : ℕ) (bytes : List ℕ) (batch : List Wanted) : Type 0 where
   pub sound : IsSound seen may_leave files gates batches gate durable
   pub put : IsRecord bytes batch

@@ -14,11 +14,11 @@ use Rattle.file_vault.specs.Journals.{AreAt, AreOpen, opens, gate_at, body_at, l
 abbrev pub rule_of : Bool → Stop
 rule_of all = if all then Killed else PowerLost
 
--- how many of the first batches lie behind 2s, with one batch more
+-- how many of the first batches lie after 2s, with one batch more
 abbrev pub marked_after : ℕ → ℕ → ℕ → ℕ
 marked_after marked count gate = if (gate == 2) && (marked == count - 1) then count else marked
 
--- these batches lie here behind gates that a rule opens; the first of them lie behind 2s, and the next one doesn't
+-- these batches lie here after gates that a rule opens; the first of them lie after 2s, and the next one doesn't
 pub record IsChain (f : Bytes) (rule : Stop) (gates : List ℕ) (batches : List (List Wanted)) (end marked : ℕ) : Type 0 where
   pub lie : AreAt f 4096 gates batches end
   pub opened : AreOpen rule f gates
@@ -26,7 +26,7 @@ pub record IsChain (f : Bytes) (rule : Stop) (gates : List ℕ) (batches : List 
   pub marks : AreOpen PowerLost f (take marked gates)
   pub next : (marked ≡ length gates) ⊎ (opens PowerLost (f (gate_at gates end marked)) ≡ false)
 
--- and the gate behind them is closed
+-- and the gate after them is closed
 pub record IsFound (f : Bytes) (rule : Stop) (gates : List ℕ) (batches : List (List Wanted)) (end marked : ℕ) : Type 0 where
   pub chain : IsChain f rule gates batches end marked
   pub closed : opens rule (f end) ≡ false
@@ -38,7 +38,7 @@ HasChain f rule gates end marked = (batches : List (List Wanted)) × IsChain f r
 abbrev pub HasFound : Bytes → Stop → List ℕ → ℕ → ℕ → Type 0
 HasFound f rule gates end marked = (batches : List (List Wanted)) × IsFound f rule gates batches end marked
 
--- one batch more lies behind an open gate
+-- one batch more lies after an open gate
 pub record IsNext (f : Bytes) (rule : Stop) (at gate length : ℕ) : Type 0 where
   pub gate_is : gate ≡ f at
   pub opened : opens rule gate ≡ true

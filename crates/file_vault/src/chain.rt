@@ -1,4 +1,4 @@
-// Batches of the journal's file are found again, one behind the other.
+// Batches of the journal's file are found again, one after the other.
 ghost use Rattle.std.specs.Prelude.{◌≡◌, ◌≤◌, ◌+◌, ◌^◌, ℕ, false, [], OnOk, IfOk, IsTrue, vec_len};
 ghost use Rattle.vault.specs.declared.store.Stop.{Stop};
 ghost use Rattle.file_vault.specs.Folders.{Bytes};
@@ -18,9 +18,9 @@ use vault::{Batch, VaultError};
 pub(crate) struct Chain {
     // The places of their gates.
     pub(crate) gates: Vec<u64>,
-    // The place of the gate behind them.
+    // The place of the gate after them.
     pub(crate) end: u64,
-    // How many of the first lie behind 2s.
+    // How many of the first lie after 2s.
     pub(crate) marked: usize,
     ghost some: { marked ≤ vec_len gates },
     ghost end_is: { (4096 ≤ end) × (end ≤ 2 ^ 62) },
@@ -39,7 +39,7 @@ impl Chain {
         }
     }
 
-    // Takes a batch behind this gate, as long as this.
+    // Takes a batch after this gate, as long as this.
     fn push(&mut self, gate: u8, length: u64) -> Result<(), AllocError>
         requires { (self.old.end ≤ 2 ^ 60) × (length ≤ 2 ^ 60) }
         ensures more { (f : Bytes) (rule : Stop) → HasChain f rule self.old.gates.items self.old.end self.old.marked → IsNext f rule self.old.end gate length
@@ -53,7 +53,7 @@ impl Chain {
     }
 }
 
-// How many of the first batches lie behind 2s, of so many with one batch more.
+// How many of the first batches lie after 2s, of so many with one batch more.
 fn marked_after(marked: usize, count: usize, gate: u8) -> usize
     requires { 1 ≤ count }
     ensures marked { result ≡ marked_after marked count gate }
@@ -83,7 +83,7 @@ fn read_gate<F: Files>(files: &mut F, at: u64) -> Result<u8, FileFault>
     Ok(gate[0])
 }
 
-// Reads how long the batch behind a gate is.
+// Reads how long the batch after a gate is.
 #[tactic(auto, unfolding(vault::specs::Coding::number))]
 fn read_length<F: Files>(files: &mut F, at: u64) -> Result<u64, FileFault>
     requires { at ≤ 2 ^ 60 }
@@ -95,7 +95,7 @@ fn read_length<F: Files>(files: &mut F, at: u64) -> Result<u64, FileFault>
     Ok(u64::from_le_bytes(word))
 }
 
-// Takes the batch behind the gate at the end of a chain, if that is open.
+// Takes the batch after the gate at the end of a chain, if that is open.
 fn take_next<F: Files>(
     files: &mut F,
     all: bool,
@@ -125,7 +125,7 @@ fn take_next<F: Files>(
     Ok(true)
 }
 
-// Finds the batches behind open gates: after a kill all, after a loss of power those that were durable.
+// Finds the batches after open gates: after a kill all, after a loss of power those that were durable.
 pub(crate) fn find_chain<F: Files>(
     alloc: Global,
     files: &mut F,

@@ -1,8 +1,8 @@
-// The journal's file: batches, each behind a gate.
+// The journal's file: batches, each after a gate.
 //
-// A batch is appended behind a closed gate, and then the gate is opened by a write of one byte: 1. So a killed process leaves at
-// most the last batch torn, with its gate closed. A flush syncs the journal and then makes each open gate a 2: so behind a 2 the
-// batch is durable. After a kill recovery takes each batch behind an open gate, after a loss of power those behind 2s.
+// A batch is appended after a closed gate, and then the gate is opened by a write of one byte: 1. So a killed process leaves at
+// most the last batch torn, with its gate closed. A flush syncs the journal and then makes each open gate a 2: so after a 2 the
+// batch is durable. After a kill recovery takes each batch after an open gate, after a loss of power those after 2s.
 ghost use Rattle.std.specs.Prelude.{◌≡◌, ◌≤◌, ◌<◌, ◌+◌, ◌^◌, ◌-◌, ◌++◌, [], ◌∷◌, ℕ, List, length, drop, OnOk, IfOk, IfSome};
 ghost use Rattle.file_vault.specs.Journals.{IsAmong, Marks, marked_at, leaves_more, journal_of, MayPut, IsSound, IsRecord};
 ghost use Rattle.file_vault.specs.Journals.{SameUnits, leaves_all, leaves_either};
@@ -43,7 +43,7 @@ pub(crate) fn make_record(
     frame(framed, body)
 }
 
-// Writes a record behind a closed gate, and opens the gate.
+// Writes a record after a closed gate, and opens the gate.
 pub(crate) fn put_record<F: Files>(files: &mut F, gate: u64, bytes: &[u8]) -> Result<(), FileFault>
     requires { gate + 1 < 2 ^ 64 }
     ensures stays { F.known files.old → F.known files.new }
@@ -84,7 +84,7 @@ fn mark<F: Files>(files: &mut F, gates: &[u64]) -> Result<(), FileFault>
     Ok(())
 }
 
-// Makes batches durable, those behind these gates, which are all that aren't.
+// Makes batches durable, those after these gates, which are all that aren't.
 pub(crate) fn flush_gates<F: Files>(files: &mut F, rest: &[u64]) -> Result<(), FileFault>
     ensures stays { F.known files.old → F.known files.new }
     ensures others { F.known files.old → SameUnits (F.seen files.old) (F.seen files.new) }

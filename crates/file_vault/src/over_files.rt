@@ -30,13 +30,13 @@ pub struct FileVault<F: Files + Drop> {
     pub(crate) boot: [u8; 16],
     // The places of the gates of the journal's batches.
     pub(crate) gates: Vec<u64>,
-    // The place of the closed gate behind them.
+    // The place of the closed gate after them.
     pub(crate) end: u64,
     // How many batches are durable.
     pub(crate) durable: usize,
     // The journal's file failed.
     pub(crate) broken: bool,
-    // A batch's bytes, and these behind their length and before a closed gate.
+    // A batch's bytes, and these after their length and before a closed gate.
     pub(crate) body: Vec<u8>,
     pub(crate) record: Vec<u8>,
     ghost end_is: { (4096 ≤ end) × (end ≤ 2 ^ 62) },

@@ -21,7 +21,7 @@ use extents::DRIVES;
 use std::alloc::Global;
 use vault::{TABLE, VaultError};
 
-// Makes all batches durable that a killed process left. They lie behind open gates, and the gate behind them is closed.
+// Makes all batches durable that a killed process left. They lie after open gates, and the gate after them is closed.
 fn keep_all<F: Files>(files: &mut F, chain: &Chain) -> Result<(), FileFault>
     ensures stays { F.known files.old → F.known files.new }
     ensures others { F.known files.old → SameUnits (F.seen files.old) (F.seen files.new) }
@@ -38,7 +38,7 @@ fn keep_all<F: Files>(files: &mut F, chain: &Chain) -> Result<(), FileFault>
     flush_gates(files, &chain.gates[chain.marked..])
 }
 
-// Closes the gate behind the durable batches that a loss of power left, and makes that durable.
+// Closes the gate after the durable batches that a loss of power left, and makes that durable.
 fn close_end<F: Files>(files: &mut F, end: u64) -> Result<(), FileFault>
     ensures stays { F.known files.old → F.known files.new }
     ensures others { F.known files.old → SameUnits (F.seen files.old) (F.seen files.new) }
