@@ -41,6 +41,7 @@ faults:
 
 mutants:
 	@.ci/mutants
+	@.ci/file_mutants
 
 bench:
 	@python3 bench/all.py
