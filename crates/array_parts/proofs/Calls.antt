@@ -1,15 +1,16 @@
 -- What calls of the drives leave, stated over the parts as plain data.
-use Rattle.std.proofs.Common.{◌≡◌, ◌≢◌, ℕ, Bool, Option, Some, None, List, ◌++◌, ◌-◌, length, take, drop, inl, inr, sym, ◌∙◌, ap, subst, ◌+◌, true}
+use Rattle.std.proofs.Common.{arith, ◌≡◌, ◌≢◌, ℕ, Bool, Option, Some, None, List, ◌++◌, ◌-◌, length, take, drop, inl, inr, sym, ◌∙◌, ap, subst, ◌+◌, true}
 use Rattle.std.specs.Prelude.{replicate}
 use Rattle.std.proofs.Math.Seq.{take-length}
-use Rattle.std.proofs.lemmas.List.{length-drop, take_at}
+use Rattle.std.proofs.lemmas.List.{drop-replicate, length-drop, take_at}
 use Rattle.std.proofs.lemmas.Option.{none-some}
 use Rattle.extents.specs.Failures.{Failures}
 use Rattle.extents.proofs.Failures.{counts_more, steady_more}
 use Rattle.extents.specs.declared.header.Header.{Header}
-use Rattle.extents.specs.declared.header.Header.TheVariants.{Blank}
+use Rattle.extents.specs.declared.header.Header.TheVariants.{Blank, Is}
 use Rattle.extents.specs.declared.header.Kind.{Kind}
 use Rattle.extents.specs.declared.header.Kind.TheVariants as kind
+use Rattle.map_join.specs.Record.{IsRecord}
 use Rattle.extents.specs.Header.{header_bytes, record_in, kind_in, IsHeader}
 use Rattle.extents.proofs.Headers.{length-header_bytes}
 use Rattle.extent_groups.specs.Groups.{Groups}
@@ -19,7 +20,7 @@ use Rattle.extent_groups.specs.Units.{Site, Pair, InStripe}
 use Rattle.extent_groups.specs.Stores.{unit_of, AreSound, KeepsUnits, Wrote}
 use Rattle.extent_groups.proofs.Places.{same_or_not}
 use Rattle.flat_machine.specs.declared.refusal.Refusal.{Refusal}
-use Rattle.flat_machine.specs.Flat.{Stored, Trim, content_under, content_in, waiting_unit, put}
+use Rattle.flat_machine.specs.Flat.{Content, Stored, Trim, content_under, content_in, waiting_unit, put}
 use Rattle.flat_machine.specs.Steps.{Seen, Data, Stale}
 use Rattle.flat_machine.specs.Cases.{Fares, IsSeen}
 use Rattle.map_join.specs.declared.records.Record.{Record}
@@ -27,7 +28,7 @@ use Rattle.array_parts.specs.declared.parts.Parts.{Parts}
 use Rattle.array_parts.specs.Losses.{AllFare, KeepsTables}
 use Rattle.array_parts.specs.Shows.{IsUnit, ShowsUnits}
 use Rattle.array_parts.specs.Slots.{cells_in, missing_in, TellsGone}
-use Rattle.array_parts.specs.Views.{PartsView, view_of, lost_of, Shows, IsLost, DrivesFare, SameTables, KeepsBytes, KeepsOtherBytes, bytes_at, Loses, FoundGone, WasPut, WasCopied, WasCarried, WasNotCarried, WasRead, SawUnit}
+use Rattle.array_parts.specs.Views.{PartsView, placed_unit, view_of, lost_of, Shows, IsLost, DrivesFare, SameTables, KeepsBytes, KeepsOtherBytes, bytes_at, Loses, FoundGone, WasPut, WasCopiedAs, WasCarried, WasNotCarried, WasRead, SawUnit}
 use Rattle.array_parts.proofs.Shows.{shows_kept, shows_wrote, unit_of_header, zero_unit}
 use Rattle.array_parts.proofs.Views.{view_cells, view_lost, view_fares}
 
@@ -298,13 +299,30 @@ pub waits_trim : (bytes : List ℕ) (size : ℕ) (u : Stored) → length bytes �
 waits_trim bytes size u long told =
     subst (λ k. IsUnit (replicate (length bytes) 0) (waiting_unit size (content_under k u.payload))) told (subst (λ n. IsUnit (replicate n 0) (waiting_unit size Trim)) (sym long) (zero_unit size))
 
--- a slot was read, and what it holds was written where it waits
-pub was_copied : {D : Type 0} (units : D → List (List ℕ)) (lost : D → Bool) (failures : D → Failures) (p m q : Parts D) (from to size : ℕ) (told : Kind) (read written : List ℕ)
+-- and the bytes of one that was committed: its record's header, followed by the payload, or by zeros for a trim
+pub placed_data : (r : Record) (bytes : List ℕ) (size : ℕ) (u : Stored) → IsRecord r → IsUnit bytes u → kind.Data ≡ kind_in u.header
+    → IsUnit (header_bytes (Is r kind.Data) ++ drop 32 bytes) (placed_unit r size (content_in u))
+placed_data r bytes size u ok is told =
+    subst (λ k. IsUnit (header_bytes (Is r kind.Data) ++ drop 32 bytes) (placed_unit r size (content_under k u.payload))) told (restamped bytes u (Is r kind.Data) ok is)
+
+pub zeros_under : (header : Header) (n size : ℕ) → IsHeader header → n ≡ 32 + size → IsUnit (header_bytes header ++ drop 32 (replicate n 0)) (record { header = header; payload = replicate size 0 })
+zeros_under header n size ok long = subst (λ rest. IsUnit (header_bytes header ++ rest) (record { header = header; payload = replicate size 0 })) (sym zeros) (unit_of_header header (replicate size 0) ok)
+  where
+    zeros : drop {A = ℕ} 32 (replicate n 0) ≡ replicate size 0
+    zeros = drop-replicate 32 n 0 ∙ ap (λ m. replicate m 0) (omega (arith, long))
+
+pub placed_trim : (r : Record) (bytes : List ℕ) (size : ℕ) (u : Stored) → IsRecord r → length bytes ≡ 32 + size → kind.Trim ≡ kind_in u.header
+    → IsUnit (header_bytes (Is r kind.Trim) ++ drop 32 (replicate (length bytes) 0)) (placed_unit r size (content_in u))
+placed_trim r bytes size u ok long told =
+    subst (λ k. IsUnit (header_bytes (Is r kind.Trim) ++ drop 32 (replicate (length bytes) 0)) (placed_unit r size (content_under k u.payload))) told (zeros_under (Is r kind.Trim) (length bytes) size ok long)
+
+-- a slot was read, and what it holds was written as a unit that was made of it
+pub was_copied : {D : Type 0} (made : ℕ → Content → Stored) (units : D → List (List ℕ)) (lost : D → Bool) (failures : D → Failures) (p m q : Parts D) (from to size : ℕ) (told : Kind) (read written : List ℕ)
     → Loses (view_of units lost failures p) (view_of units lost failures m) → unit_of m.groups (cells_in units lost m) from ≡ Some read → (IsGone m.groups (missing_in lost m) from → ⊥)
-    → size ≡ p.groups.payload → ((u : Stored) → IsUnit read u → (told ≡ kind_in u.header) × IsUnit written (waiting_unit size (content_in u)))
+    → size ≡ p.groups.payload → ((u : Stored) → IsUnit read u → (told ≡ kind_in u.header) × IsUnit written (made size (content_in u)))
     → KeepsTables m q → AllFare lost failures m.drives.items q.drives.items → Wrote m.groups (cells_in units lost m) (cells_in units lost q) to written → (IsGone q.groups (missing_in lost q) to → ⊥)
-    → WasCopied (view_of units lost failures p) (view_of units lost failures q) from to told
-was_copied units lost failures p m q from to size told read written loses e there long waits tables fares wrote target = record {
+    → WasCopiedAs made (view_of units lost failures p) (view_of units lost failures q) from to told
+was_copied made units lost failures p m q from to size told read written loses e there long waits tables fares wrote target = record {
   others = read_others units lost failures p m q to written loses tables wrote;
   fares = fares_more (view_of units lost failures p) (view_of units lost failures m) (view_of units lost failures q) loses.fares (view_fares units lost failures m q fares);
   source = source_there units lost failures p m from loses there;
@@ -316,8 +334,8 @@ was_copied units lost failures p m q from to size told read written loses e ther
         u.0,
         u.1,
         w.0,
-        wrote_shows units lost failures m q to written (waiting_unit p.groups.payload (content_in u.0)) f tables wrote
-            (subst (λ n. IsUnit written (waiting_unit n (content_in u.0))) long w.1) mid,
+        wrote_shows units lost failures m q to written (made p.groups.payload (content_in u.0)) f tables wrote
+            (subst (λ n. IsUnit written (made n (content_in u.0))) long w.1) mid,
       ));
   rest = tables_more (view_of units lost failures p) (view_of units lost failures m) (view_of units lost failures q) loses.rest (same_tables units lost failures m q tables);
 }

@@ -19,7 +19,7 @@ use Rattle.flat_machine.specs.declared.refusal.Refusal.{Refusal}
 use Rattle.flat_machine.specs.declared.refusal.Refusal.TheVariants.{Gone}
 use Rattle.flat_machine.specs.Groups.{ArePresent}
 use Rattle.flat_machine.specs.Moves.{without_group, IsBeyondOf}
-use Rattle.flat_machine.specs.Flat.{Stored, Content, content_under, content_in, waiting_unit, put}
+use Rattle.flat_machine.specs.Flat.{Stored, Content, content_under, content_in, bytes_of, header_for, waiting_unit, put}
 use Rattle.flat_machine.specs.Steps.{Seen, Data, Stale}
 use Rattle.flat_machine.specs.Cases.{IsSeen, wiped}
 use Rattle.array_parts.specs.declared.parts.Parts.{Parts}
@@ -134,15 +134,26 @@ pub record WasCarried (a b : PartsView) (from to : ℕ) (header : Header) : Type
   pub shows : (units : ℕ → Option Stored) → Shows a units → (u : Stored) × (units from ≡ Some u) × Shows b (put units to (Some (record u { header = header })))
   pub rest : SameTables a b
 
--- a slot's unit was read, and what it holds, of this kind, was written to a slot where it waits
-pub record WasCopied (a b : PartsView) (from to : ℕ) (told : Kind) : Type 0 where
+-- the unit of a content that was committed with a record, given how many bytes a payload has
+abbrev pub placed_unit : Record → ℕ → Content → Stored
+placed_unit r size content = record { header = header_for r content; payload = bytes_of size content }
+
+-- a slot's unit was read, and what it holds, of this kind, was written to a slot as the unit that `made` says
+pub record WasCopiedAs (made : ℕ → Content → Stored) (a b : PartsView) (from to : ℕ) (told : Kind) : Type 0 where
   pub others : KeepsOtherBytes a b to
   pub fares : DrivesFare a b
   pub source : IsLost a from → ⊥
   pub target : IsLost b to → ⊥
   pub shows : (units : ℕ → Option Stored) → Shows a units
-      → (u : Stored) × (units from ≡ Some u) × (told ≡ kind_in u.header) × Shows b (put units to (Some (waiting_unit a.groups.payload (content_in u))))
+      → (u : Stored) × (units from ≡ Some u) × (told ≡ kind_in u.header) × Shows b (put units to (Some (made a.groups.payload (content_in u))))
   pub rest : SameTables a b
+
+-- it waits there, or lies there under the record of its commit
+abbrev pub WasCopied : PartsView → PartsView → ℕ → ℕ → Kind → Type 0
+WasCopied a b from to told = WasCopiedAs waiting_unit a b from to told
+
+abbrev pub WasMoved : Record → PartsView → PartsView → ℕ → ℕ → Kind → Type 0
+WasMoved r a b from to told = WasCopiedAs (placed_unit r) a b from to told
 
 -- it wasn't: the first slot is gone, or it wasn't and the second is
 abbrev pub WasNotCarried : PartsView → PartsView → ℕ → ℕ → Refusal → Type 0

@@ -1,76 +1,20 @@
-// Writing a slot's unit: from a payload, as a trim, or from the unit of a slot under another header.
+// Writing a slot's unit from the unit of a slot, under another header.
 ghost use Rattle.std.specs.Prelude.{◌≡◌, ◌*◌, length, OnOk, IfOk, IfErr};
 ghost use Rattle.extents.specs.Header.{IsHeader};
+ghost use Rattle.map_join.specs.Record.{IsRecord};
 ghost use Rattle.extent_groups.specs.Stores.{unit_bytes};
-ghost use Rattle.flat_machine.specs.Flat.{Payload, Trim, waiting_unit};
 ghost use Rattle.array_parts.specs.Fit.{IsFit};
 ghost use Rattle.array_parts.specs.Slots.{IsSlot};
-ghost use Rattle.array_parts.specs.Views.{view_of, FoundGone, WasPut, WasCopied, WasCarried, WasNotCarried};
+ghost use Rattle.array_parts.specs.Views.{view_of, WasCopied, WasMoved, WasCarried, WasNotCarried};
 
 use crate::Parts;
-use crate::unit::{clear, join, make_wait, put_header};
+use crate::unit::{make_placed, make_wait, put_header};
 use extent_groups::{Class, SLOTS};
 use extents::{Drive, HEADER_BYTES, Header, Kind};
 use flat_machine::Refusal;
+use map_join::Record;
 
 impl<D: Drive> Parts<D> {
-    /// Writes a payload under a blank header into a slot of either class. Takes a buffer of a unit's length and one of two
-    /// units'.
-    pub fn put(
-        &mut self,
-        slot: u16,
-        payload: &[u8],
-        unit: &mut [u8],
-        scratch: &mut [u8],
-    ) -> Result<(), Refusal>
-        requires fit { IsFit D.units self.old }
-        requires slot { IsSlot self.old.groups slot }
-        requires payload { length payload.now ≡ self.old.groups.payload }
-        requires unit { length unit.old ≡ unit_bytes self.old.groups }
-        requires scratch { length scratch.old ≡ 2 * unit_bytes self.old.groups }
-        ensures ok { OnOk result (WasPut (view_of D.units D.lost D.failures self.old) (view_of D.units D.lost D.failures self.new) slot
-            (waiting_unit self.old.groups.payload (Payload payload.now))) }
-        ensures err { IfErr result (FoundGone (view_of D.units D.lost D.failures self.old) (view_of D.units D.lost D.failures self.new) slot) }
-        ensures fit { IsFit D.units self.new }
-    {
-        let header = Header::Blank.encode();
-        if let Some(Class::Mirrored) = self.groups.class_of(slot / SLOTS) {
-            let drives: &mut [D] = &mut self.drives;
-            return mirrored_store::write_gathered(
-                &self.groups,
-                drives,
-                slot,
-                &header,
-                payload,
-                unit,
-            ).ok()
-                .ok_or(Refusal::Gone(slot));
-        }
-        join(unit, &header, payload);
-        self.write(slot, unit, scratch)
-    }
-
-    /// Writes a unit that waits to be a trim: a blank header and a payload of zeros. Takes a buffer of a unit's length and one
-    /// of two units'.
-    pub fn put_trim(
-        &mut self,
-        slot: u16,
-        unit: &mut [u8],
-        scratch: &mut [u8],
-    ) -> Result<(), Refusal>
-        requires fit { IsFit D.units self.old }
-        requires slot { IsSlot self.old.groups slot }
-        requires unit { length unit.old ≡ unit_bytes self.old.groups }
-        requires scratch { length scratch.old ≡ 2 * unit_bytes self.old.groups }
-        ensures ok { OnOk result (WasPut (view_of D.units D.lost D.failures self.old) (view_of D.units D.lost D.failures self.new) slot
-            (waiting_unit self.old.groups.payload Trim)) }
-        ensures err { IfErr result (FoundGone (view_of D.units D.lost D.failures self.old) (view_of D.units D.lost D.failures self.new) slot) }
-        ensures fit { IsFit D.units self.new }
-    {
-        clear(unit);
-        self.write(slot, unit, scratch)
-    }
-
     /// Writes what a slot holds into another slot, where it waits under a blank header, and returns its kind. Takes a buffer
     /// of a unit's length and one of two units'.
     pub fn copy(
@@ -93,6 +37,36 @@ impl<D: Drive> Parts<D> {
             return Err(refusal);
         }
         let kind = make_wait(unit);
+        match self.write(to, unit, scratch) {
+            Ok(()) => Ok(kind),
+            Err(refusal) => Err(refusal),
+        }
+    }
+
+    /// Writes what a slot holds into another slot under the record of its commit, and returns its kind. Takes a buffer of a unit's
+    /// length and one of two units'.
+    pub fn copy_under(
+        &mut self,
+        from: u16,
+        to: u16,
+        stamp: Record,
+        unit: &mut [u8],
+        scratch: &mut [u8],
+    ) -> Result<Kind, Refusal>
+        requires fit { IsFit D.units self.old }
+        requires from { IsSlot self.old.groups from }
+        requires to { IsSlot self.old.groups to }
+        requires stamp { IsRecord stamp }
+        requires unit { length unit.old ≡ unit_bytes self.old.groups }
+        requires scratch { length scratch.old ≡ 2 * unit_bytes self.old.groups }
+        ensures ok { IfOk result (WasMoved stamp (view_of D.units D.lost D.failures self.old) (view_of D.units D.lost D.failures self.new) from to) }
+        ensures err { IfErr result (WasNotCarried (view_of D.units D.lost D.failures self.old) (view_of D.units D.lost D.failures self.new) from to) }
+        ensures fit { IsFit D.units self.new }
+    {
+        if let Err(refusal) = self.read(from, unit, scratch) {
+            return Err(refusal);
+        }
+        let kind = make_placed(unit, stamp);
         match self.write(to, unit, scratch) {
             Ok(()) => Ok(kind),
             Err(refusal) => Err(refusal),

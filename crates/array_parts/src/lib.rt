@@ -4,6 +4,7 @@
 mod add;
 mod carry;
 mod enter;
+mod fresh;
 mod gone;
 mod make;
 mod memory;

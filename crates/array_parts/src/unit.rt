@@ -2,10 +2,13 @@
 ghost use Rattle.std.specs.Prelude.{◌≡◌, ◌+◌, ◌-◌, ◌≤◌, ◌++◌, length, drop, replicate};
 ghost use Rattle.extents.specs.Header.{header_bytes, kind_in};
 ghost use Rattle.extents.specs.declared.shape.TheConstants.{HEADER_BYTES};
+ghost use Rattle.map_join.specs.Record.{IsRecord};
 ghost use Rattle.array_parts.specs.Shows.{IsUnit};
+ghost use Rattle.array_parts.specs.Views.{placed_unit};
 ghost use Rattle.flat_machine.specs.Flat.{Stored, content_in, waiting_unit};
 
 use extents::{HEADER_BYTES, Header, Kind};
+use map_join::Record;
 
 // Puts a header before the payload that is there.
 pub(crate) fn put_header(unit: &mut [u8], header: &Header)
@@ -47,6 +50,25 @@ pub(crate) fn make_wait(unit: &mut [u8]) -> Kind
     match kind {
         Kind::Data => put_header(unit, &Header::Blank),
         Kind::Trim => clear(unit),
+    }
+    kind
+}
+
+// Turns the unit into one that was committed under the record: that record's header, and zeros as the payload if it was a trim.
+// Returns the kind that it had.
+pub(crate) fn make_placed(unit: &mut [u8], stamp: Record) -> Kind
+    requires unit { HEADER_BYTES ≤ length unit.old }
+    requires stamp { IsRecord stamp }
+    ensures { (u : Stored) → IsUnit unit.old u
+        → (result ≡ kind_in u.header) × IsUnit unit.new (placed_unit stamp (length unit.old - HEADER_BYTES) (content_in u)) }
+{
+    let kind = Header::kind_at_front(unit);
+    match kind {
+        Kind::Data => put_header(unit, &Header::Is(stamp, Kind::Data)),
+        Kind::Trim => {
+            clear(unit);
+            put_header(unit, &Header::Is(stamp, Kind::Trim));
+        }
     }
     kind
 }

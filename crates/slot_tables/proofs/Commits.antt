@@ -229,8 +229,16 @@ key_set keys r inside above block = go (cases_eq block r.block)
         let now : get_or (set keys r.block (key_of r)) block 0 ≡ get_or keys block 0 = get_or-set_other keys r.block block (key_of r) 0 ne in
         omega arith
 
+-- an array's tables and its map are a flat state's, whatever its drives show
+pub record HasTables (a : ArrayView) (F : Flat) : Type 0 where
+  pub history : IsHistory F (key_at a)
+  pub tables : InTables a F
+
+pub tables_of : (a : ArrayView) (F : Flat) → ShowsArray a F → HasTables a F
+tables_of a F shows = record { history = shows.history; tables = shows.tables }
+
 -- the map of a log that grows by a commit's record is the table's
-pub commit_map : (a : ArrayView) (F : Flat) (b : ℕ) (found : Option Record) (r : Record) (s : ℕ) → ShowsArray a F → IsWhole a → r.block ≡ b → b < a.parts.groups.blocks → key_at a b < key_of r
+pub commit_map : (a : ArrayView) (F : Flat) (b : ℕ) (found : Option Record) (r : Record) (s : ℕ) → HasTables a F → IsWhole a → r.block ≡ b → b < a.parts.groups.blocks → key_at a b < key_of r
     → IsMapOf (F.emitted ++ r ∷ []) (key_at (commit_view a s b found r))
 commit_map a F b found r s shows whole is inside above =
     took F.emitted r (key_at a) (key_at (commit_view a s b found r))
@@ -244,7 +252,7 @@ commit_map a F b found r s shows whole is inside above =
 
 -- the tables after a commit are the state's after it, with the drives of the parts then
 pub commit_tables : (a : ArrayView) (p : PartsView) (F : Flat) (w s b : ℕ) (writes : List Write) (x : Content) (r : Record) → s < 65536 → is_waiting (kept_at a s) ≡ true
-    → SameTables a.parts p → DrivesFare a.parts p → IsWhole a → ShowsArray a F → Passes IsArrays F w s b (record_at b (key_at a b))
+    → SameTables a.parts p → DrivesFare a.parts p → IsWhole a → HasTables a F → Passes IsArrays F w s b (record_at b (key_at a b))
     → InTables (commit_view (with_parts a p) s b (record_at b (key_at a b)) r) (fared (committed F w s b (record_at b (key_at a b)) writes x r) p)
 commit_tables a p F w s b writes x r inside waits same fares whole shows passes = record {
   groups = shows.tables.groups ∙ sym same.groups;

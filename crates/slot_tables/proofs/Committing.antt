@@ -27,7 +27,7 @@ use Rattle.slot_tables.proofs.Slots.{shows_after}
 use Rattle.slot_tables.proofs.Kepts.{waiting_made, ticket_held, unticketed, waiting_kept}
 use Rattle.slot_tables.proofs.Wholes.{slot_of_class}
 use Rattle.array_parts.specs.Slots.{IsSlot}
-use Rattle.slot_tables.proofs.Commits.{commit_map, commit_tables, commit_units}
+use Rattle.slot_tables.proofs.Commits.{tables_of, commit_map, commit_tables, commit_units}
 
 -- neither of two reasons is given
 or_none : {X : Type 0} (o p : Option X) → or_else o p ≡ None → (o ≡ None) × (p ≡ None)
@@ -35,7 +35,7 @@ or_none None p e = (refl, e)
 or_none (Some x) p e = absurd (cc)
 
 -- what follows where a reason is not given
-room_left : (a : ArrayView) → full_reason a ≡ None → length a.log < longest_log
+pub room_left : (a : ArrayView) → full_reason a ≡ None → length a.log < longest_log
 room_left a none = go (nat_le longest_log (length a.log)) refl none
   where
     go : (q : Bool) → nat_le longest_log (length a.log) ≡ q → cond q (Some LogFull) None ≡ None → length a.log < longest_log
@@ -57,7 +57,7 @@ pub record IsStamped (q : Record) (b : ℕ) (found : Option Record) : Type 0 whe
   pub version : newest.version ≡ q.version
   pub hop : newest.hop ≡ q.hop
 
-stamp_left : (q : Record) (b : ℕ) (found : Option Record) → stamp_reason q b found ≡ None → IsStamped q b found
+pub stamp_left : (q : Record) (b : ℕ) (found : Option Record) → stamp_reason q b found ≡ None → IsStamped q b found
 stamp_left q b None none = absurd (cc)
 stamp_left q b (Some n) none = go (q.block == b) refl (n.version == q.version) refl (n.hop == q.hop) refl none
   where
@@ -100,7 +100,7 @@ version_bound b key small = go (sizes key)
     go (inl less) = let n : next_version (record_at b key) ≡ 1 = ap next_version (untold_at b key less) in omega arith
     go (inr big) = let n : next_version (record_at b key) ≡ key / 2 ^ 32 + 1 = ap next_version (told_at b key big) in omega arith
 
-version_most : (a : ArrayView) (b : ℕ) → IsWhole a → version_reason (record_at b (key_at a b)) ≡ None → next_version (record_at b (key_at a b)) ≤ last_version
+pub version_most : (a : ArrayView) (b : ℕ) → IsWhole a → version_reason (record_at b (key_at a b)) ≡ None → next_version (record_at b (key_at a b)) ≤ last_version
 version_most a b whole none =
     let most = version_bound b (key_at a b) (whole.fit b) in
     let apart = version_left (record_at b (key_at a b)) none in
@@ -172,9 +172,9 @@ carried a p F w s b c x v h writes whole inside block waits was shows ready case
   shows_after a (commit_view (with_parts a p) s b (record_at b (key_at a b)) (emitted_by b s v h)) F
       (fared (committed F w s b (record_at b (key_at a b)) writes x (emitted_by b s v h)) p)
       (Commit w s b) (Committed (emitted_by b s v h)) shows (in_blocks a F b shows block) case
-      (commit_map a F b (record_at b (key_at a b)) (emitted_by b s v h) s shows whole refl block above)
+      (commit_map a F b (record_at b (key_at a b)) (emitted_by b s v h) s (tables_of a F shows) whole refl block above)
       (commit_units p F w s b (record_at b (key_at a b)) writes x (emitted_by b s v h) u.0 u.1 u.2)
-      (commit_tables a p F w s b writes x (emitted_by b s v h) inside waits was.rest was.fares whole shows
+      (commit_tables a p F w s b writes x (emitted_by b s v h) inside waits was.rest was.fares whole (tables_of a F shows)
       (passed IsArrays F (key_at a) w s b (record_at b (key_at a b)) (λ t. (shows.history.holders t).once) (for_ticket w) (for_block b) shows.history (newest_told a F b shows) ready.mine)),
 )
   where

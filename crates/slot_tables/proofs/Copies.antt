@@ -67,7 +67,7 @@ pub copy_slot : (a : ArrayView) (s : ℕ) (r : Record) → copy_reason a s (Some
 copy_slot a s r none = slot_of_class a.parts.groups s (can_copy a s r none).class
 
 -- the kind of what a unit holds
-kind_told : (u : Stored) → kind_in u.header ≡ kind_of (content_in u)
+pub kind_told : (u : Stored) → kind_in u.header ≡ kind_of (content_in u)
 kind_told u = go (kind_in u.header)
   where
     go : (k : Kind) → k ≡ kind_of (content_under k u.payload)

@@ -6,6 +6,7 @@ pub mod Slots
 pub mod Finds
 pub mod Fills
 pub mod Copies
+pub mod AtOnce
 pub mod Discards
 pub mod Commits
 pub mod Committing

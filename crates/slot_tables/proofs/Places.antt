@@ -126,3 +126,11 @@ pub set_twice : {X : Type 0} (xs : List X) (s : ℕ) (x y : X) → set (set xs s
 set_twice [] s x y = refl
 set_twice (z ∷ xs) zero x y = refl
 set_twice (z ∷ xs) (suc s) x y = ap (λ t. z ∷ t) (set_twice xs s x y)
+
+-- and changes at two places are the same in either order
+pub set_apart : {X : Type 0} (xs : List X) (s t : ℕ) (x y : X) → (s ≡ t → ⊥) → set (set xs s x) t y ≡ set (set xs t y) s x
+set_apart [] s t x y apart = refl
+set_apart (z ∷ xs) zero zero x y apart = absurd (apart refl)
+set_apart (z ∷ xs) zero (suc t) x y apart = refl
+set_apart (z ∷ xs) (suc s) zero x y apart = refl
+set_apart (z ∷ xs) (suc s) (suc t) x y apart = ap (λ l. z ∷ l) (set_apart xs s t x y (λ e. apart (ap suc e)))

@@ -9,3 +9,4 @@ pub mod Counted
 pub mod New
 pub mod Claims
 pub mod Shut
+pub mod AtOnce

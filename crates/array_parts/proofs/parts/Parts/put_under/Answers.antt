@@ -1,8 +1,7 @@
 use Rattle.std.proofs.Common.{refl, sym, subst, ap, ◌∙◌, ◌++◌}
 use Rattle.std.specs.Prelude.{ok_or}
 use Rattle.std.proofs.lemmas.Result.{on_ok_weaker, IfErr-weaker}
-use Rattle.extents.specs.declared.header.Header.TheVariants.{Blank}
-use Rattle.flat_machine.specs.Flat.{Payload, waiting_unit}
+use Rattle.flat_machine.specs.Flat.{Stored}
 use Rattle.flat_machine.specs.declared.refusal.Refusal.TheVariants.{Gone}
 use Rattle.array_parts.specs.Shows.{IsUnit}
 use Rattle.array_parts.proofs.Shows.{unit_of_header}
@@ -12,16 +11,16 @@ use Rattle.extent_groups.specs.Cells.{cells}
 use Rattle.extent_groups.specs.Stores.{Wrote}
 use Rattle.array_parts.specs.Losses.{AllFare}
 use Rattle.array_parts.specs.Slots.{cells_in}
-use Rattle.array_parts.proofs.parts.Parts.put.Given as given
-use Rattle.array_parts.proofs.parts.Parts.put.Goals as goal
-use Rattle.array_parts.proofs.parts.Parts.put.Goals.{After-write_gathered}
+use Rattle.array_parts.proofs.parts.Parts.put_under.Given as given
+use Rattle.array_parts.proofs.parts.Parts.put_under.Goals as goal
+use Rattle.array_parts.proofs.parts.Parts.put_under.Goals.{After-write_gathered}
 
 pub returns-clause-ok : goal.returns-clause-ok
 returns-clause-ok g c =
     on_ok_weaker c.write.result
-    (λ holds. was_put g.D.Drive.units g.D.Drive.lost g.D.Drive.failures c.args.self.now c.write.new.self c.args.slot c.join.new.unit (waiting_unit c.args.self.now.groups.payload (Payload c.args.payload.now))
+    (λ holds. was_put g.D.Drive.units g.D.Drive.lost g.D.Drive.failures c.args.self.now c.write.new.self c.args.slot c.join.new.unit (record { header = c.args.header.now; payload = c.args.payload.now })
     c.write.ensures.tables c.write.ensures.drives.fares c.write.ensures.wrote
-    (subst (λ b. IsUnit b (waiting_unit c.args.self.now.groups.payload (Payload c.args.payload.now))) (sym (c.join.ensures ∙ ap (λ b. b ++ c.args.payload.now) c.encode-header.ensures.bytes)) (unit_of_header Blank c.args.payload.now tt)) holds.there)
+    (subst (λ b. IsUnit b (record { header = c.args.header.now; payload = c.args.payload.now })) (sym (c.join.ensures ∙ ap (λ b. b ++ c.args.payload.now) c.encode-header.ensures.bytes)) (unit_of_header c.args.header.now c.args.payload.now c.requires.header)) holds.there)
     c.write.ensures.ok
 
 pub returns-clause-err : goal.returns-clause-err
@@ -44,11 +43,11 @@ fares g c = fares_back c.args.self.now.drives c.deref_mut-drives.result.now c.wr
 pub returns-in-Some-Mirrored-clause-ok : goal.returns-in-Some-Mirrored-clause-ok
 returns-in-Some-Mirrored-clause-ok g c =
     let now = (goal.at.returns-in-Some-Mirrored-clause-ok g c).After-write_gathered in
-    let unit = waiting_unit c.args.self.now.groups.payload (Payload c.args.payload.now) in
+    let unit : Stored = record { header = c.args.header.now; payload = c.args.payload.now } in
     on_ok_weaker c.ok_or.result
     (λ holds. was_put g.D.Drive.units g.D.Drive.lost g.D.Drive.failures c.args.self.now (lent_back c.args.self.now c.write_gathered.new.drives) c.args.slot (c.encode-header.result ++ c.args.payload.now) unit
     (record { shape = refl; groups = refl; extents = refl; note = refl }) (fares g now) (wrote g now)
-    (subst (λ b. IsUnit (b ++ c.args.payload.now) unit) (sym c.encode-header.ensures.bytes) (unit_of_header Blank c.args.payload.now tt)) holds.there)
+    (subst (λ b. IsUnit (b ++ c.args.payload.now) unit) (sym c.encode-header.ensures.bytes) (unit_of_header c.args.header.now c.args.payload.now c.requires.header)) holds.there)
     (holds_told g.D.Drive.units g.D.Drive.lost c.args.self.now c.deref_mut-drives.result.now c.write_gathered.new.drives c.args.slot _ c.write_gathered.result c.ok_or.result
     (c.ok_or.ensures.value ∙ ap (λ o. ok_or o (Gone c.args.slot)) c.ok.ensures.value) c.deref_mut-drives.ensures.value c.write_gathered.ensures.touched.many c.requires.fit.groups c.write_gathered.ensures.drives c.write_gathered.ensures.ok)
 
