@@ -19,6 +19,7 @@ use Rattle.flat_machine.proofs.Passing.{Passes, passed_on}
 use Rattle.flat_machine.proofs.Slots.{block_waits}
 use Rattle.slot_tables.specs.Changes.{commit_view, passed}
 use Rattle.slot_tables.specs.Views.{Kept, Nothing, Moving, Newest, Unmade, is_waiting, ArrayView, with_parts, kept_at, key_at, IsWhole}
+use Rattle.flat_machine.specs.History.{IsHistory}
 use Rattle.slot_tables.specs.Represents.{ArraySlot, InTables, ShowsArray}
 use Rattle.slot_tables.proofs.Fares.{fared}
 use Rattle.slot_tables.proofs.Slots.{block_slot, worker_slot, slot_same, one_slot}

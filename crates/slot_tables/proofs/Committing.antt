@@ -35,7 +35,7 @@ or_none None p e = (refl, e)
 or_none (Some x) p e = absurd (cc)
 
 -- what follows where a reason is not given
-pub room_left : (a : ArrayView) → full_reason a ≡ None → length a.log < longest_log
+room_left : (a : ArrayView) → full_reason a ≡ None → length a.log < longest_log
 room_left a none = go (nat_le longest_log (length a.log)) refl none
   where
     go : (q : Bool) → nat_le longest_log (length a.log) ≡ q → cond q (Some LogFull) None ≡ None → length a.log < longest_log
@@ -57,7 +57,7 @@ pub record IsStamped (q : Record) (b : ℕ) (found : Option Record) : Type 0 whe
   pub version : newest.version ≡ q.version
   pub hop : newest.hop ≡ q.hop
 
-pub stamp_left : (q : Record) (b : ℕ) (found : Option Record) → stamp_reason q b found ≡ None → IsStamped q b found
+stamp_left : (q : Record) (b : ℕ) (found : Option Record) → stamp_reason q b found ≡ None → IsStamped q b found
 stamp_left q b None none = absurd (cc)
 stamp_left q b (Some n) none = go (q.block == b) refl (n.version == q.version) refl (n.hop == q.hop) refl none
   where
@@ -107,7 +107,7 @@ version_most a b whole none =
     omega arith
 
 -- the record that a commit emits is in range
-fresh_ok : (a : ArrayView) (s b : ℕ) → IsWhole a → s < 65536 → b < a.parts.groups.blocks → version_reason (record_at b (key_at a b)) ≡ None
+pub fresh_ok : (a : ArrayView) (s b : ℕ) → IsWhole a → s < 65536 → b < a.parts.groups.blocks → version_reason (record_at b (key_at a b)) ≡ None
     → IsRecord (emitted_by b s (next_version (record_at b (key_at a b))) 0)
 fresh_ok a s b whole inside block none =
     let n = whole.blocks in
@@ -155,10 +155,10 @@ IsCommit a p F w s b v h =
 abbrev IsStampedTo : ArrayView → PartsView → ℕ → ℕ → ℕ → ℕ → Kind → Type 0
 IsStampedTo a p s b v h k = WasCarried a.parts p s s (Is (emitted_by b s v h) k)
 
-short : (a : ArrayView) (F : Flat) → ShowsArray a F → full_reason a ≡ None → length F.emitted < longest_log
+pub short : (a : ArrayView) (F : Flat) → ShowsArray a F → full_reason a ≡ None → length F.emitted < longest_log
 short a F shows none = subst (λ (l : List Record). length l < longest_log) (sym shows.tables.log) (room_left a none)
 
-in_blocks : (a : ArrayView) (F : Flat) (b : ℕ) → ShowsArray a F → b < a.parts.groups.blocks → b < F.groups.blocks
+pub in_blocks : (a : ArrayView) (F : Flat) (b : ℕ) → ShowsArray a F → b < a.parts.groups.blocks → b < F.groups.blocks
 in_blocks a F b shows block = subst (λ (z : Groups). b < z.blocks) (sym shows.tables.groups) block
 
 -- what is ready to be committed, and is the flat machine's case, is

@@ -11,10 +11,10 @@ use Rattle.extent_groups.specs.declared.class.Class.{Class}
 use Rattle.extent_groups.specs.Groups.{Groups}
 use Rattle.array_parts.specs.Slots.{IsSlot}
 use Rattle.extent_groups.specs.Stores.{AreDrives}
-use Rattle.array_parts.specs.Views.{PartsView, Shows, WasCopied, WasNotCarried, drive_units}
+use Rattle.array_parts.specs.Views.{PartsView, Shows, WasCopied, WasCopiedAs, WasNotCarried, drive_units}
 use Rattle.flat_machine.specs.declared.refusal.Refusal.{Refusal}
 use Rattle.flat_machine.specs.Groups.{class_at}
-use Rattle.flat_machine.specs.Flat.{Flat, Write, Worker, Moved, Stored, content_under, content_in, kind_of, waiting_unit, put, IsNewest, class_of, last_write}
+use Rattle.flat_machine.specs.Flat.{Flat, Write, Content, Worker, Moved, Stored, content_under, content_in, kind_of, waiting_unit, put, IsNewest, class_of, last_write}
 use Rattle.flat_machine.specs.Steps.{Copy, Copied, Refused}
 use Rattle.flat_machine.specs.Cases.{CopyCase, CopyPasses, ticketed, last_hop}
 use Rattle.slot_tables.specs.Changes.{copy_view, copy_reason, copy_reason_of, MayRefuse}
@@ -51,7 +51,7 @@ can_copy a s r none = go (class_at a.parts.groups s) refl (kept_at a s) refl non
     go None is_c k is_k e = absurd (cc)
 
 -- an array is whole after a copy
-pub copy_whole : (a : ArrayView) (v : PartsView) (s : ℕ) (r : Record) (k : Kind) → s < 65536 → WasCopied a.parts v r.place s k → copy_reason a s (Some r) ≡ None
+pub copy_whole : {made : ℕ → Content → Stored} (a : ArrayView) (v : PartsView) (s : ℕ) (r : Record) (k : Kind) → s < 65536 → WasCopiedAs made a.parts v r.place s k → copy_reason a s (Some r) ≡ None
     → AreDrives drive_units v.groups v.drives → IsWhole a → IsWhole (copy_view (with_parts a v) s r k)
 copy_whole a v s r k inside was none drives whole =
     wait_whole (with_parts a v) s (Moving r k) inside can.free refl moves (subst (λ (g : Groups). class_at g s ≢ None) (sym was.rest.groups) can.class)
