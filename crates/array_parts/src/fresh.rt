@@ -3,7 +3,7 @@ ghost use Rattle.std.specs.Prelude.{◌≡◌, ◌*◌, length, replicate, OnOk,
 ghost use Rattle.extents.specs.Header.{IsHeader};
 ghost use Rattle.map_join.specs.Record.{IsRecord};
 ghost use Rattle.extent_groups.specs.Stores.{unit_bytes};
-ghost use Rattle.flat_machine.specs.Flat.{Payload, Trim, content_under, waiting_unit};
+ghost use Rattle.flat_machine.specs.Flat.{IsSized, Payload, Trim, content_under, waiting_unit};
 ghost use Rattle.array_parts.specs.Fit.{IsFit};
 ghost use Rattle.array_parts.specs.Slots.{IsSlot};
 ghost use Rattle.array_parts.specs.Views.{view_of, placed_unit, FoundGone, WasPut};
@@ -120,7 +120,8 @@ impl<D: Drive> Parts<D> {
     }
 
     /// Writes a payload, or zeros for a trim, under the record of its commit: what `put` or `put_trim` and then `carry` with that
-    /// header leave, in one write. Takes a buffer of a unit's length and one of two units'.
+    /// header leave, in one write. A trim's payload isn't looked at. Takes a buffer of a
+    /// unit's length and one of two units'.
     pub fn put_placed(
         &mut self,
         slot: u16,
@@ -133,7 +134,7 @@ impl<D: Drive> Parts<D> {
         requires fit { IsFit D.units self.old }
         requires slot { IsSlot self.old.groups slot }
         requires stamp { IsRecord stamp }
-        requires payload { length payload.now ≡ self.old.groups.payload }
+        requires payload { IsSized self.old.groups.payload (content_under kind payload.now) }
         requires unit { length unit.old ≡ unit_bytes self.old.groups }
         requires scratch { length scratch.old ≡ 2 * unit_bytes self.old.groups }
         ensures ok { OnOk result (WasPut (view_of D.units D.lost D.failures self.old) (view_of D.units D.lost D.failures self.new) slot

@@ -1,5 +1,5 @@
 -- What a refused call leaves of an array.
-use Rattle.std.specs.Prelude.{◌≡◌}
+use Rattle.std.specs.Prelude.{◌≡◌, Option, Some, None}
 use Rattle.flat_machine.specs.declared.refusal.Refusal.{Refusal}
 use Rattle.flat_machine.specs.declared.refusal.Refusal.TheVariants.{Gone, DriveLost}
 use Rattle.array_parts.specs.Views.{Loses}
@@ -18,3 +18,8 @@ abbrev pub IsRefused : ArrayView → ArrayView → Refusal → Type 0
 IsRefused a b (Gone slot) = OnlyLoses a b
 IsRefused a b (DriveLost drive) = OnlyLoses a b
 IsRefused a b _ = b ≡ a
+
+-- the same where there may be no refusal: then the array is as it was
+abbrev pub IsUnplaced : ArrayView → ArrayView → Option Refusal → Type 0
+IsUnplaced a b None = b ≡ a
+IsUnplaced a b (Some q) = IsRefused a b q

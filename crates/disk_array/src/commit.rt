@@ -30,7 +30,7 @@ use std::marker::Model;
 /// The greatest version of a block, and the longest log.
 const LAST_VERSION: u32 = 4_294_967_295;
 
-const LONGEST_LOG: usize = 4_294_967_295;
+pub(crate) const LONGEST_LOG: usize = 4_294_967_295;
 
 /// The record of a commit that was acknowledged. It can't be cloned, and a commit alone makes one.
 #[derive(Debug, Drop)]
@@ -47,7 +47,7 @@ impl Model for Emitted {
 }
 
 impl Emitted {
-    fn of(told: Record) -> Emitted
+    pub(crate) fn of(told: Record) -> Emitted
         ensures { result ≡ told }
     {
         Emitted { record: told }
@@ -159,7 +159,7 @@ impl<D: Drive, C: Hold> Array<D, C> {
 }
 
 // Takes out the claim of a block's last place, if it had one.
-fn let_go<C: Hold>(
+pub(crate) fn let_go<C: Hold>(
     places: &mut Vec<SlotState<C>>,
     live: &mut [u16; GROUPS],
     block: u32,
@@ -209,7 +209,7 @@ fn keep_newest<C: Hold>(
 }
 
 // The record of a fresh write: the next version of the block.
-fn written(block: u32, slot: u16, found: Option<Record>) -> Result<Record, Refusal>
+pub(crate) fn written(block: u32, slot: u16, found: Option<Record>) -> Result<Record, Refusal>
     ensures ok { IfOk result (λ next. (version_reason found ≡ None)
         × (next ≡ record { block = block; version = next_version found; hop = 0; place = slot })) }
     ensures err { IfErr result (λ refusal. version_reason found ≡ Some refusal) }

@@ -18,6 +18,7 @@ mod live;
 mod make;
 mod memory;
 mod outside;
+mod place;
 mod plan;
 mod read;
 mod reading;
