@@ -2,6 +2,7 @@ pub mod Adopters
 pub mod Resting
 pub mod Shortening
 pub mod Ready
+pub mod Placed
 pub mod UnitReads
 pub mod Living
 pub mod Uncounted

@@ -1,6 +1,6 @@
 // A content goes into a slot under the record of its commit, in one write: nobody calls the array between the fill or the copy and
 // the commit.
-ghost use Rattle.std.specs.Prelude.{◌≡◌, ◌≢◌, ℕ, ◌+◌, ◌×◌, ◌<◌};
+ghost use Rattle.std.specs.Prelude.{◌≡◌, ◌≢◌, ℕ, ◌+◌, ◌<◌};
 ghost use Rattle.std.specs.Prelude.{vec_len, slice_index_or, slice_set, MatchResult, IfOk, IfErr, IfSome, true, Some, None};
 ghost use Rattle.std.specs.Option.{ForSome};
 ghost use Rattle.map_join.specs.Record.{record_at};

@@ -34,23 +34,27 @@ pub some_is : {X : Type 0} (x y : X) → Some x ≡ Some y → x ≡ y
 some_is x y e = same_Some x y e
 
 -- the newest place of a block is kept for it
-pub old_place : (a : ArrayView) (s b : ℕ) → IsWhole a → is_waiting (kept_at a s) ≡ true → IsOld a s b (record_at b (key_at a b))
-old_place a s b whole waits = record { apart = apart; kept = kept }
+pub place_kept : (a : ArrayView) (b : ℕ) → IsWhole a → (r : Record) → record_at b (key_at a b) ≡ Some r → kept_at a r.place ≡ Newest b
+place_kept a b whole r is = kept_so (sizes (key_at a b))
   where
     sizes : (k : ℕ) → (k < 2 ^ 32) ⊎ (2 ^ 32 ≤ k)
     sizes k = grind arith
 
-    kept_so : (r : Record) → record_at b (key_at a b) ≡ Some r → (key_at a b < 2 ^ 32) ⊎ (2 ^ 32 ≤ key_at a b) → kept_at a r.place ≡ Newest b
-    kept_so r is (inl small) = let no : None ≡ Some r = sym (untold_at b (key_at a b) small) ∙ is in absurd (cc)
-    kept_so r is (inr big) =
+    kept_so : (key_at a b < 2 ^ 32) ⊎ (2 ^ 32 ≤ key_at a b) → kept_at a r.place ≡ Newest b
+    kept_so (inl small) = let no : None ≡ Some r = sym (untold_at b (key_at a b) small) ∙ is in absurd (cc)
+    kept_so (inr big) =
         let same : record_of b (key_at a b) ≡ r = some_is _ _ (sym (told_at b (key_at a b) big) ∙ is) in
         ap (λ (q : Record). kept_at a q.place) (sym same) ∙ whole.newest b (omega arith)
 
-    kept : (r : Record) → record_at b (key_at a b) ≡ Some r → kept_at a r.place ≡ Newest b
-    kept r is = kept_so r is (sizes (key_at a b))
-
+-- and it isn't a slot that waits, nor one of which nothing is kept
+pub old_place : (a : ArrayView) (s b : ℕ) → IsWhole a → is_waiting (kept_at a s) ≡ true → IsOld a s b (record_at b (key_at a b))
+old_place a s b whole waits = record { apart = apart; kept = place_kept a b whole }
+  where
     apart : (r : Record) → record_at b (key_at a b) ≡ Some r → r.place ≡ s → ⊥
-    apart r is e = waiting_newest (kept_at a s) b waits (sym (ap (kept_at a) e) ∙ kept r is)
+    apart r is e = waiting_newest (kept_at a s) b waits (sym (ap (kept_at a) e) ∙ place_kept a b whole r is)
+
+pub place_apart : (a : ArrayView) (s b : ℕ) → IsWhole a → kept_at a s ≡ Nothing → (r : Record) → record_at b (key_at a b) ≡ Some r → r.place ≡ s → ⊥
+place_apart a s b whole free r is e = let bad : Newest b ≡ Nothing = sym (place_kept a b whole r is) ∙ ap (kept_at a) e ∙ free in absurd (cc)
 
 -- what is kept after a commit
 pub kept_here : (a : ArrayView) (s b : ℕ) (found : Option Record) (r : Record) → s < length a.kept → kept_at (commit_view a s b found r) s ≡ Newest b

@@ -1,0 +1,1 @@
+use Rattle.disk_array.proofs.array.Array.place_copy.Goals as goal
