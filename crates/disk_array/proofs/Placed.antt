@@ -1,17 +1,22 @@
 -- What an array shows once a content was put into a slot and committed in one write.
-use Rattle.std.proofs.Common.{◌≡◌, ℕ, List, [], ◌∷◌, ◌++◌, refl, ap, sym, ◌∙◌, subst, Option, Some}
+use Rattle.std.proofs.Common.{◌≡◌, ℕ, ◌≤◌, Bool, true, false, cond, nat_le, length, inl, inr, arith, None, List, [], ◌∷◌, ◌++◌, refl, ap, sym, ◌∙◌, subst, Option, Some}
 use Rattle.std.proofs.Math.ListN.{set}
+use Rattle.std.proofs.lemmas.Bool.Decides.{nat_tests}
 use Rattle.map_join.specs.declared.records.Record.{Record}
 use Rattle.map_join.specs.Record.{key_of}
-use Rattle.array_parts.specs.Views.{PartsView}
+use Rattle.array_parts.specs.Views.{PartsView, FoundGone, WasNotCarried}
+use Rattle.flat_machine.specs.Cases.{longest_log}
+use Rattle.flat_machine.specs.declared.refusal.Refusal.{Refusal}
+use Rattle.flat_machine.specs.declared.refusal.Refusal.TheVariants.{LogFull}
 use Rattle.extents.specs.declared.header.Kind.{Kind}
 use Rattle.extents.specs.declared.header.Kind.TheVariants as kind
 use Rattle.flat_machine.specs.Flat.{Flat, kind_of, content_under}
 use Rattle.flat_machine.specs.Steps.{FlatStep, FlatAnswer}
 use Rattle.slot_tables.specs.AtOnce.{ArePutAtOnce}
-use Rattle.slot_tables.specs.Changes.{wait_view, commit_view, passed}
+use Rattle.slot_tables.specs.Changes.{wait_view, commit_view, full_reason, passed}
 use Rattle.slot_tables.specs.Views.{ArrayView, Kept, Newest, with_parts}
 use Rattle.slot_tables.proofs.AtOnce.{at_once_kept}
+use Rattle.disk_array.specs.Refused.{IsRefused}
 
 abbrev pub shown : PartsView → List Record → List ℕ → List Kept → ArrayView
 shown v log keys kept = record { parts = v; log = log; keys = keys; kept = kept }
@@ -32,3 +37,19 @@ as_put F step answer w s b q r y x told shown put = subst (λ n. ArePutAtOnce F 
 pub kind_back : (k : Kind) (payload : List ℕ) → kind_of (content_under k payload) ≡ k
 kind_back kind.Data payload = refl
 kind_back kind.Trim payload = refl
+
+-- a copy that the drives refused
+gone_refused : (a y : ArrayView) (v : PartsView) (s : ℕ) (q : Refusal) → y ≡ with_parts a v → FoundGone a.parts v s q → IsRefused a y q
+gone_refused a y v s q is gone = subst (λ z. IsRefused a z q) (sym is) (subst (IsRefused a (with_parts a v)) (sym gone.told) (refl, gone.loses))
+
+pub uncarried_refused : (a y : ArrayView) (v : PartsView) (from to : ℕ) (q : Refusal) → y ≡ with_parts a v → WasNotCarried a.parts v from to q → IsRefused a y q
+uncarried_refused a y v from to q is (inl gone) = gone_refused a y v from q is gone
+uncarried_refused a y v from to q is (inr gone) = gone_refused a y v to q is gone.1
+
+-- the log isn't full
+pub not_full : (a : ArrayView) → (longest_log ≤ length a.log → ⊥) → full_reason a ≡ None
+not_full a short = go (nat_le longest_log (length a.log)) refl
+  where
+    go : (b : Bool) → nat_le longest_log (length a.log) ≡ b → full_reason a ≡ None
+    go true is = absurd (short (grind (arith, nat_tests)))
+    go false is = ap (λ b. cond b (Some LogFull) None) is
