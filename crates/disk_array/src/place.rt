@@ -48,6 +48,7 @@ impl<D: Drive, C: Hold> Array<D, C> {
             × IsPlaceOf C.names done.old (record_at block (key_at self.old block))
             × WasPut self.old.parts self.new.parts (C.names claim) (placed_unit done.emitted self.old.parts.groups.payload (content_under kind payload.now))) }
         ensures err { IfErr result (λ e. (e.1 ≡ claim) × IsUnplaced self.old self.new e.0) }
+        ensures memory { IfErr result (λ e. e.0 ≢ Some Refusal.Memory) }
         ensures flat { (F : Flat) (w : ℕ) → ShowsArray self.old F → F.held (C.names claim) (Worker w) ≡ true
             → MatchResult result
             (λ done. ArePutAtOnce F (say.Fill w (C.names claim) (content_under kind payload.now)) (say.Filled (C.names claim)) w (C.names claim) block done.emitted self.new)
@@ -98,6 +99,7 @@ impl<D: Drive, C: Hold> Array<D, C> {
             × IsPlaceOf C.names done.old (Some q)
             × WasMoved done.emitted self.old.parts self.new.parts q.place (C.names claim) k) }
         ensures err { IfErr result (λ e. (e.1 ≡ claim) × IsUnplaced self.old self.new e.0) }
+        ensures memory { IfErr result (λ e. e.0 ≢ Some Refusal.Memory) }
         ensures flat { (F : Flat) (w : ℕ) → ShowsArray self.old F → F.held (C.names claim) (Worker w) ≡ true
             → MatchResult result
             (λ done. ArePutAtOnce F (say.Copy w (C.names claim) block) (say.Copied (C.names claim)) w (C.names claim) block done.emitted self.new)

@@ -1,6 +1,6 @@
 -- A block is put into a free slot: what each of the array's calls leaves of the world. The hands in between are those of a worker
 -- that does the steps one by one; before the first and after the last nobody has the slots in hand.
-use Rattle.std.proofs.Common.{◌≡◌, ◌≢◌, ℕ, ◌<◌, Bool, true, List, ◌∷◌, length, refl, sym, ap, ◌∙◌, subst, arith, inl, inr, Option, Some, None, Result, Ok, Err, MatchResult, IfOk, IfErr}
+use Rattle.std.proofs.Common.{◌≡◌, ◌≢◌, ℕ, ◌<◌, Bool, true, false, not, ◌&&◌, ◌||◌, List, ◌∷◌, length, refl, sym, ap, ◌∙◌, subst, arith, inl, inr, Option, Some, None, Result, Ok, Err, MatchResult, IfOk, IfErr, IfSome, Unit}
 use Rattle.std.proofs.Math.ListN.{set}
 use Rattle.std.proofs.lemmas.List.{length-set, get_or-set_same, get_or-set_other, set-get_or}
 use Rattle.map_join.specs.declared.records.Record.{Record}
@@ -8,33 +8,37 @@ use Rattle.map_join.specs.Record.{record_at}
 use Rattle.extent_groups.specs.Groups.{Groups}
 use Rattle.flat_machine.specs.declared.refusal.Refusal.{Refusal}
 use Rattle.flat_machine.specs.declared.refusal.Refusal.TheVariants.{Memory, Gone, DriveLost}
-use Rattle.flat_machine.specs.Flat.{Flat, Content, Stored, Holder, Worker, Ticket, Block, IsNewest}
+use Rattle.flat_machine.specs.Flat.{Flat, Content, Stored, Holder, Worker, Ticket, Block, IsNewest, same_holder, turned}
 use Rattle.flat_machine.specs.Steps.{Claimed, Released, Committed, Discarded, Refused, Claim, Commit}
 use Rattle.flat_machine.specs.Steps as step
 use Rattle.flat_machine.specs.Cases.{Case, Runs, IsWanted, ClaimCase, FillCase, CopyCase, CommitCase, DiscardCase, ReleaseCase}
 use Rattle.flat_machine.specs.History.{IsStep}
 use Rattle.flat_machine.proofs.Newest.{place_small}
 use Rattle.flat_machine.proofs.Holding.{once_any}
-use Rattle.flat_machine.proofs.Pairs.{Any, IsOnce, equal}
+use Rattle.flat_machine.proofs.Pairs.{Any, IsOnce, equal, itself, turned_here}
 use Rattle.flat_machine.proofs.Passing.{Passes, passed}
 use Rattle.slot_tables.specs.declared.hand.Hand.{Hand}
 use Rattle.slot_tables.specs.declared.hand.Hand.TheVariants.{Empty, Holds, Waits}
 use Rattle.slot_tables.specs.Changes.{IsPlaceOf, MayRefuse, passed_hands, fill_view, copy_view}
-use Rattle.disk_array.specs.Refused.{IsRefused}
+use Rattle.disk_array.specs.Refused.{IsRefused, IsUnplaced}
 use Rattle.extents.specs.declared.header.Kind.{Kind}
 use Rattle.array_parts.specs.Views.{WasPut, WasCopied}
-use Rattle.slot_tables.specs.Views.{Kept, ArrayView, WorldView, kept_at, hand_at, key_at, has_no_holder, with_parts}
+use Rattle.slot_tables.specs.Views.{Kept, ArrayView, WorldView, kept_at, hand_at, key_at, has_no_holder, with_parts, SameSizes}
 use Rattle.slot_tables.specs.Represents.{HandSlot, ShowsArray, Represents, is_claim, is_ticket}
 use Rattle.slot_tables.proofs.Hands.{claim_case, release_case, with_hand}
-use Rattle.slot_tables.proofs.Newest.{newest_told}
+use Rattle.flat_machine.proofs.Newest as flat
+use Rattle.flat_machine.proofs.Keeps.{step_keeps}
+use Rattle.flat_machine.proofs.Holding.{step_holds}
+use Rattle.map_join.specs.Maps.{IsMapOf}
+use Rattle.slot_tables.specs.AtOnce.{ArePutAtOnce}
 use Rattle.slot_tables.proofs.Places.{set_twice}
 use Rattle.step_core.specs.declared.place.NotPlaced.TheVariants as denied
 use Rattle.step_core.specs.declared.place.Given.{Given}
 use Rattle.step_core.specs.declared.place.Given.TheVariants as given
 use Rattle.step_core.specs.declared.claimed.What.{What}
 use Rattle.step_core.specs.declared.claimed.What.TheVariants as what
-use Rattle.step_core.specs.Placing.{Put, Fresh, Again, IsPlaced, IsSizedFor, IsStill, IsWhatFor, Places, PutTells, block_for, place_of, put_for, put_of, what_of, put_step, put_answer, back_steps, back_answers}
-use Rattle.step_core.proofs.Worlds.{fill_world, copy_world, commit_world, discard_world, refused_world}
+use Rattle.step_core.specs.Placing.{Put, Fresh, Again, IsPlaced, IsSizedFor, IsStill, IsWhatFor, Places, PutTells, Puts, PutsAtOnce, Denies, Commits, block_for, place_of, put_for, put_of, what_of, put_step, put_answer, back_steps, back_answers}
+use Rattle.step_core.proofs.Worlds.{Stands, stands_of, fill_hands, fill_world, copy_hands, copy_world, commit_stands, discard_world, refused_world}
 
 -- a slot that nobody holds is in nobody's hand
 pub free_hand : (k : Kept) (h : Hand) → has_no_holder k h ≡ true → h ≡ Empty
@@ -91,6 +95,26 @@ put_emits : (F G : Flat) (what : Put) (w s b : ℕ) → Case F (put_step what w 
 put_emits F G (Fresh x) w s b case = ap (λ (x : Flat). x.emitted) case.3.same
 put_emits F G Again w s b case = ap (λ (x : Flat). x.emitted) case.1.6.same
 
+put_groups : (F G : Flat) (what : Put) (w s b : ℕ) → Case F (put_step what w s b) (put_answer what s) G → G.groups ≡ F.groups
+put_groups F G (Fresh x) w s b case = ap (λ (x : Flat). x.groups) case.3.same
+put_groups F G Again w s b case = ap (λ (x : Flat). x.groups) case.1.6.same
+
+put_hands : (v : WorldView) (F G : Flat) (what : Put) (w s b : ℕ) → s < length v.hands → Represents v F → is_claim (hand_at v.hands s) w ≡ true
+    → Case F (put_step what w s b) (put_answer what s) G → (t : ℕ) → HandSlot (hand_at (set v.hands s (Waits w)) t) (G.held t)
+put_hands v F G (Fresh x) w s b inside rep held case = fill_hands v F G w s x inside rep held case
+put_hands v F G Again w s b inside rep held case = copy_hands v F G w s b inside rep held case
+
+-- the state that it leaves, though the array needn't show it
+put_stands : (v : WorldView) (F G : Flat) (what : Put) (w s b : ℕ) → s < length v.hands → IsStep F.groups (put_step what w s b) → Represents v F
+    → is_claim (hand_at v.hands s) w ≡ true → Case F (put_step what w s b) (put_answer what s) G → Stands (set v.hands s (Waits w)) v.array G
+put_stands v F G what w s b inside fits rep held case = record {
+  history = step_keeps F G (key_at v.array) (key_at v.array) (put_step what w s b) (put_answer what s) rep.array.history fits case
+      (subst (λ rs. IsMapOf rs (key_at v.array)) (sym (put_emits F G what w s b case)) rep.array.history.map);
+  groups = put_groups F G what w s b case ∙ rep.array.tables.groups;
+  held = step_holds F G (key_at v.array) (put_step what w s b) (put_answer what s) rep.array.history rep.held fits case;
+  hands = put_hands v F G what w s b inside rep held case;
+}
+
 -- the hands while the slot is claimed, and while it waits
 abbrev claimed_hands : WorldView → ℕ → ℕ → List Hand
 claimed_hands v w s = set v.hands s (Holds w)
@@ -137,15 +161,6 @@ claimed v F what w s b ready rep = record {
     hand : is_claim (hand_at (claimed_hands v w s) s) w ≡ true
     hand = holds_it v.hands s w inside
 
--- what an array says of a fill or a copy that it carried out, and of one that it refused
-abbrev pub Puts : ArrayView → ArrayView → Put → ℕ → ℕ → Type 0
-Puts a e what s b =
-    (F : Flat) (w : ℕ) → ShowsArray a F → F.held s (Worker w) ≡ true → (G : Flat) × (Case F (put_step what w s b) (put_answer what s) G) × (ShowsArray e G)
-
-abbrev pub Denies : ArrayView → ArrayView → Put → ℕ → ℕ → Refusal → Type 0
-Denies a e what s b r = (F : Flat) (w : ℕ) → ShowsArray a F → F.held s (Worker w) ≡ true
-    → MayRefuse r (Unit {0}) ((G : Flat) × (Case F (put_step what w s b) (Refused r) G) × (ShowsArray e G))
-
 -- the state in which the slot waits
 record IsWaiting (v : WorldView) (F : Flat) (a : ArrayView) (what : Put) (w s b : ℕ) : Type 0 where
   before : IsClaimed v F what w s b
@@ -187,11 +202,30 @@ waited : (v : WorldView) (w s : ℕ) (h : Hand) → hand_at v.hands s ≡ Empty 
 waited v w s h empty =
     set_twice (waiting_hands v w s) s h Empty ∙ set_twice (claimed_hands v w s) s (Waits w) Empty ∙ hand_back v.hands s (Holds w) empty
 
+-- the same, of an array that needn't show it: this one has its keys
+record IsBetween (v : WorldView) (F : Flat) (a : ArrayView) (what : Put) (w s b : ℕ) : Type 0 where
+  before : IsClaimed v F what w s b
+  state : Flat
+  put : Case before.state (put_step what w s b) (put_answer what s) state
+  stands : Stands (waiting_hands v w s) a state
+  hand : is_ticket (hand_at (waiting_hands v w s) s) w ≡ true
+  emitted : state.emitted ≡ F.emitted
+
+between : (v : WorldView) (F : Flat) (a : ArrayView) (what : Put) (w s b : ℕ) → IsWaiting v F a what w s b → IsBetween v F a what w s b
+between v F a what w s b x = record {
+  before = x.before;
+  state = x.state;
+  put = x.put;
+  stands = stands_of (record { array = a; hands = waiting_hands v w s }) x.state x.stands;
+  hand = x.hand;
+  emitted = x.emitted;
+}
+
 -- a commit that was carried out: the old place is released, if the block had one
-pub places : (v : WorldView) (F : Flat) (a e : ArrayView) (what : Put) (w s b : ℕ) (r : Record) → IsOpen v what s b → b < a.parts.groups.blocks → Represents v F → Puts v.array a what s b
-    → ((H : Flat) (u : ℕ) → ShowsArray a H → H.held s (Ticket u) ≡ true → (G : Flat) × (CommitCase H u s b (Committed r) G) × (ShowsArray e G))
+commits_then : (v : WorldView) (F : Flat) (a e : ArrayView) (what : Put) (w s b : ℕ) (r : Record) → IsOpen v what s b → b < a.parts.groups.blocks
+    → (x : IsBetween v F a what w s b) → (G : Flat) × (CommitCase x.state w s b (Committed r) G) × (ShowsArray e G)
     → (G : Flat) × ((is : IsPlaced F w s b what r G) × (is.old ≡ record_at b (key_at a b))) × (Represents (record { array = e; hands = v.hands }) G)
-places v F a e what w s b r ready block rep puts commits = (
+commits_then v F a e what w s b r ready block x commits = (
   g.0,
   (
     record {
@@ -204,9 +238,6 @@ places v F a e what w s b r ready block rep puts commits = (
   g.2,
 )
   where
-    x : IsWaiting v F a what w s b
-    x = waiting v F a what w s b ready rep puts
-
     hands : List Hand
     hands = waiting_hands v w s
 
@@ -217,16 +248,16 @@ places v F a e what w s b r ready block rep puts commits = (
     found = record_at b (key_at a b)
 
     newest : IsNewest x.state.emitted b found
-    newest = newest_told a x.state b x.stands.array
+    newest = flat.newest_told x.state.emitted (key_at a) b x.stands.history.records x.stands.history.map
 
     there : b < x.state.groups.blocks
-    there = subst (λ (z : Groups). b < z.blocks) (sym x.stands.array.tables.groups) block
+    there = subst (λ (z : Groups). b < z.blocks) (sym x.stands.groups) block
 
     c : (G : Flat) × (CommitCase x.state w s b (Committed r) G) × (Represents (record { array = e; hands = passed_hands hands s w found }) G)
-    c = commit_world (record { array = a; hands = hands }) x.state w s b r e ready.small there long x.stands x.hand (commits x.state w x.stands.array x.held)
+    c = commit_stands hands a x.state w s b r e ready.small there long x.stands x.hand commits
 
     passes : Passes Any x.state w s b found
-    passes = passed Any x.state (key_at a) w s b found (once_any x.state x.stands.held) tt tt x.stands.array.history newest x.held
+    passes = passed Any x.state (key_at a) w s b found (once_any x.state x.stands.held) tt tt x.stands.history newest ((x.stands.hands s).tickets w ∙ x.hand)
 
     none : set hands s Empty ≡ v.hands
     none = set_twice (claimed_hands v w s) s (Waits w) Empty ∙ hand_back v.hands s (Holds w) (empty_of v what s b ready)
@@ -253,6 +284,37 @@ places v F a e what w s b r ready block rep puts commits = (
 
     g : (G : Flat) × (Runs c.0 (back_steps w found) (back_answers found) G) × (Represents (record { array = e; hands = v.hands }) G)
     g = back found refl c.2
+
+pub places : (v : WorldView) (F : Flat) (a e : ArrayView) (what : Put) (w s b : ℕ) (r : Record) → IsOpen v what s b → b < a.parts.groups.blocks → Represents v F → Puts v.array a what s b
+    → ((H : Flat) (u : ℕ) → ShowsArray a H → H.held s (Ticket u) ≡ true → (G : Flat) × (CommitCase H u s b (Committed r) G) × (ShowsArray e G))
+    → (G : Flat) × ((is : IsPlaced F w s b what r G) × (is.old ≡ record_at b (key_at a b))) × (Represents (record { array = e; hands = v.hands }) G)
+places v F a e what w s b r ready block rep puts commits =
+    let x = waiting v F a what w s b ready rep puts in
+    commits_then v F a e what w s b r ready block (between v F a what w s b x) (commits x.state w x.stands.array x.held)
+
+-- a put and its commit in one write
+pub places_at_once : (v : WorldView) (F : Flat) (e : ArrayView) (what : Put) (w s b : ℕ) (r : Record) → IsOpen v what s b → Represents v F → PutsAtOnce v.array e what s b r
+    → (G : Flat) × ((is : IsPlaced F w s b what r G) × (is.old ≡ record_at b (key_at v.array b))) × (Represents (record { array = e; hands = v.hands }) G)
+places_at_once v F e what w s b r ready rep puts = commits_then v F v.array e what w s b r ready ready.block x (p.2.0, p.2.1, p.2.2)
+  where
+    c : IsClaimed v F what w s b
+    c = claimed v F what w s b ready rep
+
+    inside : s < length (claimed_hands v w s)
+    inside = below (length (claimed_hands v w s)) s (many v.hands s (Holds w) ready.long) ready.small
+
+    p : ArePutAtOnce c.state (put_step what w s b) (put_answer what s) w s b r e
+    p = puts c.state w c.stands.array c.held
+
+    x : IsBetween v F v.array what w s b
+    x = record {
+      before = c;
+      state = p.0;
+      put = p.1;
+      stands = put_stands (record { array = v.array; hands = claimed_hands v w s }) c.state p.0 what w s b inside c.fits c.stands c.hand p.1;
+      hand = waits_it (claimed_hands v w s) s w inside;
+      emitted = put_emits c.state p.0 what w s b p.1 ∙ ap (λ (x : Flat). x.emitted) c.claim.2.same;
+    }
 
 -- a fill or a copy that was refused: the claim is released
 pub refused_first : (v : WorldView) (F : Flat) (a : ArrayView) (what : Put) (w s b : ℕ) (r : Refusal) → IsOpen v what s b → Represents v F → Denies v.array a what s b r → r ≢ Memory
@@ -409,3 +471,49 @@ places_as names F v what w s b r n claim found left newest is_left at y = (
   where
     old : Option Record
     old = y.1.0.old
+
+-- what an array answers to a put together with its commit: where it isn't refused there may be no refusal to tell
+abbrev pub AtOnceTells : {T C : Type 0} → (T → Record) → Result T (Option Refusal × C) → Flat → ℕ → Put → ℕ → ℕ → ArrayView → Type 0
+AtOnceTells emitted r F w what s b a = MatchResult r
+    (λ done. ArePutAtOnce F (put_step what w s b) (put_answer what s) w s b (emitted done) a)
+    (λ e. IfSome e.0 (λ q. MayRefuse q (Unit {0}) ((G : Flat) × (Case F (put_step what w s b) (Refused q) G) × (ShowsArray a G))))
+
+pub less_told : {T C : Type 0} (A : T → Type 0) (W : Type 0) (P : Refusal → Type 0) (r : Result T (Option Refusal × C))
+    → MatchResult r A (λ e. IfSome e.0 (λ q. MayRefuse q W (P q))) → MatchResult r A (λ e. IfSome e.0 (λ q. MayRefuse q (Unit {0}) (P q)))
+less_told A W P (Ok t) y = y
+less_told A W P (Err e) y = less e.0 y
+  where
+    less : (o : Option Refusal) → IfSome o (λ q. MayRefuse q W (P q)) → IfSome o (λ q. MayRefuse q (Unit {0}) (P q))
+    less None y = y
+    less (Some q) y = may_less q W (P q) y
+
+-- an array in which a content was put at once, or wasn't, has the sizes that it had
+still_sizes : (a b : ArrayView) → IsStill a b → SameSizes a b
+still_sizes a b still = record { payload = ap (λ (z : Groups). z.payload) still.groups; blocks = ap (λ (z : Groups). z.blocks) still.groups }
+
+unplaced_sizes : (a b : ArrayView) (o : Option Refusal) → IsUnplaced a b o → SameSizes a b
+unplaced_sizes a b None is = record { payload = ap (λ (x : ArrayView). x.parts.groups.payload) is; blocks = ap (λ (x : ArrayView). x.parts.groups.blocks) is }
+unplaced_sizes a b (Some q) is = still_sizes a b (refused_still a b q is)
+
+pub placed_sizes : {T C : Type 0} (r : Result T (Option Refusal × C)) (a b : ArrayView) (A : T → Type 0) (B : C → Type 0) → ((t : T) → A t → b.parts.groups ≡ a.parts.groups)
+    → IfOk r A → IfErr r (λ e. B e.1 × IsUnplaced a b e.0) → SameSizes a b
+placed_sizes (Ok t) a b A B same ok err = record { payload = ap (λ (z : Groups). z.payload) (same t ok); blocks = ap (λ (z : Groups). z.blocks) (same t ok) }
+placed_sizes (Err e) a b A B same ok err = unplaced_sizes a b e.0 err.1
+
+-- whoever put something into a slot has its ticket
+or_true : (b : Bool) → (b || true) ≡ true
+or_true true = refl
+or_true false = refl
+
+turned_gets : (held : ℕ → Holder → Bool) (s : ℕ) (j k : Holder) → turned held s j k s k ≡ true
+turned_gets held s j k = turned_here held s j k k ∙ ap (λ b. (held s k && not (same_holder k j)) || b) (itself k) ∙ or_true (held s k && not (same_holder k j))
+
+put_held : (F M : Flat) (what : Put) (w s b : ℕ) → Case F (put_step what w s b) (put_answer what s) M → M.held s (Ticket w) ≡ true
+put_held F M (Fresh x) w s b case = ap (λ (z : Flat). z.held s (Ticket w)) case.3.same ∙ turned_gets F.held s (Worker w) (Ticket w)
+put_held F M Again w s b case = ap (λ (z : Flat). z.held s (Ticket w)) case.1.6.same ∙ turned_gets F.held s (Worker w) (Ticket w)
+
+-- a put and then a commit, one after the other, are both
+pub puts_then : (a m e : ArrayView) (what : Put) (s b : ℕ) (r : Record) → Puts a m what s b → Commits m e s b r → PutsAtOnce a e what s b r
+puts_then a m e what s b r puts commits F w shows held =
+    let p = puts F w shows held in
+    (p.0, p.1, commits p.0 w p.2 (λ _. put_held F p.0 what w s b p.1))

@@ -19,7 +19,7 @@ use Rattle.flat_machine.specs.Moves.{moved_to, with_fuse}
 use Rattle.flat_machine.specs.Steps.{FlatStep, FlatAnswer, Filled, Copied, Committed, Discarded, MadeGroup, MovedExtent, LostDrive, Refused, Fill, Copy, Commit, Discard, Make, Unmake, MoveExtent, AddDrive, Read, ReadAt, Lose}
 use Rattle.flat_machine.specs.Cases.{FillCase, CopyCase, ticketed, CommitCase, CommitWith, committed, DiscardCase, discarded, MakeCase, made, MoveCase, LoseCase, Case, Leaves, Fares}
 use Rattle.flat_machine.proofs.Keeps as flat
-use Rattle.flat_machine.proofs.Newest.{newest_unique, place_small}
+use Rattle.flat_machine.proofs.Newest.{newest_told, newest_unique, place_small}
 use Rattle.flat_machine.proofs.Pairs.{turned_else, turned_just, just_one, Any, equal_back}
 use Rattle.flat_machine.proofs.Passing.{Passes, passed, passed_on}
 use Rattle.slot_tables.specs.declared.hand.Hand.{Hand}
@@ -29,11 +29,10 @@ use Rattle.slot_tables.specs.declared.hold.Plain.{Plain}
 use Rattle.array_parts.specs.Views.{PartsView}
 use Rattle.slot_tables.specs.Views.{ArrayView, WorldView, with_parts, hand_at, key_at, SameSizes}
 use Rattle.slot_tables.specs.Represents.{HandSlot, InTables, ShowsArray, Represents, is_claim, is_ticket}
-use Rattle.slot_tables.proofs.Newest.{newest_told}
 use Rattle.slot_tables.proofs.Hands.{one_hand}
 use Rattle.slot_tables.proofs.Slots.{worker_hand, ticket_hand, block_hand, one_slot, shows_after}
 use Rattle.flat_machine.proofs.Holding.{step_holds, once_any}
-use Rattle.flat_machine.specs.History.{IsStep, AreHeld}
+use Rattle.flat_machine.specs.History.{IsHistory, IsStep, AreHeld}
 use Rattle.slot_tables.proofs.Places.{set_twice}
 use Rattle.disk_array.specs.Losing.{WasLost}
 use Rattle.step_core.specs.Passed.{given_old}
@@ -74,6 +73,17 @@ hands_passed old hands gone now s w claim found same out place is =
 pub block_there : (v : WorldView) (F : Flat) (b : ℕ) → Represents v F → b < v.array.parts.groups.blocks → b < F.groups.blocks
 block_there v F b rep inside = subst (λ (z : Groups). b < z.blocks) (sym rep.array.tables.groups) inside
 
+-- what a world says of a state that its array needn't show: what holds after any steps, with the array's keys as the map of the log,
+-- and in whose hands the slots are
+pub record Stands (hs : List Hand) (a : ArrayView) (F : Flat) : Type 0 where
+  pub history : IsHistory F (key_at a)
+  pub groups : F.groups ≡ a.parts.groups
+  pub held : AreHeld F
+  pub hands : (s : ℕ) → HandSlot (hand_at hs s) (F.held s)
+
+pub stands_of : (v : WorldView) (F : Flat) → Represents v F → Stands v.hands v.array F
+stands_of v F rep = record { history = rep.array.history; groups = rep.array.tables.groups; held = rep.held; hands = rep.hands }
+
 -- the hands of a state that another left
 hands_as : (hs : List Hand) (G E : Flat) → Leaves E G → ((t : ℕ) → HandSlot (hand_at hs t) (E.held t)) → (t : ℕ) → HandSlot (hand_at hs t) (G.held t)
 hands_as hs G E leaves hands t = subst (λ (H : Flat). HandSlot (hand_at hs t) (H.held t)) (sym leaves.same) (hands t)
@@ -91,6 +101,17 @@ discard_hands v F w s inside rep held =
     one_hand v F (discarded F w s) s (Holds w) inside rep.hands (λ t ne. turned_else F.held s (Ticket w) (Worker w) t ne)
     (worker_hand (turned F.held s (Ticket w) (Worker w) s) w (turned_just Any F.held s (Ticket w) (Worker w) (just_one Any (F.held s) (Ticket w) (once_any F rep.held s) tt held)))
 
+pub fill_hands : (v : WorldView) (F G : Flat) (w s : ℕ) (x : Content) → s < length v.hands → Represents v F → is_claim (hand_at v.hands s) w ≡ true → FillCase F w s x (Filled s) G
+    → (t : ℕ) → HandSlot (hand_at (set v.hands s (Waits w)) t) (G.held t)
+fill_hands v F G w s x inside rep held case =
+    hands_as (set v.hands s (Waits w)) G (ticketed F w s (Fresh x)) case.3 (ticket_hands v F w s (Fresh x) inside rep ((rep.hands s).claims w ∙ held))
+
+pub copy_hands : (v : WorldView) (F G : Flat) (w s b : ℕ) → s < length v.hands → Represents v F → is_claim (hand_at v.hands s) w ≡ true → CopyCase F w s b (Copied s) G
+    → (t : ℕ) → HandSlot (hand_at (set v.hands s (Waits w)) t) (G.held t)
+copy_hands v F G w s b inside rep held case =
+    let c : Waiting = Moved b case.1.0.version case.1.0.hop case.1.1.content in
+    hands_as (set v.hands s (Waits w)) G (ticketed F w s c) case.1.6 (ticket_hands v F w s c inside rep ((rep.hands s).claims w ∙ held))
+
 pub fill_world : (v : WorldView) (F : Flat) (w s : ℕ) (x : Content) (a : ArrayView) → s < length v.hands → IsStep F.groups (Fill w s x) → Represents v F → is_claim (hand_at v.hands s) w ≡ true
     → (t : ℕ) → t ≡ s → (G : Flat) × (FillCase F w t x (Filled t) G) × (ShowsArray a G)
     → (G : Flat) × (FillCase F w s x (Filled s) G) × (Represents (record { array = a; hands = set v.hands s (Waits w) }) G)
@@ -101,7 +122,7 @@ fill_world v F w s x a inside fits rep held t same z =
       record {
         array = y.2;
         held = step_holds F y.0 (key_at v.array) (Fill w s x) (Filled s) rep.array.history rep.held fits y.1;
-        hands = hands_as (set v.hands s (Waits w)) y.0 (ticketed F w s (Fresh x)) y.1.3 (ticket_hands v F w s (Fresh x) inside rep ((rep.hands s).claims w ∙ held));
+        hands = fill_hands v F y.0 w s x inside rep held y.1;
       },
     )
 
@@ -109,14 +130,13 @@ pub copy_world : (v : WorldView) (F : Flat) (w s b : ℕ) (a : ArrayView) → s 
     → (t : ℕ) → t ≡ s → (G : Flat) × (CopyCase F w t b (Copied t) G) × (ShowsArray a G)
     → (G : Flat) × (CopyCase F w s b (Copied s) G) × (Represents (record { array = a; hands = set v.hands s (Waits w) }) G)
 copy_world v F w s b a inside fits rep held t same z =
-    let y : (G : Flat) × (CopyCase F w s b (Copied s) G) × (ShowsArray a G) = subst (λ n. (G : Flat) × (CopyCase F w n b (Copied n) G) × (ShowsArray a G)) same z in
-    let c : Waiting = Moved b y.1.1.0.version y.1.1.0.hop y.1.1.1.content in (
+    let y : (G : Flat) × (CopyCase F w s b (Copied s) G) × (ShowsArray a G) = subst (λ n. (G : Flat) × (CopyCase F w n b (Copied n) G) × (ShowsArray a G)) same z in (
       y.0,
       y.1,
       record {
         array = y.2;
         held = step_holds F y.0 (key_at v.array) (Copy w s b) (Copied s) rep.array.history rep.held fits y.1;
-        hands = hands_as (set v.hands s (Waits w)) y.0 (ticketed F w s c) y.1.1.6 (ticket_hands v F w s c inside rep ((rep.hands s).claims w ∙ held));
+        hands = copy_hands v F y.0 w s b inside rep held y.1;
       },
     )
 
@@ -145,32 +165,32 @@ commit_leaves F G w s b found r all newest y =
     of (Some (Fresh x)) z = (_, x, z.4)
     of (Some (Moved d i h x)) z = (_, x, z.4)
 
-commit_hands : (v : WorldView) (F : Flat) (w s b : ℕ) (found : Option Record) → s < length v.hands → ((q : Record) → found ≡ Some q → q.place < length v.hands) → Represents v F → Passes Any F w s b found
-    → (t : ℕ) → HandSlot (hand_at (passed_hands v.hands s w found) t) (passed_on F w s b found t)
-commit_hands v F w s b found inside small rep passes = by found refl
+commit_hands : (hs : List Hand) (F : Flat) (w s b : ℕ) (found : Option Record) → s < length hs → ((q : Record) → found ≡ Some q → q.place < length hs) → ((t : ℕ) → HandSlot (hand_at hs t) (F.held t)) → Passes Any F w s b found
+    → (t : ℕ) → HandSlot (hand_at (passed_hands hs s w found) t) (passed_on F w s b found t)
+commit_hands hs F w s b found inside small hands passes = by found refl
   where
     P : ℕ → Type 0
-    P t = HandSlot (hand_at (passed_hands v.hands s w found) t) (passed_on F w s b found t)
+    P t = HandSlot (hand_at (passed_hands hs s w found) t) (passed_on F w s b found t)
 
-    here : (o : Option Record) → found ≡ o → hand_at (passed_hands v.hands s w o) s ≡ Empty
-    here None e = get_or-set_same v.hands s Empty Empty inside
-    here (Some q) e = get_or-set_other (set v.hands s Empty) q.place s (Holds w) Empty (λ n. passes.apart q e (sym n)) ∙ get_or-set_same v.hands s Empty Empty inside
+    here : (o : Option Record) → found ≡ o → hand_at (passed_hands hs s w o) s ≡ Empty
+    here None e = get_or-set_same hs s Empty Empty inside
+    here (Some q) e = get_or-set_other (set hs s Empty) q.place s (Holds w) Empty (λ n. passes.apart q e (sym n)) ∙ get_or-set_same hs s Empty Empty inside
 
-    rest : (o : Option Record) (t : ℕ) → found ≡ o → (t ≡ s → ⊥) → ((q : Record) → found ≡ Some q → t ≡ q.place → ⊥) → hand_at (passed_hands v.hands s w o) t ≡ hand_at v.hands t
-    rest None t e ne off = get_or-set_other v.hands s t Empty Empty ne
-    rest (Some q) t e ne off = get_or-set_other (set v.hands s Empty) q.place t (Holds w) Empty (off q e) ∙ get_or-set_other v.hands s t Empty Empty ne
+    rest : (o : Option Record) (t : ℕ) → found ≡ o → (t ≡ s → ⊥) → ((q : Record) → found ≡ Some q → t ≡ q.place → ⊥) → hand_at (passed_hands hs s w o) t ≡ hand_at hs t
+    rest None t e ne off = get_or-set_other hs s t Empty Empty ne
+    rest (Some q) t e ne off = get_or-set_other (set hs s Empty) q.place t (Holds w) Empty (off q e) ∙ get_or-set_other hs s t Empty Empty ne
 
     old : (q : Record) → found ≡ Some q → P q.place
     old q e =
         let low = small q e in
-        let room : length (set v.hands s Empty) ≡ length v.hands = length-set v.hands s Empty in
-        let is : hand_at (passed_hands v.hands s w found) q.place ≡ Holds w =
-        ap (λ o. hand_at (passed_hands v.hands s w o) q.place) e ∙ get_or-set_same (set v.hands s Empty) q.place (Holds w) Empty (omega arith)
+        let room : length (set hs s Empty) ≡ length hs = length-set hs s Empty in
+        let is : hand_at (passed_hands hs s w found) q.place ≡ Holds w =
+        ap (λ o. hand_at (passed_hands hs s w o) q.place) e ∙ get_or-set_same (set hs s Empty) q.place (Holds w) Empty (omega arith)
         in
         subst (λ h. HandSlot h (passed_on F w s b found q.place)) (sym is) (worker_hand (passed_on F w s b found q.place) w (passes.old q e))
 
     same : (t : ℕ) → (t ≡ s → ⊥) → ((q : Record) → found ≡ Some q → t ≡ q.place → ⊥) → P t
-    same t ne off = subst (λ h. HandSlot h (passed_on F w s b found t)) (sym (rest found t refl ne off)) (subst (HandSlot (hand_at v.hands t)) (sym (passes.rest t ne off)) (rep.hands t))
+    same t ne off = subst (λ h. HandSlot h (passed_on F w s b found t)) (sym (rest found t refl ne off)) (subst (HandSlot (hand_at hs t)) (sym (passes.rest t ne off)) (hands t))
 
     by : (o : Option Record) → found ≡ o → (t : ℕ) → P t
     by o e = one_slot P s (subst (λ h. HandSlot h (passed_on F w s b found s)) (sym (here found refl)) (block_hand (passed_on F w s b found s) b passes.here)) (at o e)
@@ -183,23 +203,28 @@ commit_hands v F w s b found inside small rep passes = by found refl
             go (inl n) = subst P (sym n) (old q is)
             go (inr away) = same t ne (λ p p_is n. away (n ∙ ap (λ (x : Record). x.place) (same_Some p q (sym p_is ∙ is))))
 
-pub commit_world : (v : WorldView) (F : Flat) (w s b : ℕ) (r : Record) (a : ArrayView) → s < 65536 → b < F.groups.blocks → length v.hands ≡ 65536 → Represents v F → is_ticket (hand_at v.hands s) w ≡ true
-    → (G : Flat) × (CommitCase F w s b (Committed r) G) × (ShowsArray a G)
-    → (G : Flat) × (CommitCase F w s b (Committed r) G) × (Represents (record { array = a; hands = passed_hands v.hands s w (record_at b (key_at v.array b)) }) G)
-commit_world v F w s b r a inside block room rep held y =
-    let found = record_at b (key_at v.array b) in
-    let newest : IsNewest F.emitted b found = newest_told v.array F b rep.array in
-    let leaves = commit_leaves F y.0 w s b found r rep.array.history.records newest y.1 in
-    let passes : Passes Any F w s b found = passed Any F (key_at v.array) w s b found (once_any F rep.held) tt tt rep.array.history newest ((rep.hands s).tickets w ∙ held) in
-    let small : (q : Record) → found ≡ Some q → q.place < length v.hands = λ q e. let low = place_small b (key_at v.array b) q e in omega arith in (
+pub commit_stands : (hs : List Hand) (a : ArrayView) (F : Flat) (w s b : ℕ) (r : Record) (e : ArrayView) → s < 65536 → b < F.groups.blocks → length hs ≡ 65536 → Stands hs a F → is_ticket (hand_at hs s) w ≡ true
+    → (G : Flat) × (CommitCase F w s b (Committed r) G) × (ShowsArray e G)
+    → (G : Flat) × (CommitCase F w s b (Committed r) G) × (Represents (record { array = e; hands = passed_hands hs s w (record_at b (key_at a b)) }) G)
+commit_stands hs a F w s b r e inside block room is held y =
+    let found = record_at b (key_at a b) in
+    let newest : IsNewest F.emitted b found = newest_told F.emitted (key_at a) b is.history.records is.history.map in
+    let leaves = commit_leaves F y.0 w s b found r is.history.records newest y.1 in
+    let passes : Passes Any F w s b found = passed Any F (key_at a) w s b found (once_any F is.held) tt tt is.history newest ((is.hands s).tickets w ∙ held) in
+    let small : (q : Record) → found ≡ Some q → q.place < length hs = λ q e. let low = place_small b (key_at a b) q e in omega arith in (
       y.0,
       y.1,
       record {
         array = y.2;
-        held = step_holds F y.0 (key_at v.array) (Commit w s b) (Committed r) rep.array.history rep.held block y.1;
-        hands = hands_as (passed_hands v.hands s w found) y.0 (committed F w s b found leaves.0 leaves.1 r) leaves.2 (commit_hands v F w s b found (omega arith) small rep passes);
+        held = step_holds F y.0 (key_at a) (Commit w s b) (Committed r) is.history is.held block y.1;
+        hands = hands_as (passed_hands hs s w found) y.0 (committed F w s b found leaves.0 leaves.1 r) leaves.2 (commit_hands hs F w s b found (omega arith) small is.hands passes);
       },
     )
+
+pub commit_world : (v : WorldView) (F : Flat) (w s b : ℕ) (r : Record) (a : ArrayView) → s < 65536 → b < F.groups.blocks → length v.hands ≡ 65536 → Represents v F → is_ticket (hand_at v.hands s) w ≡ true
+    → (G : Flat) × (CommitCase F w s b (Committed r) G) × (ShowsArray a G)
+    → (G : Flat) × (CommitCase F w s b (Committed r) G) × (Represents (record { array = a; hands = passed_hands v.hands s w (record_at b (key_at v.array b)) }) G)
+commit_world v F w s b r a inside block room rep held y = commit_stands v.hands v.array F w s b r a inside block room (stands_of v F rep) held y
 
 -- a commit's case, with slot and record as they are named elsewhere
 pub commit_as : (a : ArrayView) (F : Flat) (w b t s : ℕ) (q r : Record) → t ≡ s → q ≡ r → (G : Flat) × (CommitCase F w t b (Committed q) G) × (ShowsArray a G)

@@ -4,13 +4,14 @@ use Rattle.std.specs.Prelude.{◌≡◌, ◌≢◌, ◌<◌, ◌⊎◌, ℕ, tru
 use Rattle.map_join.specs.declared.records.Record.{Record}
 use Rattle.flat_machine.specs.declared.refusal.Refusal.{Refusal}
 use Rattle.flat_machine.specs.declared.refusal.Refusal.TheVariants.{Memory}
-use Rattle.flat_machine.specs.Flat.{Flat, Content, Payload, Trim, IsNewest, Ticket}
+use Rattle.flat_machine.specs.Flat.{Flat, Content, Payload, Trim, IsNewest, Worker, Ticket}
 use Rattle.flat_machine.specs.Steps.{FlatStep, FlatAnswer, Claimed, Taken, Released, Filled, Copied, Committed, Discarded}
 use Rattle.flat_machine.specs.Steps as step
 use Rattle.flat_machine.specs.Cases.{Case, CommitCase, DiscardCase, IsWanted, Runs}
 use Rattle.slot_tables.specs.Changes.{MayRefuse}
+use Rattle.slot_tables.specs.AtOnce.{ArePutAtOnce}
 use Rattle.slot_tables.specs.Represents.{ShowsArray}
-use Rattle.slot_tables.specs.Views.{ArrayView}
+use Rattle.slot_tables.specs.Views.{ArrayView, SameSizes}
 use Rattle.step_core.specs.declared.place.Given.{Given}
 use Rattle.step_core.specs.declared.place.Given.TheVariants as given
 use Rattle.step_core.specs.declared.claimed.What.{What}
@@ -57,6 +58,11 @@ abbrev pub IsWhatFor : ℕ → ℕ → What → Type 0
 IsWhatFor blocks payload (what.Fresh x) = IsGivenFor payload x
 IsWhatFor blocks payload (what.CopyOf b) = b < blocks
 
+-- and a copy is of this block
+abbrev pub IsWhatOf : ℕ → What → Type 0
+IsWhatOf block (what.Fresh x) = Unit {0}
+IsWhatOf block (what.CopyOf b) = b ≡ block
+
 -- what is given, else a copy of the block
 abbrev pub what_of : Option Given → ℕ → What
 what_of (Some x) b = what.Fresh x
@@ -82,6 +88,19 @@ PutTells r F w what s b a = MatchResult r
     (λ t. (G : Flat) × Case F (put_step what w s b) (put_answer what s) G × ShowsArray a G)
     (λ e. MayRefuse e.0 (Unit {0}) ((G : Flat) × Case F (put_step what w s b) (step.Refused e.0) G × ShowsArray a G))
 
+-- what an array says of a fill or a copy that it carried out, and of one that it refused
+abbrev pub Puts : ArrayView → ArrayView → Put → ℕ → ℕ → Type 0
+Puts a e what s b =
+    (F : Flat) (w : ℕ) → ShowsArray a F → F.held s (Worker w) ≡ true → (G : Flat) × (Case F (put_step what w s b) (put_answer what s) G) × (ShowsArray e G)
+
+abbrev pub Denies : ArrayView → ArrayView → Put → ℕ → ℕ → Refusal → Type 0
+Denies a e what s b r = (F : Flat) (w : ℕ) → ShowsArray a F → F.held s (Worker w) ≡ true
+    → MayRefuse r (Unit {0}) ((G : Flat) × (Case F (put_step what w s b) (Refused r) G) × (ShowsArray e G))
+
+-- what it says of one that it carried out together with its commit, in one write
+abbrev pub PutsAtOnce : ArrayView → ArrayView → Put → ℕ → ℕ → Record → Type 0
+PutsAtOnce a e what s b r = (F : Flat) (w : ℕ) → ShowsArray a F → F.held s (Worker w) ≡ true → ArePutAtOnce F (put_step what w s b) (put_answer what s) w s b r e
+
 -- a worker has the ticket of the slot, if there is one
 abbrev pub HasTicket : Flat → ℕ → ℕ → Type 0
 HasTicket F w s = F.tickets s ≢ None → F.held s (Ticket w) ≡ true
@@ -105,6 +124,16 @@ pub record GivesUp (a e : ArrayView) (s b : ℕ) (q : Refusal) : Type 0 where
   pub refused : Refuses a between s b q
   pub same : q ≡ Memory → between ≡ a
   pub ended : Discards between e s
+
+-- its put is refused, or the put is carried out, and then the commit is given up
+pub record GivesUpLate (a e : ArrayView) (what : Put) (s b : ℕ) (q : Refusal) : Type 0 where
+  pub between : ArrayView
+  pub puts : Puts a between what s b
+  pub room : SameSizes a between
+  pub up : GivesUp between e s b q
+
+abbrev pub IsNotPlaced : ArrayView → ArrayView → Put → ℕ → ℕ → Refusal → Type 0
+IsNotPlaced a e what s b q = ((q ≢ Memory) × Denies a e what s b q) ⊎ GivesUpLate a e what s b q
 
 -- the steps that release the old place, if there was one, and their answers
 abbrev pub back_steps : ℕ → Option Record → List FlatStep

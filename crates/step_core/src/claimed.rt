@@ -1,16 +1,22 @@
-// A block goes into a claimed slot of any array, in two calls, between which others may call the array: `put` and `finish`.
-ghost use Rattle.std.specs.Prelude.{◌≡◌, ◌≢◌, ℕ, ◌<◌, IfOk, IfErr, IfSome, MatchResult, true};
+// A block goes into a claimed slot of any array: in two calls, between which others may call the array, `put` and `finish`; or in one,
+// `place`.
+ghost use Rattle.std.specs.Prelude.{◌≡◌, ◌≢◌, ℕ, ◌<◌, IfOk, IfErr, IfSome, MatchResult, true, Some, Unit};
 ghost use Rattle.map_join.specs.Record.{record_at};
 ghost use Rattle.flat_machine.specs.Flat.{Flat, Worker};
 ghost use Rattle.slot_tables.specs.Changes.{IsPlaceOf};
 ghost use Rattle.slot_tables.specs.Represents.{ShowsArray};
 ghost use Rattle.slot_tables.specs.Views.{SameSizes, key_at};
 ghost use Rattle.disk_array.specs.Refused.{IsRefused};
-ghost use Rattle.step_core.specs.Placing.{Commits, Discards, GivesUp, IsStill, IsWhatFor, PutTells, block_for, put_for};
+ghost use Rattle.flat_machine.specs.Cases.{Case};
+ghost use Rattle.flat_machine.specs.Steps.{Refused};
+ghost use Rattle.slot_tables.specs.AtOnce.{ArePutAtOnce};
+ghost use Rattle.slot_tables.specs.Changes.{MayRefuse};
+ghost use Rattle.disk_array.specs.Refused.{IsUnplaced};
+ghost use Rattle.step_core.specs.Placing.{Commits, Discards, GivesUp, IsNotPlaced, IsStill, IsWhatFor, IsWhatOf, PutTells, PutsAtOnce, block_for, put_answer, put_for, put_step};
 
 use crate::place::Given;
 use disk_array::{Array, Done, Ticket};
-use extents::Drive;
+use extents::{Drive, Kind};
 use flat_machine::Refusal;
 use slot_tables::Hold;
 use std::alloc::Global;
@@ -53,6 +59,72 @@ pub fn put<D: Drive, C: Hold>(
             Given::Trim => array.trim(claim),
         },
         What::CopyOf(block) => array.copy(claim, block),
+    }
+}
+
+/// Puts a payload, a trim or a copy into a claimed slot and commits it for the block, in one write: nobody calls the array in
+/// between. Refused as `put` is. Where the commit would be refused, or an allocation fails, there is no refusal, and nothing was done.
+pub fn place_at_once<D: Drive, C: Hold>(
+    array: &mut Array<D, C>,
+    alloc: Global,
+    claim: C,
+    what: What,
+    block: u32,
+) -> Result<Done<C>, (Option<Refusal>, C)>
+    requires what { IsWhatFor array.old.parts.groups.blocks array.old.parts.groups.payload what }
+    requires of { IsWhatOf block what }
+    requires block { block < array.old.parts.groups.blocks }
+    ensures place { IfOk result (λ done. IsPlaceOf C.names done.old (record_at block (key_at array.old block))) }
+    ensures err { IfErr result (λ e. (e.1 ≡ claim) × IsUnplaced array.old array.new e.0) }
+    ensures memory { IfErr result (λ e. e.0 ≢ Some Refusal.Memory) }
+    ensures flat { (F : Flat) (w : ℕ) → ShowsArray array.old F → F.held (C.names claim) (Worker w) ≡ true
+        → MatchResult result
+        (λ done. ArePutAtOnce F (put_step (put_for what.entry) w (C.names claim) block) (put_answer (put_for what.entry) (C.names claim)) w (C.names claim) block done.emitted array.new)
+        (λ e. IfSome e.0 (λ refusal. MayRefuse refusal (Unit {0})
+        ((G : Flat) × Case F (put_step (put_for what.entry) w (C.names claim) block) (Refused refusal) G × ShowsArray array.new G))) }
+    ensures room { SameSizes array.old array.new }
+{
+    match what {
+        What::Fresh(given) => match given {
+            Given::Payload(payload) => array.place(alloc, claim, block, Kind::Data, payload),
+            Given::Trim => array.place(alloc, claim, block, Kind::Trim, &[]),
+        },
+        What::CopyOf(source) => array.place_copy(alloc, claim, source),
+    }
+}
+
+/// Puts a payload, a trim or a copy into a claimed slot and commits it for the block. If either is refused the claim comes back.
+pub fn place<D: Drive, C: Hold>(
+    array: &mut Array<D, C>,
+    alloc: Global,
+    claim: C,
+    what: What,
+    block: u32,
+) -> Result<Done<C>, Denied<C>>
+    requires what { IsWhatFor array.old.parts.groups.blocks array.old.parts.groups.payload what }
+    requires of { IsWhatOf block what }
+    requires block { block < array.old.parts.groups.blocks }
+    ensures place { IfOk result (λ done. IsPlaceOf C.names done.old (record_at block (key_at array.old block))) }
+    ensures claim { IfErr result (λ e. IfSome e.claim (λ back. C.names back ≡ C.names claim)) }
+    ensures flat { MatchResult result
+        (λ done. PutsAtOnce array.old array.new (put_for what.entry) (C.names claim) block done.emitted)
+        (λ e. IsNotPlaced array.old array.new (put_for what.entry) (C.names claim) block e.refusal) }
+    ensures room { SameSizes array.old array.new }
+{
+    let claim = match place_at_once(array, alloc, claim, what, block) {
+        Ok(done) => return Ok(done),
+        Err((None, claim)) => claim,
+        Err((Some(refusal), claim)) => return Err(Denied {
+            refusal,
+            claim: Some(claim),
+        }),
+    };
+    match put(array, claim, what) {
+        Ok(ticket) => finish(array, alloc, ticket, block),
+        Err((refusal, claim)) => Err(Denied {
+            refusal,
+            claim: Some(claim),
+        }),
     }
 }
 

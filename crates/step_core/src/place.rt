@@ -8,7 +8,7 @@ ghost use Rattle.slot_tables.specs.Views.{SameSizes};
 ghost use Rattle.step_core.specs.Placing as what;
 ghost use Rattle.step_core.specs.Placing.{IsSizedFor, Places, place_of, put_of};
 
-use crate::claimed::{What, finish, put};
+use crate::claimed::{What, place};
 use crate::world::World;
 use disk_array::Done;
 use extents::Drive;
@@ -62,11 +62,7 @@ impl<D: Drive> World<D> {
         if !self.is_free(slot) {
             return Err(NotPlaced::Taken);
         }
-        let ticket = match put(&mut self.array, Plain { slot }, what_of(block, given)) {
-            Ok(ticket) => ticket,
-            Err((refusal, _claim)) => return Err(NotPlaced::Refused(refusal)),
-        };
-        let done = match finish(&mut self.array, alloc, ticket, block) {
+        let done = match place(&mut self.array, alloc, Plain { slot }, what_of(block, given), block) {
             Ok(done) => done,
             Err(denied) => return Err(NotPlaced::Refused(denied.refusal)),
         };

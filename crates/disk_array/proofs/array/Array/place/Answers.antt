@@ -1,4 +1,5 @@
 use Rattle.std.proofs.Common.{◌≡◌, ◌≢◌, ◌∙◌, [], ◌∷◌, ◌++◌, vec_len, None, Some, ap, get_or, refl, sym, subst, rules}
+use Rattle.std.proofs.lemmas.Option.{same_Some}
 use Rattle.map_join.specs.declared.records.Record.{Record}
 use Rattle.std.proofs.Math.ListN.{set}
 use Rattle.map_join.specs.Record.{key_of, record_at}
@@ -21,6 +22,7 @@ use Rattle.slot_tables.proofs.Placing.{placed_slot}
 use Rattle.disk_array.specs.Inside.{seen}
 use Rattle.disk_array.proofs.Placed.{shown, placed_is, as_put, kind_back}
 use Rattle.disk_array.proofs.Ready.{either_way, Keeps, keeps, gone_keeps, still_whole, still_ready, as_many, as_refused}
+use Rattle.disk_array.proofs.Refusing.{gone_told, unfilled_told}
 use Rattle.disk_array.proofs.array.Array.place.Given as given
 use Rattle.disk_array.proofs.array.Array.place.Goals.{After-of}
 use Rattle.disk_array.proofs.array.Array.place.Goals as goal
@@ -167,3 +169,9 @@ returns-clause-flat g c F w shows held =
     (fresh_at_once c.args.self.now (parts g at) s c.args.block (search rules) (search rules)
     (view_drives d.units d.lost d.failures c.put_placed.new.self c.put_placed.ensures.fit.drives) c.told-found.ensures.whole
     x (none g at) (left g at) (was g at) F w (search rules) c.requires.payload shows held)
+
+pub returns-in-Some-clause-memory : goal.returns-in-Some-clause-memory
+returns-in-Some-clause-memory g c is = unfilled_told c.args.self.now (g.C.Hold.names c.args.claim) c.in-Some.refusal (search rules) (same_Some _ _ is)
+
+pub returns-in-Err-clause-memory : goal.returns-in-Err-clause-memory
+returns-in-Err-clause-memory g c is = gone_told _ _ _ c.in-Err.refusal c.in-Err.ensures.err (same_Some _ _ is)

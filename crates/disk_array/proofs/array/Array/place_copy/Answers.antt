@@ -24,6 +24,7 @@ use Rattle.slot_tables.proofs.Placing.{placed_slot}
 use Rattle.disk_array.specs.Inside.{seen}
 use Rattle.disk_array.proofs.Placed.{shown, placed_is, as_put, uncarried_refused, not_full}
 use Rattle.disk_array.proofs.Ready.{either_way, Keeps, keeps, uncarried_keeps, still_whole, still_ready, as_many, as_refused}
+use Rattle.disk_array.proofs.Refusing.{uncarried_told, uncopied_told}
 use Rattle.disk_array.proofs.array.Array.place_copy.Given as given
 use Rattle.disk_array.proofs.array.Array.place_copy.Goals.{After-of, In-Err-copy_under}
 use Rattle.disk_array.proofs.array.Array.place_copy.Goals as goal
@@ -196,3 +197,10 @@ returns-clause-flat g c F w shows held =
     (copied_at_once c.args.self.now (parts g at) s c.args.block (search rules) c.requires
     (view_drives d.units d.lost d.failures c.copy_under.new.self c.copy_under.ensures.fit.drives) c.told.ensures.whole
     c.in-Ok.source c.in_default.field-0 (none g at) (found g at) (was g at) F w room shows held)
+
+pub returns-in-Err-clause-memory : goal.returns-in-Err-clause-memory
+returns-in-Err-clause-memory g c is =
+    uncopied_told c.args.self.now (g.C.Hold.names c.args.claim) (record_at c.args.block (key_at c.args.self.now c.args.block)) c.in-Err.refusal (search rules) (same_Some _ _ is)
+
+pub returns-in-Err-copy_under-clause-memory : goal.returns-in-Err-copy_under-clause-memory
+returns-in-Err-copy_under-clause-memory g c is = uncarried_told _ _ _ _ c.in-Err-copy_under.refusal c.in-Err-copy_under.ensures.err (same_Some _ _ is)

@@ -1,0 +1,1 @@
+use Rattle.step_core.proofs.claimed.place.Goals as goal
