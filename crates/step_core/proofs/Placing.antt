@@ -1,6 +1,6 @@
 -- A block is put into a free slot: what each of the array's calls leaves of the world. The hands in between are those of a worker
 -- that does the steps one by one; before the first and after the last nobody has the slots in hand.
-use Rattle.std.proofs.Common.{◌≡◌, ◌≢◌, ℕ, ◌<◌, Bool, true, false, not, ◌&&◌, ◌||◌, List, ◌∷◌, length, refl, sym, ap, ◌∙◌, subst, arith, inl, inr, Option, Some, None, Result, Ok, Err, MatchResult, IfOk, IfErr, IfSome, Unit}
+use Rattle.std.proofs.Common.{◌≡◌, ◌≢◌, ℕ, ◌<◌, Bool, true, false, not, ◌&&◌, ◌||◌, List, ◌∷◌, length, refl, sym, ap, ◌∙◌, subst, arith, inl, inr, Option, Some, None, Result, Ok, Err, MatchResult, IfOk, IfErr, IfSome}
 use Rattle.std.proofs.Math.ListN.{set}
 use Rattle.std.proofs.lemmas.List.{length-set, get_or-set_same, get_or-set_other, set-get_or}
 use Rattle.map_join.specs.declared.records.Record.{Record}
@@ -37,8 +37,8 @@ use Rattle.step_core.specs.declared.place.Given.{Given}
 use Rattle.step_core.specs.declared.place.Given.TheVariants as given
 use Rattle.step_core.specs.declared.claimed.What.{What}
 use Rattle.step_core.specs.declared.claimed.What.TheVariants as what
-use Rattle.step_core.specs.Placing.{Put, Fresh, Again, IsPlaced, IsSizedFor, IsStill, IsWhatFor, Places, PutTells, Puts, PutsAtOnce, Denies, Commits, block_for, place_of, put_for, put_of, what_of, put_step, put_answer, back_steps, back_answers}
-use Rattle.step_core.proofs.Worlds.{Stands, stands_of, fill_hands, fill_world, copy_hands, copy_world, commit_stands, discard_world, refused_world}
+use Rattle.step_core.specs.Placing.{Put, Fresh, Again, IsNotPlaced, IsPlaced, IsSizedFor, IsStill, IsWhatFor, IsWhatOf, Places, PutTells, Puts, PutsAtOnce, Denies, Commits, block_for, place_of, put_for, put_of, what_of, put_step, put_answer, back_steps, back_answers}
+use Rattle.step_core.proofs.Worlds.{Stands, fill_hands, fill_world, copy_hands, copy_world, commit_stands, discard_world, refused_world}
 
 -- a slot that nobody holds is in nobody's hand
 pub free_hand : (k : Kept) (h : Hand) → has_no_holder k h ≡ true → h ≡ Empty
@@ -211,16 +211,6 @@ record IsBetween (v : WorldView) (F : Flat) (a : ArrayView) (what : Put) (w s b 
   hand : is_ticket (hand_at (waiting_hands v w s) s) w ≡ true
   emitted : state.emitted ≡ F.emitted
 
-between : (v : WorldView) (F : Flat) (a : ArrayView) (what : Put) (w s b : ℕ) → IsWaiting v F a what w s b → IsBetween v F a what w s b
-between v F a what w s b x = record {
-  before = x.before;
-  state = x.state;
-  put = x.put;
-  stands = stands_of (record { array = a; hands = waiting_hands v w s }) x.state x.stands;
-  hand = x.hand;
-  emitted = x.emitted;
-}
-
 -- a commit that was carried out: the old place is released, if the block had one
 commits_then : (v : WorldView) (F : Flat) (a e : ArrayView) (what : Put) (w s b : ℕ) (r : Record) → IsOpen v what s b → b < a.parts.groups.blocks
     → (x : IsBetween v F a what w s b) → (G : Flat) × (CommitCase x.state w s b (Committed r) G) × (ShowsArray e G)
@@ -284,13 +274,6 @@ commits_then v F a e what w s b r ready block x commits = (
 
     g : (G : Flat) × (Runs c.0 (back_steps w found) (back_answers found) G) × (Represents (record { array = e; hands = v.hands }) G)
     g = back found refl c.2
-
-pub places : (v : WorldView) (F : Flat) (a e : ArrayView) (what : Put) (w s b : ℕ) (r : Record) → IsOpen v what s b → b < a.parts.groups.blocks → Represents v F → Puts v.array a what s b
-    → ((H : Flat) (u : ℕ) → ShowsArray a H → H.held s (Ticket u) ≡ true → (G : Flat) × (CommitCase H u s b (Committed r) G) × (ShowsArray e G))
-    → (G : Flat) × ((is : IsPlaced F w s b what r G) × (is.old ≡ record_at b (key_at a b))) × (Represents (record { array = e; hands = v.hands }) G)
-places v F a e what w s b r ready block rep puts commits =
-    let x = waiting v F a what w s b ready rep puts in
-    commits_then v F a e what w s b r ready block (between v F a what w s b x) (commits x.state w x.stands.array x.held)
 
 -- a put and its commit in one write
 pub places_at_once : (v : WorldView) (F : Flat) (e : ArrayView) (what : Put) (w s b : ℕ) (r : Record) → IsOpen v what s b → Represents v F → PutsAtOnce v.array e what s b r
@@ -389,12 +372,6 @@ may_less : (r : Refusal) (W P : Type 0) → MayRefuse r W P → MayRefuse r (Uni
 may_less Memory W P y = tt
 may_less r W P y = y
 
--- what is put into the slot is what was given, else a copy
-pub given_put : {C : Type 0} (x : Option Given) (b : ℕ) (v : What) → v ≡ what_of x b → (r : Result ℕ (Refusal × C)) (F : Flat) (w s : ℕ) (a : ArrayView)
-    → PutTells r F w (put_for v) s (block_for v) a → PutTells r F w (put_of x) s b a
-given_put (Some g) b v is r F w s a y = subst (λ (p : What). PutTells r F w (put_for p) s (block_for p) a) is y
-given_put None b v is r F w s a y = subst (λ (p : What). PutTells r F w (put_for p) s (block_for p) a) is y
-
 -- it has numbers in range
 pub given_fits : (z : Groups) (x : Option Given) (b : ℕ) (v : What) → v ≡ what_of x b → b < z.blocks → IsSizedFor z.payload x → IsWhatFor z.blocks z.payload v
 given_fits z (Some g) b v is block fits = subst (IsWhatFor z.blocks z.payload) (sym is) fits
@@ -472,12 +449,7 @@ places_as names F v what w s b r n claim found left newest is_left at y = (
     old : Option Record
     old = y.1.0.old
 
--- what an array answers to a put together with its commit: where it isn't refused there may be no refusal to tell
-abbrev pub AtOnceTells : {T C : Type 0} → (T → Record) → Result T (Option Refusal × C) → Flat → ℕ → Put → ℕ → ℕ → ArrayView → Type 0
-AtOnceTells emitted r F w what s b a = MatchResult r
-    (λ done. ArePutAtOnce F (put_step what w s b) (put_answer what s) w s b (emitted done) a)
-    (λ e. IfSome e.0 (λ q. MayRefuse q (Unit {0}) ((G : Flat) × (Case F (put_step what w s b) (Refused q) G) × (ShowsArray a G))))
-
+-- what is said of a refusal, if there is one, with nothing said of a call that ran out of memory
 pub less_told : {T C : Type 0} (A : T → Type 0) (W : Type 0) (P : Refusal → Type 0) (r : Result T (Option Refusal × C))
     → MatchResult r A (λ e. IfSome e.0 (λ q. MayRefuse q W (P q))) → MatchResult r A (λ e. IfSome e.0 (λ q. MayRefuse q (Unit {0}) (P q)))
 less_told A W P (Ok t) y = y
@@ -517,3 +489,40 @@ pub puts_then : (a m e : ArrayView) (what : Put) (s b : ℕ) (r : Record) → Pu
 puts_then a m e what s b r puts commits F w shows held =
     let p = puts F w shows held in
     (p.0, p.1, commits p.0 w p.2 (λ _. put_held F p.0 what w s b p.1))
+
+-- what goes into the slot is what was given, else a copy of the block
+pub given_at_once : (x : Option Given) (n : ℕ) (v : What) (a e : ArrayView) (s b : ℕ) (r : Record) → v ≡ what_of x n → PutsAtOnce a e (put_for v) s b r → PutsAtOnce a e (put_of x) s b r
+given_at_once (Some g) n v a e s b r is y = subst (λ (p : What). PutsAtOnce a e (put_for p) s b r) is y
+given_at_once None n v a e s b r is y = subst (λ (p : What). PutsAtOnce a e (put_for p) s b r) is y
+
+pub given_not_placed : (x : Option Given) (n : ℕ) (v : What) (a e : ArrayView) (s b : ℕ) (q : Refusal) → v ≡ what_of x n → IsNotPlaced a e (put_for v) s b q → IsNotPlaced a e (put_of x) s b q
+given_not_placed (Some g) n v a e s b q is y = subst (λ (p : What). IsNotPlaced a e (put_for p) s b q) is y
+given_not_placed None n v a e s b q is y = subst (λ (p : What). IsNotPlaced a e (put_for p) s b q) is y
+
+pub given_of : (x : Option Given) (b : ℕ) (v : What) → v ≡ what_of x b → IsWhatOf b v
+given_of (Some g) b v is = subst (IsWhatOf b) (sym is) tt
+given_of None b v is = subst (IsWhatOf b) (sym is) refl
+
+-- refused, before or after something waited in the slot
+pub refused_then : (v : WorldView) (F : Flat) (e : ArrayView) (what : Put) (w s b : ℕ) (q : Refusal) → IsOpen v what s b → Represents v F → IsNotPlaced v.array e what s b q
+    → (G : Flat) × (Places F w s b what (Err (denied.Refused q)) G) × (Represents (record { array = e; hands = v.hands }) G)
+refused_then v F e what w s b q ready rep (inl first) = refused_first v F e what w s b q ready rep first.1 first.0
+refused_then v F e what w s b q ready rep (inr late) =
+    let inside : b < late.between.parts.groups.blocks = subst (λ n. b < n) (sym late.room.blocks) ready.block in
+    refused_last v F late.between late.up.between e what w s b q ready inside rep late.puts (λ H x shows held. late.up.refused H x shows (λ _. held)) late.up.same
+    (λ H x shows held. late.up.ended H x shows held)
+
+-- a put tells the same of the block that it is for
+pub put_of_block : {C : Type 0} (v : What) (b : ℕ) (r : Result ℕ (Refusal × C)) (F : Flat) (w s : ℕ) (a : ArrayView) → IsWhatOf b v
+    → PutTells r F w (put_for v) s (block_for v) a → PutTells r F w (put_for v) s b a
+put_of_block (what.Fresh x) b (Ok t) F w s a of y = y
+put_of_block (what.Fresh x) b (Err e) F w s a of y = y
+put_of_block (what.CopyOf n) b r F w s a of y = subst (λ m. PutTells r F w Again s m a) of y
+
+pub same_block : (b : ℕ) (v : What) (n : ℕ) → v ≡ what.CopyOf n → IsWhatOf b v → n ≡ b
+same_block b v n is of = subst (IsWhatOf b) is of
+
+-- what follows from either answer
+pub either : {T E : Type 0} {A B : T → Type 0} {P Q : E → Type 0} (r : Result T E) → ((t : T) → A t → B t) → ((e : E) → P e → Q e) → MatchResult r A P → MatchResult r B Q
+either (Ok t) ok err y = ok t y
+either (Err e) ok err y = err e y

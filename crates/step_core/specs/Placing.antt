@@ -95,7 +95,7 @@ Puts a e what s b =
 
 abbrev pub Denies : ArrayView → ArrayView → Put → ℕ → ℕ → Refusal → Type 0
 Denies a e what s b r = (F : Flat) (w : ℕ) → ShowsArray a F → F.held s (Worker w) ≡ true
-    → MayRefuse r (Unit {0}) ((G : Flat) × (Case F (put_step what w s b) (Refused r) G) × (ShowsArray e G))
+    → MayRefuse r (Unit {0}) ((G : Flat) × (Case F (put_step what w s b) (step.Refused r) G) × (ShowsArray e G))
 
 -- what it says of one that it carried out together with its commit, in one write
 abbrev pub PutsAtOnce : ArrayView → ArrayView → Put → ℕ → ℕ → Record → Type 0

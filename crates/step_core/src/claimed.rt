@@ -1,6 +1,6 @@
 // A block goes into a claimed slot of any array: in two calls, between which others may call the array, `put` and `finish`; or in one,
-// `place`.
-ghost use Rattle.std.specs.Prelude.{◌≡◌, ◌≢◌, ℕ, ◌<◌, IfOk, IfErr, IfSome, MatchResult, true, Some, Unit};
+// `put_and_finish`.
+ghost use Rattle.std.specs.Prelude.{◌≡◌, ◌≢◌, ℕ, ◌<◌, IfOk, IfErr, IfSome, MatchResult, true, Some};
 ghost use Rattle.map_join.specs.Record.{record_at};
 ghost use Rattle.flat_machine.specs.Flat.{Flat, Worker};
 ghost use Rattle.slot_tables.specs.Changes.{IsPlaceOf};
@@ -94,7 +94,7 @@ pub fn place_at_once<D: Drive, C: Hold>(
 }
 
 /// Puts a payload, a trim or a copy into a claimed slot and commits it for the block. If either is refused the claim comes back.
-pub fn place<D: Drive, C: Hold>(
+pub(crate) fn put_and_finish<D: Drive, C: Hold>(
     array: &mut Array<D, C>,
     alloc: Global,
     claim: C,

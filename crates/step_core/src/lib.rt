@@ -13,7 +13,7 @@ mod unmake;
 mod world;
 
 pub use array_parts::Units;
-pub use claimed::{Denied, What, finish, place, place_at_once, put};
+pub use claimed::{Denied, What, finish, place_at_once, put};
 pub use disk_array::{
     Apart, Array, At, Done, Emitted, Hold, NotAdopted, Plain, Reading, TakeBack, Ticket, Visit,
     claims_are_free,

@@ -8,7 +8,7 @@ ghost use Rattle.slot_tables.specs.Views.{SameSizes};
 ghost use Rattle.step_core.specs.Placing as what;
 ghost use Rattle.step_core.specs.Placing.{IsSizedFor, Places, place_of, put_of};
 
-use crate::claimed::{What, place};
+use crate::claimed::{What, put_and_finish};
 use crate::world::World;
 use disk_array::Done;
 use extents::Drive;
@@ -62,7 +62,7 @@ impl<D: Drive> World<D> {
         if !self.is_free(slot) {
             return Err(NotPlaced::Taken);
         }
-        let done = match place(&mut self.array, alloc, Plain { slot }, what_of(block, given), block) {
+        let done = match put_and_finish(&mut self.array, alloc, Plain { slot }, what_of(block, given), block) {
             Ok(done) => done,
             Err(denied) => return Err(NotPlaced::Refused(denied.refusal)),
         };

@@ -1,1 +1,0 @@
-use Rattle.step_core.proofs.claimed.place.Goals as goal
