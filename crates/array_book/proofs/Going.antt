@@ -22,7 +22,7 @@ use Rattle.step_core.specs.Refused.{IsRefused}
 use Rattle.step_core.specs.Told.{Lesson}
 use Rattle.history.specs.declared.view.Entry.{Entry}
 use Rattle.history.specs.Entries.{entry, Carried, Extends}
-use Rattle.array_book.specs.Acts.{Act, Steps, Leads, Follows, IsIdle, AreIdle, IsRun, IsTraced, put_act, unplaced_act, committed_act, place_of, refused_commit, discard_act, read_act, refused_read}
+use Rattle.array_book.specs.Acts.{Act, Steps, Leads, IsSound, Follows, IsIdle, AreIdle, IsRun, IsTraced, put_act, unplaced_act, committed_act, place_of, refused_commit, discard_act, read_act, refused_read}
 use Rattle.array_book.specs.Outcomes.{Noted}
 use Rattle.array_book.specs.Kept as book
 use Rattle.array_book.specs.Kept.{KeptView}
@@ -42,9 +42,9 @@ pub record GoesOn (F : Flat) (act : Act) (b : ArrayView) : Type 0 where
   pub idle : IsIdle flat
   pub shows : ShowsArray b flat
 
-follows_more : (F G H : Flat) (log : List (Entry Act)) (n : ℕ) (act : Act) → Follows F log G → Leads G act H → Follows F (log ++ entry n act ∷ []) H
-follows_more F G H [] n act r leads = (H, subst (λ (x : Flat). Leads x act H) r leads, refl)
-follows_more F G H (e ∷ es) n act r leads = (r.0, r.1, follows_more r.0 G H es n act r.2 leads)
+follows_more : (F G H : Flat) (log : List (Entry Act)) (n : ℕ) (act : Act) → Follows F log G → Leads G act H → IsSound H → Follows F (log ++ entry n act ∷ []) H
+follows_more F G H [] n act r leads sound = (H, subst (λ (x : Flat). Leads x act H) r leads, sound, refl)
+follows_more F G H (e ∷ es) n act r leads sound = (r.0, r.1, r.2, follows_more r.0 G H es n act r.3 leads sound)
 
 -- a history that is one act longer
 traced_more : (F : Flat) (b : ArrayView) (log : List (Entry Act)) (n : ℕ) (act : Act) → IsTraced log F → (on : GoesOn F act b)
@@ -60,7 +60,7 @@ traced_more F b log n act is on =
         opening = r.opening;
         shows = r.shows;
         idle = r.idle;
-        follows = follows_more r.opening F on.flat r.rest n act r.follows on.leads;
+        follows = follows_more r.opening F on.flat r.rest n act r.follows on.leads (key_at b, on.shows.history);
       };
       idle = on.idle;
     }

@@ -11,3 +11,4 @@ pub mod Going
 pub mod Noting
 pub mod Idled
 pub mod Wholes
+pub mod OneRuns
