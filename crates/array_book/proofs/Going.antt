@@ -21,8 +21,8 @@ use Rattle.step_core.specs.Placing.{Put, Fresh as Anew, Again, PutTells, put_ste
 use Rattle.step_core.specs.Refused.{IsRefused}
 use Rattle.step_core.specs.Told.{Lesson}
 use Rattle.history.specs.declared.view.Entry.{Entry}
-use Rattle.history.specs.Entries.{entry, Carried, Extends}
-use Rattle.array_book.specs.Acts.{Act, Steps, Leads, IsSound, Follows, IsIdle, AreIdle, IsRun, IsTraced, put_act, unplaced_act, committed_act, place_of, refused_commit, discard_act, read_act, refused_read}
+use Rattle.history.specs.Entries.{entry, Carried, Course, Extends}
+use Rattle.array_book.specs.Acts.{Act, Steps, Leads, IsSound, Follows, IsIdle, AreIdle, IsRun, IsTraced, IsLed, put_act, unplaced_act, committed_act, place_of, refused_commit, discard_act, read_act, refused_read}
 use Rattle.array_book.specs.Outcomes.{Noted}
 use Rattle.array_book.specs.Kept as book
 use Rattle.array_book.specs.Kept.{KeptView}
@@ -66,10 +66,18 @@ traced_more F b log n act is on =
     }
 
 -- what was noted is the act that led on
-pub traced_note : (F : Flat) (b : ArrayView) (log after : List (Entry Act)) (n : ℕ) (act noted : Act) → IsTraced log F → (on : GoesOn F act b)
+traced_note : (F : Flat) (b : ArrayView) (log after : List (Entry Act)) (n : ℕ) (act noted : Act) → IsTraced log F → (on : GoesOn F act b)
     → after ≡ log ++ entry n noted ∷ [] → noted ≡ act → IsTraced after on.flat
 traced_note F b log after n act noted is on same acts =
     subst (λ (l : List (Entry Act)). IsTraced l on.flat) (sym (same ∙ ap (λ (x : Act). log ++ entry n x ∷ []) acts)) (traced_more F b log n act is on)
+
+-- and no hand more was hired
+pub led_note : (F : Flat) (b : ArrayView) (before after : Course Act) (hands n : ℕ) (act noted : Act) → IsLed before hands F → (on : GoesOn F act b)
+    → after ≡ record { hired = before.hired; log = before.log ++ entry n noted ∷ [] } → noted ≡ act → IsLed after hands on.flat
+led_note F b before after hands n act noted is on same acts = record {
+  traced = traced_note F b before.log after.log n act noted is.traced on (ap (λ (k : Course Act). k.log) same) acts;
+  hired = ap (λ (k : Course Act). k.hired) same ∙ is.hired;
+}
 
 -- so it was noted by the hand, which has seen the history up to it
 pub noted_as : (v w : Carried Act) (what act : Act) (log : List (Entry Act)) (F : Flat) → Extends v what w → what ≡ act → w.seen ≡ log → IsTraced log F → Noted v act w

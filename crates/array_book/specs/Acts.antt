@@ -16,7 +16,7 @@ use Rattle.step_core.specs.Placing.{Put, put_step, put_answer}
 use Rattle.step_core.specs.Told.{Lesson}
 use Rattle.disk_array.specs.declared.commit.Done.{Done}
 use Rattle.history.specs.declared.view.Entry.{Entry}
-use Rattle.history.specs.Entries.{entry}
+use Rattle.history.specs.Entries.{entry, Course}
 
 -- the array with which a history begins; or steps and their answers; or what a read of a record learned, or why it learned nothing
 pub data Act : Type 0 where
@@ -121,6 +121,11 @@ IsCourse log = (F : Flat) × IsRun log F
 pub record IsTraced (log : List (Entry Act)) (F : Flat) : Type 0 where
   pub run : IsRun log F
   pub idle : IsIdle F
+
+-- the history leads to this state, and exactly this many hands were hired
+pub record IsLed (keeper : Course Act) (hands : ℕ) (F : Flat) : Type 0 where
+  pub traced : IsTraced keeper.log F
+  pub hired : keeper.hired ≡ hands
 
 -- the history leads to a state that the array shows
 pub record IsEndOf (log : List (Entry Act)) (array : ArrayView) : Type 0 where
