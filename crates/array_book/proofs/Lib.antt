@@ -12,3 +12,4 @@ pub mod Noting
 pub mod Idled
 pub mod Wholes
 pub mod OneRuns
+pub mod Lying

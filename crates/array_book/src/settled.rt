@@ -54,6 +54,7 @@ pub fn settle<D: Drive, N: slot_words::Naming + Sizes, A: map_words::Naming, B: 
     ensures shows { MatchResult result (λ settled. (F : Flat) × ShowsArray settled.array F) (λ e. (F : Flat) × ShowsArray e.1.array F) }
 {
     let (array, words, maps, (history, mut keeper)) = book.into_parts();
+    array.whole();
     let missing = lowest_missing(keeper.hired(), &ended);
     let (told, pass) = close_all(alloc, &words, maps, &history, &mut keeper, ended, &array);
     let settled = Settled {

@@ -14,8 +14,8 @@ returns-in-Err-clause-missing g c =
 
 pub returns-in-Ok-clause-history : goal.returns-in-Ok-clause-history
 returns-in-Ok-clause-history g c =
-    history_of _ _ c.into_parts-array.result.3.1 c.close_all-told.new.keeper _ (search rules) (search rules) c.close_all-told.ensures.whole (search rules)
+    history_of _ _ c.into_parts-array.result.3.1 c.close_all-told.new.keeper _ (search rules) (search rules) c.whole.ensures c.close_all-told.ensures.whole (search rules)
 
 pub returns-in-Err-clause-history : goal.returns-in-Err-clause-history
 returns-in-Err-clause-history g c =
-    history_of _ _ c.into_parts-array.result.3.1 c.close_all-told.new.keeper _ (search rules) (search rules) c.close_all-told.ensures.whole (search rules)
+    history_of _ _ c.into_parts-array.result.3.1 c.close_all-told.new.keeper _ (search rules) (search rules) c.whole.ensures c.close_all-told.ensures.whole (search rules)
