@@ -4,7 +4,7 @@ use Rattle.std.specs.Prelude.{◌==◌, ◌||◌}
 use Rattle.std.specs.List.{list_any}
 use Rattle.history.specs.declared.view.Entry.{Entry}
 use Rattle.history.specs.Entries.{Carried, Course, IsWhole, cons_if, entries_by}
-use Rattle.slot_tables.specs.Views.{ArrayView, IsWhole}
+use Rattle.slot_tables.specs.Views.{ArrayView, IsWhole as HasAll}
 use Rattle.array_book.specs.Acts.{Act, IsEndOf}
 use Rattle.array_book.specs.Whole.{AreWhole, has_number, AreTheirs, IsLowestMissing, IsMissing, IsHistoryOf}
 use Rattle.array_book.specs.OneRun.{IsOneRun}
@@ -66,7 +66,7 @@ up_to hands k here next n low = elim (below_or n k) [
 ]
 
 -- all of it, of the hands that were compared
-pub history_of : (count : ℕ) (hands : List (Carried Act)) (before after : Course Act) (array : ArrayView) → after ≡ before → IsEndOf before.log array → IsWhole array → AreWhole before hands
+pub history_of : (count : ℕ) (hands : List (Carried Act)) (before after : Course Act) (array : ArrayView) → after ≡ before → IsEndOf before.log array → HasAll array → AreWhole before hands
     → before.hired ≡ count → IsHistoryOf count hands after array
 history_of count hands before after array same ends well whole hired = subst (λ (k : Course Act). IsHistoryOf count hands k array) (sym same) record {
   ends = ends;
