@@ -21,8 +21,8 @@ use Rattle.step_core.specs.Placing.{Put, Fresh as Anew, Again, PutTells, put_ste
 use Rattle.step_core.specs.Refused.{IsRefused}
 use Rattle.step_core.specs.Told.{Lesson}
 use Rattle.history.specs.declared.view.Entry.{Entry}
-use Rattle.history.specs.Entries.{entry, Carried, Extends}
-use Rattle.array_book.specs.Acts.{Act, Steps, Leads, Follows, IsIdle, AreIdle, IsRun, IsTraced, put_act, unplaced_act, committed_act, place_of, refused_commit, discard_act, read_act, refused_read}
+use Rattle.history.specs.Entries.{entry, Carried, Course, Extends}
+use Rattle.array_book.specs.Acts.{Act, Steps, Leads, IsSound, Follows, IsIdle, AreIdle, IsRun, IsTraced, IsLed, put_act, unplaced_act, committed_act, place_of, refused_commit, discard_act, read_act, refused_read}
 use Rattle.array_book.specs.Outcomes.{Noted}
 use Rattle.array_book.specs.Kept as book
 use Rattle.array_book.specs.Kept.{KeptView}
@@ -42,9 +42,9 @@ pub record GoesOn (F : Flat) (act : Act) (b : ArrayView) : Type 0 where
   pub idle : IsIdle flat
   pub shows : ShowsArray b flat
 
-follows_more : (F G H : Flat) (log : List (Entry Act)) (n : ℕ) (act : Act) → Follows F log G → Leads G act H → Follows F (log ++ entry n act ∷ []) H
-follows_more F G H [] n act r leads = (H, subst (λ (x : Flat). Leads x act H) r leads, refl)
-follows_more F G H (e ∷ es) n act r leads = (r.0, r.1, follows_more r.0 G H es n act r.2 leads)
+follows_more : (F G H : Flat) (log : List (Entry Act)) (n : ℕ) (act : Act) → Follows F log G → Leads G act H → IsSound H → Follows F (log ++ entry n act ∷ []) H
+follows_more F G H [] n act r leads sound = (H, subst (λ (x : Flat). Leads x act H) r leads, sound, refl)
+follows_more F G H (e ∷ es) n act r leads sound = (r.0, r.1, r.2, follows_more r.0 G H es n act r.3 leads sound)
 
 -- a history that is one act longer
 traced_more : (F : Flat) (b : ArrayView) (log : List (Entry Act)) (n : ℕ) (act : Act) → IsTraced log F → (on : GoesOn F act b)
@@ -60,16 +60,24 @@ traced_more F b log n act is on =
         opening = r.opening;
         shows = r.shows;
         idle = r.idle;
-        follows = follows_more r.opening F on.flat r.rest n act r.follows on.leads;
+        follows = follows_more r.opening F on.flat r.rest n act r.follows on.leads (key_at b, on.shows.history);
       };
       idle = on.idle;
     }
 
 -- what was noted is the act that led on
-pub traced_note : (F : Flat) (b : ArrayView) (log after : List (Entry Act)) (n : ℕ) (act noted : Act) → IsTraced log F → (on : GoesOn F act b)
+traced_note : (F : Flat) (b : ArrayView) (log after : List (Entry Act)) (n : ℕ) (act noted : Act) → IsTraced log F → (on : GoesOn F act b)
     → after ≡ log ++ entry n noted ∷ [] → noted ≡ act → IsTraced after on.flat
 traced_note F b log after n act noted is on same acts =
     subst (λ (l : List (Entry Act)). IsTraced l on.flat) (sym (same ∙ ap (λ (x : Act). log ++ entry n x ∷ []) acts)) (traced_more F b log n act is on)
+
+-- and no hand more was hired
+pub led_note : (F : Flat) (b : ArrayView) (before after : Course Act) (hands n : ℕ) (act noted : Act) → IsLed before hands F → (on : GoesOn F act b)
+    → after ≡ record { hired = before.hired; log = before.log ++ entry n noted ∷ [] } → noted ≡ act → IsLed after hands on.flat
+led_note F b before after hands n act noted is on same acts = record {
+  traced = traced_note F b before.log after.log n act noted is.traced on (ap (λ (k : Course Act). k.log) same) acts;
+  hired = ap (λ (k : Course Act). k.hired) same ∙ is.hired;
+}
 
 -- so it was noted by the hand, which has seen the history up to it
 pub noted_as : (v w : Carried Act) (what act : Act) (log : List (Entry Act)) (F : Flat) → Extends v what w → what ≡ act → w.seen ≡ log → IsTraced log F → Noted v act w

@@ -11,3 +11,5 @@ pub mod Going
 pub mod Noting
 pub mod Idled
 pub mod Wholes
+pub mod OneRuns
+pub mod Lying

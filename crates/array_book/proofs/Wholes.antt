@@ -4,8 +4,12 @@ use Rattle.std.specs.Prelude.{◌==◌, ◌||◌}
 use Rattle.std.specs.List.{list_any}
 use Rattle.history.specs.declared.view.Entry.{Entry}
 use Rattle.history.specs.Entries.{Carried, Course, IsWhole, cons_if, entries_by}
-use Rattle.array_book.specs.Acts.{Act}
-use Rattle.array_book.specs.Whole.{AreWhole, has_number, AreTheirs, IsLowestMissing, IsMissing}
+use Rattle.slot_tables.specs.Views.{ArrayView, IsWhole as HasAll}
+use Rattle.array_book.specs.Acts.{Act, IsEndOf}
+use Rattle.array_book.specs.Whole.{AreWhole, has_number, AreTheirs, IsLowestMissing, IsMissing, IsHistoryOf}
+use Rattle.array_book.specs.OneRun.{IsOneRun}
+use Rattle.array_book.proofs.Lying.{reads_through}
+use Rattle.array_book.proofs.OneRuns.{one_run}
 
 -- a number is below the number of those that were hired, or not
 below_or : (n hired : ℕ) → (n < hired) ⊎ (hired ≤ n)
@@ -60,3 +64,17 @@ up_to hands k here next n low = elim (below_or n k) [
   | inl less ↦ here n less
   | inr high ↦ let same : k ≡ n = omega (arith, low, high) in subst (λ (m : ℕ). has_number hands m ≡ true) same next
 ]
+
+-- all of it, of the hands that were compared
+pub history_of : (count : ℕ) (hands : List (Carried Act)) (before after : Course Act) (array : ArrayView) → after ≡ before → IsEndOf before.log array → HasAll array → AreWhole before hands
+    → before.hired ≡ count → IsHistoryOf count hands after array
+history_of count hands before after array same ends well whole hired = subst (λ (k : Course Act). IsHistoryOf count hands k array) (sym same) record {
+  ends = ends;
+  one = one;
+  reads = λ b. reads_through array one.last b well one.shows;
+  whole = whole;
+  hired = hired;
+}
+  where
+    one : IsOneRun before.log array
+    one = one_run before.log array ends

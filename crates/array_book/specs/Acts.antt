@@ -8,6 +8,7 @@ use Rattle.flat_machine.specs.declared.refusal.Refusal.TheVariants.{Memory}
 use Rattle.flat_machine.specs.Flat.{Flat, Content, Holder, Worker, Ticket}
 use Rattle.flat_machine.specs.Steps.{FlatStep, Claim, Release, Commit, Discard, FlatAnswer, Claimed, Released, Committed, Discarded, Refused}
 use Rattle.flat_machine.specs.Cases.{Runs}
+use Rattle.flat_machine.specs.History.{IsHistory}
 use Rattle.flat_machine.specs.Learning.{LearnedCase, UnlearnedCase}
 use Rattle.slot_tables.specs.Represents.{ShowsArray}
 use Rattle.slot_tables.specs.Views.{ArrayView}
@@ -15,7 +16,7 @@ use Rattle.step_core.specs.Placing.{Put, put_step, put_answer}
 use Rattle.step_core.specs.Told.{Lesson}
 use Rattle.disk_array.specs.declared.commit.Done.{Done}
 use Rattle.history.specs.declared.view.Entry.{Entry}
-use Rattle.history.specs.Entries.{entry}
+use Rattle.history.specs.Entries.{entry, Course}
 
 -- the array with which a history begins; or steps and their answers; or what a read of a record learned, or why it learned nothing
 pub data Act : Type 0 where
@@ -84,10 +85,14 @@ abbrev pub read_act : Record → Result Lesson Refusal → Act
 read_act asked (Ok l) = Learns asked l.told l.content
 read_act asked (Err q) = refused_read asked q
 
--- the entries of a history, one after the other, lead from one state to another
+-- a state of which all holds that is true of every state of the flat machine
+abbrev pub IsSound : Flat → Type 0
+IsSound F = (keys : ℕ → ℕ) × IsHistory F keys
+
+-- the entries of a history, one after the other, lead from one state to another, through sound states
 abbrev pub Follows : Flat → List (Entry Act) → Flat → Type 0
 Follows F [] G = G ≡ F
-Follows F (e ∷ es) G = (M : Flat) × Leads F e.what M × Follows M es G
+Follows F (e ∷ es) G = (M : Flat) × Leads F e.what M × IsSound M × Follows M es G
 
 -- no worker has a claim, and all tickets are worker 0's
 pub record AreIdle (held : ℕ → Holder → Bool) : Type 0 where
@@ -116,6 +121,11 @@ IsCourse log = (F : Flat) × IsRun log F
 pub record IsTraced (log : List (Entry Act)) (F : Flat) : Type 0 where
   pub run : IsRun log F
   pub idle : IsIdle F
+
+-- the history leads to this state, and exactly this many hands were hired
+pub record IsLed (keeper : Course Act) (hands : ℕ) (F : Flat) : Type 0 where
+  pub traced : IsTraced keeper.log F
+  pub hired : keeper.hired ≡ hands
 
 -- the history leads to a state that the array shows
 pub record IsEndOf (log : List (Entry Act)) (array : ArrayView) : Type 0 where

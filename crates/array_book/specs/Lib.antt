@@ -1,5 +1,6 @@
 pub mod Kept
 pub mod Acts
+pub mod OneRun
 pub mod Takes
 pub mod Planned
 pub mod Numbers

@@ -3,20 +3,26 @@ use Rattle.std.specs.Prelude.{◌≡◌, ◌≢◌, ℕ, ◌==◌, ◌<◌, List
 use Rattle.std.specs.List.{list_any}
 use Rattle.history.specs.declared.view.Entry.{Entry}
 use Rattle.history.specs.Entries.{Carried, Course, IsWhole}
-use Rattle.slot_tables.specs.Views.{ArrayView}
+use Rattle.slot_tables.specs.Views.{ArrayView, key_at}
+use Rattle.step_core.specs.Headline.{ReadsThrough}
 use Rattle.array_book.specs.Acts.{Act, IsEndOf}
+use Rattle.array_book.specs.OneRun.{IsOneRun}
 
 -- the history agrees with each of these hands
 abbrev pub AreWhole : Course Act → List (Carried Act) → Type 0
 AreWhole keeper [] = Unit {0}
 AreWhole keeper (hand ∷ hands) = IsWhole keeper hand × AreWhole keeper hands
 
--- The array is at the end of one run of the flat machine, from a state that the array of its beginning shows. The run's entries of
--- each of these hands are exactly those that the hand noted, in its order; it begins with all that the hand has seen, and has no
--- entry of a hand that wasn't hired.
-pub record IsHistoryOf (hands : List (Carried Act)) (keeper : Course Act) (array : ArrayView) : Type 0 where
+-- The array is at the end of one run of the flat machine, from a state that the array of its beginning shows, and its map is the map
+-- of the records of that run. Its drives have at the newest place of each block, unless that slot is gone, the content of the block's
+-- last write in that run. The run's entries of each of these hands are exactly those that the hand noted, in its order; it begins
+-- with all that the hand has seen, and has no entry of a hand that wasn't hired; `count` hands were.
+pub record IsHistoryOf (count : ℕ) (hands : List (Carried Act)) (keeper : Course Act) (array : ArrayView) : Type 0 where
   pub ends : IsEndOf keeper.log array
+  pub one : IsOneRun keeper.log array
+  pub reads : (b : ℕ) → ReadsThrough array.parts one.last b (key_at array b)
   pub whole : AreWhole keeper hands
+  pub hired : keeper.hired ≡ count
 
 -- one of the hands has this number
 abbrev pub has_number : List (Carried Act) → ℕ → Bool

@@ -57,8 +57,8 @@ impl<D: Drive, N: slot_words::Naming + Sizes, A: map_words::Naming, B: map_words
     A,
     B,
 > {
-    /// A Book around the array that its history leads to, with a word for each slot and two for each block. Out of memory returns
-    /// all of it.
+    /// A Book around the array that its history leads to, with a word for each slot and two for each block. All hands of the history
+    /// were hired before. Out of memory returns all of it.
     pub fn new(
         alloc: Global,
         array: Array<D, Claim<N>>,
@@ -72,6 +72,7 @@ impl<D: Drive, N: slot_words::Naming + Sizes, A: map_words::Naming, B: map_words
         requires payload { array.parts.groups.payload ≡ N.payload }
         requires even { blocks_of A.table ≡ N.blocks }
         requires odd { blocks_of B.table ≡ N.blocks }
+        requires hands { history.1.hired ≡ N.hands }
         ensures err { IfErr result (λ e. (e.0 ≡ array) × (e.3.1 ≡ history.1)) }
     {
         let shape = array.shape();
@@ -102,7 +103,8 @@ impl<D: Drive, N: slot_words::Naming + Sizes, A: map_words::Naming, B: map_words
 
     // What the Book was made of, once no worker is left.
     pub(crate) fn into_parts(self) -> BookParts<D, N, A, B>
-        ensures { IsEndOf result.3.1.log result.0 }
+        ensures course { IsEndOf result.3.1.log result.0 }
+        ensures hands { result.3.1.hired ≡ N.hands }
     {
         let Book {
             words,

@@ -6,18 +6,23 @@ use slot_words::{Naming, SlotWords};
 use std::marker::Brand;
 use step_core::{Apart, Hold};
 
-/// Names the history and the sizes of one array, so that they are known under its lock.
+/// Names the history of one array, its sizes and the number of its hands, so that they are known under its lock.
 pub trait Sizes: Chronicle {
     // How many blocks the array has, and how many bytes a payload.
     ghost blocks: { ℕ };
 
     ghost payload: { ℕ };
+
+    // How many hands of the history there are. No more are hired while the array is in a Book.
+    ghost hands: { ℕ };
 }
 
 impl Sizes for Brand {
     ghost blocks = { 0 };
 
     ghost payload = { 0 };
+
+    ghost hands = { 0 };
 }
 
 /// A claim of the table N. It can't be dropped, only released.

@@ -38,13 +38,13 @@ pub struct Kept<D: Drive, N: Naming + Sizes> {
 
 impl<D: Drive, N: Naming + Sizes> Model for Kept<D, N> {
     ghost use Rattle.array_book.specs.Kept.{KeptView, IsKept};
-    ghost use Rattle.array_book.specs.Acts.{IsTraced};
+    ghost use Rattle.array_book.specs.Acts.{IsLed};
 
     ghost Value = { KeptView };
 
     ghost view = { λ k. record { array = k.array; planner = k.planner } };
 
-    ghost invariant = { λ k. (is : IsKept N.blocks N.payload (record { array = k.array; planner = k.planner })) × IsTraced k.keeper.log is.flat };
+    ghost invariant = { λ k. (is : IsKept N.blocks N.payload (record { array = k.array; planner = k.planner })) × IsLed k.keeper N.hands is.flat };
 }
 
 impl<D: Drive, N: Naming + Sizes> Kept<D, N> {

@@ -11,6 +11,7 @@ mod fault;
 mod gate;
 mod held;
 mod kept;
+mod laws;
 mod opening;
 mod plan;
 mod run;
@@ -29,6 +30,7 @@ pub use gate::{Gate, NoGate, Point};
 pub use kept::{
     Kept, appended_in, commit_in, copy_in, discard_in, fill_in, put_in, read_in, trim_in,
 };
+pub use laws::course_laws;
 pub use opening::begin;
 pub use run::{Job, RunFault, run_workers};
 pub use settle_fault::SettleFault;

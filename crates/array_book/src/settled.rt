@@ -45,8 +45,8 @@ pub fn settle<D: Drive, N: slot_words::Naming + Sizes, A: map_words::Naming, B: 
         × IsMapOf (taken_by (map (λ e. e.even) ended.items) ++ taken_by (map (λ e. e.odd) ended.items)) (key_at settled.array)) }
     ensures err { IfErr result (λ e. IsUnsettled (shares_of (map (λ e. e.even) ended.items)) (shares_of (map (λ e. e.odd) ended.items))
         (taken_by (map (λ e. e.even) ended.items) ++ taken_by (map (λ e. e.odd) ended.items)) (key_at e.1.array) e.0) }
-    ensures history { MatchResult result (λ settled. IsHistoryOf (map (λ e. e.hand) ended.items) settled.keeper settled.array)
-        (λ e. IsHistoryOf (map (λ e. e.hand) ended.items) e.1.keeper e.1.array) }
+    ensures history { MatchResult result (λ settled. IsHistoryOf N.hands (map (λ e. e.hand) ended.items) settled.keeper settled.array)
+        (λ e. IsHistoryOf N.hands (map (λ e. e.hand) ended.items) e.1.keeper e.1.array) }
     ensures missing { MatchResult result (λ settled. IsMissing settled.keeper (map (λ e. e.hand) ended.items) settled.missing)
         (λ e. IsMissing e.1.keeper (map (λ e. e.hand) ended.items) e.1.missing) }
     ensures pass { MatchResult result (λ settled. settled.pass ≡ all_joined (map (λ e. e.pass) ended.items))
@@ -54,6 +54,7 @@ pub fn settle<D: Drive, N: slot_words::Naming + Sizes, A: map_words::Naming, B: 
     ensures shows { MatchResult result (λ settled. (F : Flat) × ShowsArray settled.array F) (λ e. (F : Flat) × ShowsArray e.1.array F) }
 {
     let (array, words, maps, (history, mut keeper)) = book.into_parts();
+    array.whole();
     let missing = lowest_missing(keeper.hired(), &ended);
     let (told, pass) = close_all(alloc, &words, maps, &history, &mut keeper, ended, &array);
     let settled = Settled {

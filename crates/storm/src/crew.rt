@@ -1,4 +1,10 @@
 // The workers of a storm.
+ghost use Rattle.std.specs.Prelude.{◌≡◌, [], ◌∷◌, map, IfOk, IfSome};
+ghost use Rattle.slot_tables.specs.Views.{ArrayView};
+ghost use Rattle.history.specs.Entries.{entry};
+ghost use Rattle.array_book.specs.Acts.{Opens};
+ghost use Rattle.storm.specs.Ending.{HaveBegun};
+
 use crate::outcome::{StormFault, Tally};
 use crate::rounds::Rounds;
 use array_book::{Book, Deed, Ended, RunFault, Sizes, Worker, run_workers};
@@ -30,7 +36,9 @@ pub(crate) fn run_all<
     book: &Book<MemDrive, N, A, B>,
     hands: (Ended<N, A, B>, Vec<Hand<N, Deed>>),
     crew: Crew,
-) -> Result<(Vec<Ended<N, A, B>>, Tally), StormFault> {
+) -> Result<(Vec<Ended<N, A, B>>, Tally), StormFault>
+    ensures { (array : ArrayView) → hands.0.hand.seen ≡ entry 0 (Opens array) ∷ [] → IfOk result (λ r. HaveBegun (map (λ e. e.hand) r.0.items) array) }
+{
     let (mut hands, parts) = hands;
     let mut hired = hire(alloc, book, &mut hands, parts, crew.workers)?;
     let rounds = Rounds::new(crew.writes, crew.payload);
@@ -50,7 +58,9 @@ fn hire<'a, N: slot_words::Naming + Sizes, A: map_words::Naming, B: map_words::N
     hands: &mut Ended<N, A, B>,
     parts: Vec<Hand<N, Deed>>,
     count: u8,
-) -> Result<Vec<Worker<'a, MemDrive, N, A, B>>, StormFault> {
+) -> Result<Vec<Worker<'a, MemDrive, N, A, B>>, StormFault>
+    ensures { hands.new.hand ≡ hands.old.hand }
+{
     let mut parts = parts;
     let mut hired = Vec::new(alloc);
     for number in 0..count {
@@ -81,7 +91,9 @@ fn dismiss<N: slot_words::Naming + Sizes, A: map_words::Naming, B: map_words::Na
     alloc: Global,
     hands: Ended<N, A, B>,
     hired: Vec<Worker<'_, MemDrive, N, A, B>>,
-) -> Option<Vec<Ended<N, A, B>>> {
+) -> Option<Vec<Ended<N, A, B>>>
+    ensures { (array : ArrayView) → hands.hand.seen ≡ entry 0 (Opens array) ∷ [] → IfSome result (λ all. HaveBegun (map (λ e. e.hand) all.items) array) }
+{
     let mut ended = Vec::new(alloc);
     if ended.push(hands).is_err() {
         return None;

@@ -1,13 +1,15 @@
 // The whole life of a storm's tables.
-ghost use Rattle.std.specs.Prelude.{◌≡◌, ◌≢◌, ℕ, map, IfOk, IfErr};
+ghost use Rattle.std.specs.Prelude.{◌≡◌, ◌≢◌, ℕ, ◌+◌, [], ◌∷◌, map, IfOk, IfErr, IfSome};
 ghost use Rattle.array_book.specs.declared.settle_fault.SettleFault.TheVariants as settle_fault;
 ghost use Rattle.slot_tables.specs.Represents.{ShowsArray};
-ghost use Rattle.slot_tables.specs.Views.{key_at};
+ghost use Rattle.slot_tables.specs.Views.{ArrayView, key_at};
+ghost use Rattle.history.specs.Entries.{entry};
+ghost use Rattle.array_book.specs.Acts.{Opens};
 ghost use Rattle.flat_machine.specs.Flat.{Flat};
 ghost use Rattle.map_words.specs.Places.{blocks_of};
 ghost use Rattle.slot_words.specs.Places.{slots_of};
 ghost use Rattle.array_book.specs.Whole.{IsHistoryOf, IsMissing};
-ghost use Rattle.storm.specs.Ending.{IsEnding};
+ghost use Rattle.storm.specs.Ending.{IsEnding, IsNew, HaveBegun, HasStormed};
 
 use crate::crew::{Crew, run_all};
 use crate::outcome::{Storm, StormFault, Tally};
@@ -41,13 +43,15 @@ pub struct Orders {
     pub fuse: Option<Fuse>,
 }
 
-/// Runs `workers` workers, each with `writes` rounds, over an array of 16 blocks with payloads of 8 bytes, and settles. It may wait.
+/// Runs `workers` workers, each with `writes` rounds, over a new array of 16 blocks with payloads of 8 bytes, and settles. It may wait.
 pub fn run_storm<R: Threads + Wait + Sync>(
     rt: &R,
     alloc: Global,
     workers: u8,
     writes: u32,
-) -> Result<Storm, StormFault> {
+) -> Result<Storm, StormFault>
+    ensures { IfOk result (HasStormed (workers + 1) 8) }
+{
     run_orders(
         rt,
         alloc,
@@ -60,12 +64,14 @@ pub fn run_storm<R: Threads + Wait + Sync>(
     )
 }
 
-/// Runs the workers of these orders over an array of 16 blocks, and settles. It may wait.
+/// Runs the workers of these orders over a new array of 16 blocks, and settles. It may wait.
 pub fn run_orders<R: Threads + Wait + Sync>(
     rt: &R,
     alloc: Global,
     orders: Orders,
-) -> Result<Storm, StormFault> {
+) -> Result<Storm, StormFault>
+    ensures { IfOk result (HasStormed (orders.workers + 1) orders.payload) }
+{
     let wanted = StormFault::Setup(Refusal::Memory);
     let Ok(slots) = SlotWords::new(alloc, 65_536) else {
         return Err(wanted);
@@ -97,8 +103,10 @@ fn play_out<
 ) -> Result<Storm, StormFault>
     requires names { (slots ≡ N.table) × (maps.0 ≡ A.table) × (maps.1 ≡ B.table) × (opened ≡ N.chronicle) }
     requires sizes { (N.blocks ≡ 16) × (N.payload ≡ orders.payload) }
+    requires hands { N.hands ≡ orders.workers + 1 }
     requires slots { slots_of slots ≡ 65536 }
     requires blocks { (blocks_of maps.0 ≡ 16) × (blocks_of maps.1 ≡ 16) }
+    ensures { IfOk result (HasStormed N.hands N.payload) }
 {
     let (words, mut pass) = slots.named::<N>();
     let (even, one) = maps.0.named::<A>();
@@ -135,9 +143,11 @@ fn open<N: slot_words::Naming + Sizes, A: map_words::Naming, B: map_words::Namin
     orders: Orders,
 ) -> Result<(Book<MemDrive, N, A, B>, Hand<N, Deed>, Vec<Hand<N, Deed>>), StormFault>
     requires sizes { (N.blocks ≡ 16) × (N.payload ≡ orders.payload) }
+    requires hands { N.hands ≡ orders.workers + 1 }
     requires slots { slots_of N.table ≡ 65536 }
     requires blocks { (blocks_of A.table ≡ 16) × (blocks_of B.table ≡ 16) }
     requires name { opened ≡ N.chronicle }
+    ensures { IfOk result (λ r. (first : ArrayView) × IsNew N.payload first × (r.1.seen ≡ entry 0 (Opens first) ∷ [])) }
 {
     let mut array = match storm_array(alloc, &words, spare, orders.payload) {
         Ok(array) => array,
@@ -168,7 +178,8 @@ fn hire_hands<N: Chronicle>(
     keeper: &mut Keeper<N, Deed>,
     count: u8,
 ) -> Option<Vec<Hand<N, Deed>>>
-    ensures { keeper.new.log ≡ keeper.old.log }
+    ensures log { keeper.new.log ≡ keeper.old.log }
+    ensures hired { IfSome result (λ hands. keeper.new.hired ≡ keeper.old.hired + count) }
 {
     let mut hands = Vec::new(alloc);
     for _ in 0..count {
@@ -180,14 +191,16 @@ fn hire_hands<N: Chronicle>(
     Some(hands)
 }
 
-// Settles a Book, and releases the claims that its array kept.
+// Settles a Book, and releases the claims that its array kept. A fault where a hand of the history didn't come back.
 fn close<N: slot_words::Naming + Sizes, A: map_words::Naming, B: map_words::Naming>(
     alloc: Global,
     book: Book<MemDrive, N, A, B>,
     ended: Vec<Ended<N, A, B>>,
     tally: Tally,
     spare: &mut Pass<N>,
-) -> Result<Storm, StormFault> {
+) -> Result<Storm, StormFault>
+    ensures { (first : ArrayView) → IsNew N.payload first → HaveBegun (map (λ e. e.hand) ended.items) first → IfOk result (HasStormed N.hands N.payload) }
+{
     let (told, settled) = conclude(alloc, book, ended, tally);
     let Settled {
         array,
@@ -195,10 +208,14 @@ fn close<N: slot_words::Naming + Sizes, A: map_words::Naming, B: map_words::Nami
         pass: _,
         history: _,
         keeper: _,
-        missing: _,
+        missing,
     } = settled;
     release_all(&words, spare, array);
-    told
+    let storm = told?;
+    match missing {
+        None => Ok(storm),
+        Some(hand) => Err(StormFault::Missing(hand)),
+    }
 }
 
 // Settles a Book: whether the map of what its workers took is that of its array. The array is at the end of one run of all that
@@ -211,7 +228,7 @@ fn conclude<N: slot_words::Naming + Sizes, A: map_words::Naming, B: map_words::N
 ) -> (Result<Storm, StormFault>, Settled<MemDrive, N>)
     ensures ok { IfOk result.0 (IsEnding (map (λ e. e.even) ended.items) (map (λ e. e.odd) ended.items) (key_at result.1.array)) }
     ensures err { IfErr result.0 (λ fault. (block : ℕ) → fault ≢ StormFault.Settle (settle_fault.Differs block)) }
-    ensures history { IsHistoryOf (map (λ e. e.hand) ended.items) result.1.keeper result.1.array }
+    ensures history { IsHistoryOf N.hands (map (λ e. e.hand) ended.items) result.1.keeper result.1.array }
     ensures missing { IsMissing result.1.keeper (map (λ e. e.hand) ended.items) result.1.missing }
 {
     match settle(alloc, book, ended) {
@@ -243,6 +260,7 @@ fn is_fused<N: slot_words::Naming>(
 ) -> bool
     ensures shows { (F : Flat) → ShowsArray array.old F → (G : Flat) × ShowsArray array.new G }
     ensures sizes { (array.new.parts.groups.blocks ≡ array.old.parts.groups.blocks) × (array.new.parts.groups.payload ≡ array.old.parts.groups.payload) }
+    ensures log { array.new.log ≡ array.old.log }
 {
     let Some(Fuse { drive, calls }) = fuse else {
         return true;

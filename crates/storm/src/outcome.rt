@@ -50,10 +50,12 @@ pub enum StormFault {
     Run(RunFault),
     /// Never `Differs`.
     Settle(SettleFault),
+    /// The lowest number of a hand of the history that didn't come back.
+    Missing(u64),
 }
 
 impl StormFault {
-    /// The fault's number, 1 to 3 in the order above. A program ends with status 4 for each.
+    /// The fault's number, 1 to 4 in the order above. A program ends with status 4 for each.
     pub fn number(&self) -> u8
         ensures { result ≡ number_of self.now }
     {
@@ -61,6 +63,7 @@ impl StormFault {
             StormFault::Setup(_) => 1,
             StormFault::Run(_) => 2,
             StormFault::Settle(_) => 3,
+            StormFault::Missing(_) => 4,
         }
     }
 }

@@ -1,7 +1,8 @@
 // The array of a storm.
-ghost use Rattle.std.specs.Prelude.{◌≡◌, IfOk, length};
+ghost use Rattle.std.specs.Prelude.{◌≡◌, [], IfOk, length};
 ghost use Rattle.slot_tables.specs.Represents.{ShowsArray};
 ghost use Rattle.flat_machine.specs.Flat.{Flat};
+ghost use Rattle.storm.specs.Ending.{IsNew};
 
 use array_book::Claim;
 use extents::{MemDrive, Shape};
@@ -50,7 +51,7 @@ pub(crate) fn storm_array<N: Naming>(
     payload: u32,
 ) -> Result<Array<MemDrive, Claim<N>>, Refusal>
     ensures shows { IfOk result (λ array. (F : Flat) × ShowsArray array F) }
-    ensures sizes { IfOk result (λ array. (array.parts.groups.blocks ≡ 16) × (array.parts.groups.payload ≡ payload)) }
+    ensures new { IfOk result (IsNew payload) }
 {
     let Ok(shape) = Shape::new(8, 8, payload, BLOCKS) else {
         return Err(Refusal::BadMember);
@@ -100,6 +101,7 @@ fn add_group<N: Naming>(
 ) -> Result<(), Refusal>
     ensures shows { (F : Flat) → ShowsArray array.old F → (G : Flat) × ShowsArray array.new G }
     ensures sizes { (array.new.parts.groups.blocks ≡ array.old.parts.groups.blocks) × (array.new.parts.groups.payload ≡ array.old.parts.groups.payload) }
+    ensures log { array.new.log ≡ array.old.log }
 {
     let (_group, claims) = array.make_group(alloc, class, members)?;
     release_each(words, pass, claims);

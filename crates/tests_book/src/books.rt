@@ -95,7 +95,7 @@ fn both<
     requires names { (tables.0.slots ≡ N.table) × (tables.0.even ≡ A.table) × (tables.0.odd ≡ B.table) × (tables.1 ≡ N.chronicle) }
     requires maps { (maps.0 ≡ C.table) × (maps.1 ≡ D.table) }
     requires blocks { (blocks_of maps.0 ≡ 16) × (blocks_of maps.1 ≡ 16) }
-    requires sizes { (N.blocks ≡ 16) × (N.payload ≡ 40) }
+    requires sizes { (N.blocks ≡ 16) × (N.payload ≡ 40) × (N.hands ≡ 2) }
     requires count { count ≤ 48 }
 {
     let (tables, opened) = tables;
@@ -103,7 +103,9 @@ fn both<
     let mut spare = bench.words.split(&mut bench.shares.pass);
     let mut claims = claimed(rt, alloc, &bench.words, &mut spare, count);
     let array = laid_out(rt, alloc, Layout::Storm);
-    let (history, keeper, hand) = begin(opened, &array);
+    let (history, mut keeper, hand) = begin(opened, &array);
+    // One hand for each Book: no more are hired while the array is in one.
+    let later = hired(rt, &history, &mut keeper);
     let begun = (array, history, keeper, hand);
     let (settled, left) = play(rt, alloc, begun, bench, &[4], stories.0);
     assert!(rt; settled == Ok(()));
@@ -112,10 +114,11 @@ fn both<
         words,
         pass,
         history,
-        mut keeper,
+        keeper,
         missing,
     } = left;
-    assert!(rt; missing == None);
+    // The second Book's hand waits.
+    assert!(rt; missing == Some(1));
     let Some(pass) = pass else {
         panic!(rt; "no Pass came back")
     };
@@ -123,8 +126,7 @@ fn both<
     let shape = array.shape();
     assert!(rt; shape.blocks == 16 && shape.payload == 40);
     let bench = renewed::<N, C, D>(words, pass, maps.0, maps.1);
-    let hand = hired(rt, &history, &mut keeper);
-    let begun = (array, history, keeper, hand);
+    let begun = (array, history, keeper, later);
     let (settled, left) = play(rt, alloc, begun, bench, &[4], stories.1);
     assert!(rt; settled == Ok(()));
     let Settled {

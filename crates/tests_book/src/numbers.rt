@@ -18,7 +18,9 @@ fn each_fault_has_its_number(rt: HostRuntime) {
     }
     let run = StormFault::Run(RunFault::Memory);
     let setup = StormFault::Setup(Refusal::Full);
-    for (fault, number) in [(setup, 1), (run, 2), (StormFault::Settle(part), 3)] {
+    let settle = StormFault::Settle(part);
+    let missing = StormFault::Missing(5);
+    for (fault, number) in [(setup, 1), (run, 2), (settle, 3), (missing, 4)] {
         assert!(rt; fault.number() == number);
     }
 }

@@ -199,7 +199,7 @@ fn refuses<
     R: Abort + Threads + Wait + Sync,
 >(rt: &R, alloc: Global, tables: (Tables, Opened<Deed>), case: &Refused)
     requires names { (tables.0.slots ≡ N.table) × (tables.0.even ≡ A.table) × (tables.0.odd ≡ B.table) × (tables.1 ≡ N.chronicle) }
-    requires sizes { (N.blocks ≡ 16) × (N.payload ≡ 40) }
+    requires sizes { (N.blocks ≡ 16) × (N.payload ≡ 40) × (N.hands ≡ 1) }
 {
     let (tables, opened) = tables;
     let mut bench = named::<N, A, B>(tables);

@@ -1,6 +1,6 @@
 // The life of a Book over an array of 16 blocks and payloads of 40 bytes: its tables, its workers, who play a story, and how it
 // is settled.
-ghost use Rattle.std.specs.Prelude.{◌≡◌};
+ghost use Rattle.std.specs.Prelude.{◌≡◌, ◌+◌, ◌-◌, length};
 ghost use Rattle.slot_tables.specs.Represents.{ShowsArray};
 ghost use Rattle.flat_machine.specs.Flat.{Flat};
 ghost use Rattle.map_words.specs.Places.{blocks_of};
@@ -296,7 +296,8 @@ pub(crate) fn hired<N: Sizes, R: Abort>(
     history: &History<N, Deed>,
     keeper: &mut Keeper<N, Deed>,
 ) -> Hand<N, Deed>
-    ensures { keeper.new.log ≡ keeper.old.log }
+    ensures log { keeper.new.log ≡ keeper.old.log }
+    ensures hired { keeper.new.hired ≡ keeper.old.hired + 1 }
 {
     let Some(hand) = keeper.hire(history) else {
         panic!(rt; "no hand")
@@ -314,7 +315,8 @@ fn parted<N: slot_words::Naming + Sizes, A: map_words::Naming, B: map_words::Nam
     shares: Shares<N, A, B>,
     count: usize,
 ) -> Vec<Ended<N, A, B>>
-    ensures { keeper.new.log ≡ keeper.old.log }
+    ensures log { keeper.new.log ≡ keeper.old.log }
+    ensures hired { keeper.new.hired ≡ keeper.old.hired + (count - 1) }
 {
     let (words, even, odd, history) = words;
     let mut shares = shares;
@@ -412,6 +414,7 @@ pub(crate) fn play<
     requires named { (N.blocks ≡ 16) × (N.payload ≡ 40) }
     requires many { slots_of N.table ≡ 65536 }
     requires blocks { (blocks_of A.table ≡ 16) × (blocks_of B.table ≡ 16) }
+    requires hands { array.2.hired + (length numbers.now - 1) ≡ N.hands }
     ensures course { IsEndOf result.1.keeper.log result.1.array }
 {
     let (array, history, mut keeper, hand) = array;
@@ -505,6 +508,7 @@ fn live<
 ) -> (Result<(), SettleFault>, u32)
     requires names { (tables.0.slots ≡ N.table) × (tables.0.even ≡ A.table) × (tables.0.odd ≡ B.table) × (tables.1 ≡ N.chronicle) }
     requires sizes { (N.blocks ≡ 16) × (N.payload ≡ 40) }
+    requires hands { N.hands ≡ 1 + (length numbers.now - 1) }
 {
     let (tables, opened) = tables;
     let mut bench = named::<N, A, B>(tables);

@@ -1,7 +1,7 @@
 use Rattle.std.proofs.Common.{◌<◌, subst, rules}
 use Rattle.std.specs.Prelude.{MatchOption}
 use Rattle.background.specs.Planning.{IsOldestMirrored}
-use Rattle.array_book.specs.Acts.{IsTraced}
+use Rattle.array_book.specs.Acts.{IsLed}
 use Rattle.array_book.specs.Kept.{KeptView, IsKept}
 use Rattle.array_book.proofs.Going.{kept_as}
 use Rattle.array_book.specs.Planned.{WantsDemotion}
@@ -22,4 +22,4 @@ pub invariant_of-kept : goal.invariant_of-kept
 invariant_of-kept g c =
     let k = c.kept.invariant.0 in
     let is : IsKept g.N.Sizes.blocks g.N.Sizes.payload (record { array = c.kept.inside.array; planner = c.oldest_mirrored.new.self }) = search rules in
-    kept_as (IsTraced c.kept.inside.keeper.log) _ _ _ is k.flat k.shows c.kept.invariant.1
+    kept_as (IsLed c.kept.inside.keeper g.N.Sizes.hands) _ _ _ is k.flat k.shows c.kept.invariant.1

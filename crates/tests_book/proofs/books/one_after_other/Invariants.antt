@@ -5,7 +5,7 @@ abbrev pub ghosts-both-N-Naming : goal.ghosts-both-N-Naming
 ghosts-both-N-Naming g a = record { table = a.tables.0.slots }
 
 abbrev pub ghosts-both-N-Sizes : goal.ghosts-both-N-Sizes
-ghosts-both-N-Sizes g a = record { blocks = 16; payload = 40 }
+ghosts-both-N-Sizes g a = record { blocks = 16; payload = 40; hands = 2 }
 
 abbrev pub ghosts-both-A-Naming : goal.ghosts-both-A-Naming
 ghosts-both-A-Naming g a = record { table = a.tables.0.even }

@@ -5,7 +5,7 @@ abbrev pub ghosts-refuses-N-Naming : goal.ghosts-refuses-N-Naming
 ghosts-refuses-N-Naming g a = record { table = a.tables.0.slots }
 
 abbrev pub ghosts-refuses-N-Sizes : goal.ghosts-refuses-N-Sizes
-ghosts-refuses-N-Sizes g a = record { blocks = 16; payload = 40 }
+ghosts-refuses-N-Sizes g a = record { blocks = 16; payload = 40; hands = 1 }
 
 abbrev pub ghosts-refuses-A-Naming : goal.ghosts-refuses-A-Naming
 ghosts-refuses-A-Naming g a = record { table = a.tables.0.even }

@@ -1,3 +1,4 @@
+use Rattle.std.proofs.Common.{◌+◌, ◌-◌, length}
 use Rattle.tests_book.proofs.rig.lived_after.Given as goal
 
 -- each table that was made has its name
@@ -5,7 +6,7 @@ abbrev pub ghosts-live-N-Naming : goal.ghosts-live-N-Naming
 ghosts-live-N-Naming g a = record { table = a.tables.0.slots }
 
 abbrev pub ghosts-live-N-Sizes : goal.ghosts-live-N-Sizes
-ghosts-live-N-Sizes g a = record { blocks = 16; payload = 40 }
+ghosts-live-N-Sizes g a = record { blocks = 16; payload = 40; hands = 1 + (length a.numbers.now - 1) }
 
 abbrev pub ghosts-live-A-Naming : goal.ghosts-live-A-Naming
 ghosts-live-A-Naming g a = record { table = a.tables.0.even }

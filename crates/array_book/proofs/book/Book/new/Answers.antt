@@ -13,4 +13,4 @@ invariant_of-kept g c =
       order = search rules;
       long = search rules;
       marked = search rules;
-    } in (is, ends.traced)
+    } in (is, record { traced = ends.traced; hired = c.requires.hands })
