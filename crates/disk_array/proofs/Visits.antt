@@ -1,5 +1,5 @@
 -- What is shown of drives one after the other, and an array whose drives look the same afterwards.
-use Rattle.std.proofs.Common.{◌≡◌, ◌++◌, ◌∷◌, [], ℕ, suc, ◌+◌, ◌<◌, arith, Bool, true, false, List, Option, Some, map, length, take, get_or, slice_set, slice_get, refl, sym, ap, subst, ◌∙◌}
+use Rattle.std.proofs.Common.{◌≡◌, ◌++◌, ◌∷◌, [], ℕ, suc, ◌+◌, ◌<◌, arith, Bool, true, false, List, Some, map, length, take, get_or, slice_set, slice_get, refl, sym, ap, subst, ◌∙◌}
 use Rattle.std.specs.Option.{option_map}
 use Rattle.std.specs.Vec.{with_items}
 use Rattle.std.proofs.Math.Seq.{map-set_same, take-suc}

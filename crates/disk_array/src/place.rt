@@ -126,7 +126,14 @@ impl<D: Drive, C: Hold> Array<D, C> {
         }
         self.log.push_reserved(stamp);
         self.keys[block as usize] = stamp.key();
-        let old = keep_placed(&mut self.places, &mut self.live, slot, claim, block, Some(source));
+        let old = keep_placed(
+            &mut self.places,
+            &mut self.live,
+            slot,
+            claim,
+            block,
+            Some(source),
+        );
         Ok(Done {
             emitted: Emitted::of(stamp),
             old,

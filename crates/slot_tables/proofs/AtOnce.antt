@@ -114,17 +114,25 @@ module _ (a : ArrayView) (v : PartsView) (F : Flat) (w s b : ℕ) (k : Kept) (c 
 
   units : Shows v G.units
   units = subst (λ f. Shows v f) (sym (
-    ap (λ o. put M.units s (stamped o (header_for r (content_of c)))) (put_here F.units s (Some (waiting_unit F.groups.payload (content_of c))))
-    ∙ put_twice F.units s (Some (waiting_unit F.groups.payload (content_of c))) (Some (placed_unit r F.groups.payload (content_of c)))
-  )) is.units
+      ap (λ o. put M.units s (stamped o (header_for r (content_of c)))) (put_here F.units s (Some (waiting_unit F.groups.payload (content_of c))))
+      ∙ put_twice F.units s (Some (waiting_unit F.groups.payload (content_of c))) (Some (placed_unit r F.groups.payload (content_of c)))
+      )) is.units
 
   pub at_once : ArePutAtOnce F step answer w s b r (commit_view mid s b found r)
-  at_once = (M, is.case, (G, commits, record {
-    history = grows;
-    units = units;
-    tables = commit_tables mid v M w s b writes (content_of c) r is.inside waiting (record { groups = refl; owners = refl }) (loses_itself v).fares is.between between_has
-        (passed IsArrays M (key_at a) w s b found (λ t. (between_history.holders t).once) (for_ticket w) (for_block b) between_history newest mine);
-  }))
+  at_once = (
+    M,
+    is.case,
+    (
+      G,
+      commits,
+      record {
+        history = grows;
+        units = units;
+        tables = commit_tables mid v M w s b writes (content_of c) r is.inside waiting (record { groups = refl; owners = refl }) (loses_itself v).fares is.between between_has
+            (passed IsArrays M (key_at a) w s b found (λ t. (between_history.holders t).once) (for_ticket w) (for_block b) between_history newest mine);
+      },
+    ),
+  )
     where
       waiting : is_waiting (kept_at mid s) ≡ true
       waiting = let room = is.whole.room.kept in ap is_waiting (get_or-set_same a.kept s k Nothing (omega (arith, room, is.inside))) ∙ is.waits
@@ -221,8 +229,18 @@ module _ (a : ArrayView) (v : PartsView) (s b : ℕ) (inside : s < 65536) (block
           between = between;
           shows = shows;
           fits = (inside, in_blocks a F b shows block);
-          case = (refl, (q, y.0, passes, y.1, (λ gone. was.source (gone_before F a.parts q.place shows.tables.groups shows.tables.lost gone)), there,
-              leaves (ticketed F w s c) a.parts v shows.tables.lost shows.tables.failures was.fares));
+          case = (
+            refl,
+            (
+              q,
+              y.0,
+              passes,
+              y.1,
+              (λ gone. was.source (gone_before F a.parts q.place shows.tables.groups shows.tables.lost gone)),
+              there,
+              leaves (ticketed F w s c) a.parts v shows.tables.lost shows.tables.failures was.fares,
+            ),
+          );
           for = refl;
           ready = λ history newest ticket mine. moved_ready (fared (ticketed F w s c) v) (key_at a) w s b (record_at b (key_at a b)) b q.version q.hop y.0.content history newest ticket mine
               refl (in_blocks a F b shows block) stamps (short a F shows room);

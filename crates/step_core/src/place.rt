@@ -62,7 +62,13 @@ impl<D: Drive> World<D> {
         if !self.is_free(slot) {
             return Err(NotPlaced::Taken);
         }
-        let done = match put_and_finish(&mut self.array, alloc, Plain { slot }, what_of(block, given), block) {
+        let done = match put_and_finish(
+            &mut self.array,
+            alloc,
+            Plain { slot },
+            what_of(block, given),
+            block,
+        ) {
             Ok(done) => done,
             Err(denied) => return Err(NotPlaced::Refused(denied.refusal)),
         };

@@ -1,5 +1,4 @@
-use Rattle.std.proofs.Common.{◌≡◌, ◌/◌, ◌<◌, ◌∙◌, false, get_or, length, sym, ap, subst, arith, Some}
-use Rattle.map_join.specs.declared.records.Record.{Record}
+use Rattle.std.proofs.Common.{◌≡◌, ◌/◌, ◌∙◌, false, get_or, sym, ap, arith}
 use Rattle.slot_tables.specs.Kept.{kepts_of}
 use Rattle.slot_tables.specs.Counted.{is_newest}
 use Rattle.slot_tables.specs.Views.{Nothing, Newest}

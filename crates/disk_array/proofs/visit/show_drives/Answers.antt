@@ -1,4 +1,4 @@
-use Rattle.std.proofs.Common.{◌≡◌, ◌<◌, length, map, subst, sym}
+use Rattle.std.proofs.Common.{◌<◌, length}
 use Rattle.std.proofs.lemmas.Option.{slice_get-get_or}
 use Rattle.array_parts.specs.Views.{drive_view}
 use Rattle.disk_array.proofs.Visits.{same_views, shown_more}

@@ -3,7 +3,6 @@ use Rattle.std.proofs.Math.ListN.{set}
 use Rattle.std.proofs.lemmas.Option.{same_Some}
 use Rattle.map_join.specs.declared.records.Record.{Record}
 use Rattle.map_join.specs.Record.{key_of, record_at}
-use Rattle.extents.specs.declared.header.Kind.{Kind}
 use Rattle.extent_groups.specs.Groups.{Groups}
 use Rattle.flat_machine.specs.Groups.{class_at}
 use Rattle.flat_machine.specs.Steps.{Copy, Copied, Refused}
@@ -12,7 +11,7 @@ use Rattle.flat_machine.proofs.Commits.{emitted_by}
 use Rattle.array_parts.specs.Slots.{IsSlot}
 use Rattle.array_parts.specs.Views.{PartsView, view_of, WasMoved, WasNotCarried}
 use Rattle.array_parts.proofs.Views.{view_drives}
-use Rattle.slot_tables.specs.Changes.{copy_reason, copy_view, commit_view, full_reason, passed, IsPlaceOf}
+use Rattle.slot_tables.specs.Changes.{copy_reason, copy_view, commit_view, full_reason, passed}
 use Rattle.slot_tables.specs.Views.{ArrayView, Nothing, Moving, Newest, kept_at, key_at, with_parts}
 use Rattle.slot_tables.specs.Kept.{kepts_of}
 use Rattle.slot_tables.proofs.AtOnce.{copied_whole, copied_at_once}
@@ -67,10 +66,12 @@ pub returns-in-Err-copy_under-clause-err : goal.returns-in-Err-copy_under-clause
 returns-in-Err-copy_under-clause-err g c =
     let d = g.D.Drive in
     let now = seen d.units d.lost d.failures c.self.inside in
-    let b = view_of d.units d.lost d.failures c.copy_under.new.self in
-    (refl, uncarried_refused c.args.self.now _ b _ _ c.in-Err-copy_under.refusal
-    (ap (λ l. record now { parts = b; log = l }) c.reserve.ensures.items ∙ ap (λ (v : ArrayView). with_parts v b) c.self.view_is)
-    (missed g (goal.at.returns-in-Err-copy_under-clause-err g c).In-Err-copy_under))
+    let b = view_of d.units d.lost d.failures c.copy_under.new.self in (
+      refl,
+      uncarried_refused c.args.self.now _ b _ _ c.in-Err-copy_under.refusal
+          (ap (λ l. record now { parts = b; log = l }) c.reserve.ensures.items ∙ ap (λ (v : ArrayView). with_parts v b) c.self.view_is)
+          (missed g (goal.at.returns-in-Err-copy_under-clause-err g c).In-Err-copy_under),
+    )
 
 pub returns-in-Err-copy_under-clause-flat : goal.returns-in-Err-copy_under-clause-flat
 returns-in-Err-copy_under-clause-flat g c F w shows held =

@@ -1,11 +1,8 @@
-use Rattle.std.proofs.Common.{◌≡◌, sym, subst}
-use Rattle.flat_machine.specs.Flat.{Flat}
-use Rattle.flat_machine.specs.Cases.{Leaves}
+use Rattle.std.proofs.Common.{sym, subst}
 use Rattle.array_parts.specs.Views.{view_of}
 use Rattle.slot_tables.specs.Represents.{ShowsArray}
 use Rattle.slot_tables.specs.Views.{ArrayView}
 use Rattle.slot_tables.proofs.Fares.{fared, lost_leaves, lost_shows}
-use Rattle.disk_array.specs.Refused.{OnlyLoses}
 use Rattle.disk_array.proofs.UnitReads.{only_loses, sync_stands}
 use Rattle.disk_array.proofs.array.Array.sync.Goals as goal
 

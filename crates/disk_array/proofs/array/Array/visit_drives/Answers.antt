@@ -1,4 +1,4 @@
-use Rattle.std.proofs.Common.{◌≡◌, ◌∙◌, ◌++◌, ap, sym, subst, true, map}
+use Rattle.std.proofs.Common.{◌∙◌, ◌++◌, ap, map}
 use Rattle.array_parts.specs.Views.{drive_view}
 use Rattle.slot_tables.specs.Views.{ArrayView}
 use Rattle.disk_array.proofs.Visits.{seen_same, shown_stands}
