@@ -8,7 +8,11 @@ use Rattle.flat_machine.specs.declared.refusal.Refusal.TheVariants.{Memory, NoGr
 use Rattle.flat_machine.specs.Flat.{Flat, Content, Holder, Worker, Ticket, Block, Waiting, Fresh, Moved, IsKept, IsNewest, with_pair, without_pair, turned}
 use Rattle.flat_machine.specs.Steps as say
 use Rattle.flat_machine.specs.Cases.{Case, Leaves, ClaimCase, ReleaseCase, FillCase, CopyCase, CommitCase, CommitWith, place_passed, IsBehind, IsWanted}
+use Rattle.flat_machine.specs.History.{IsHistory, IsStep}
 use Rattle.flat_machine.specs.Learning.{UnlearnedCase}
+use Rattle.flat_machine.proofs.Keeps.{step_keeps}
+use Rattle.map_join.specs.Maps.{IsMapOf}
+use Rattle.background.proofs.Emitting.{alike_put}
 use Rattle.flat_machine.proofs.Claims.{release_keeps, without_worker}
 use Rattle.flat_machine.proofs.Newest.{newest_told, newest_unique}
 use Rattle.slot_tables.specs.Changes.{MayRefuse, IsPlaceOf}
@@ -22,7 +26,7 @@ use Rattle.step_core.specs.Refused.{IsRefused}
 use Rattle.step_core.specs.Told.{Lesson}
 use Rattle.history.specs.declared.view.Entry.{Entry}
 use Rattle.history.specs.Entries.{entry, Carried, Course, Extends}
-use Rattle.array_book.specs.Acts.{Act, Steps, Leads, IsSound, Follows, IsIdle, AreIdle, IsRun, IsTraced, IsLed, put_act, unplaced_act, committed_act, place_of, refused_commit, discard_act, read_act, refused_read}
+use Rattle.array_book.specs.Acts.{Act, Steps, Leads, IsSound, Follows, IsIdle, AreIdle, IsRun, IsTraced, IsLed, put_act, placed_act, unplaced_act, committed_act, place_of, refused_commit, discard_act, read_act, refused_read}
 use Rattle.array_book.specs.Outcomes.{Noted}
 use Rattle.array_book.specs.Kept as book
 use Rattle.array_book.specs.Kept.{KeptView}
@@ -35,6 +39,13 @@ leaves_self F = record {
   drives = λ d. record { stays = λ e. e; count = counts_same (F.lost d) (F.failures d); steady = steady_same (F.lost d) (F.failures d) };
 }
 
+-- a state that an act leads to, and which is idle, whether an array shows it or not
+pub record Goes (F : Flat) (act : Act) : Type 0 where
+  pub flat : Flat
+  pub leads : Leads F act flat
+  pub idle : IsIdle flat
+  pub sound : IsSound flat
+
 -- a state that the array shows, which an act leads to, and which is idle
 pub record GoesOn (F : Flat) (act : Act) (b : ArrayView) : Type 0 where
   pub flat : Flat
@@ -42,14 +53,16 @@ pub record GoesOn (F : Flat) (act : Act) (b : ArrayView) : Type 0 where
   pub idle : IsIdle flat
   pub shows : ShowsArray b flat
 
+abbrev goes_of : (F : Flat) (act : Act) (b : ArrayView) → GoesOn F act b → Goes F act
+goes_of F act b on = record { flat = on.flat; leads = on.leads; idle = on.idle; sound = (key_at b, on.shows.history) }
+
 follows_more : (F G H : Flat) (log : List (Entry Act)) (n : ℕ) (act : Act) → Follows F log G → Leads G act H → IsSound H → Follows F (log ++ entry n act ∷ []) H
 follows_more F G H [] n act r leads sound = (H, subst (λ (x : Flat). Leads x act H) r leads, sound, refl)
 follows_more F G H (e ∷ es) n act r leads sound = (r.0, r.1, r.2, follows_more r.0 G H es n act r.3 leads sound)
 
 -- a history that is one act longer
-traced_more : (F : Flat) (b : ArrayView) (log : List (Entry Act)) (n : ℕ) (act : Act) → IsTraced log F → (on : GoesOn F act b)
-    → IsTraced (log ++ entry n act ∷ []) on.flat
-traced_more F b log n act is on =
+traced_more : (F : Flat) (log : List (Entry Act)) (n : ℕ) (act : Act) → IsTraced log F → (on : Goes F act) → IsTraced (log ++ entry n act ∷ []) on.flat
+traced_more F log n act is on =
     let r = is.run in
     record {
       run = record {
@@ -60,24 +73,23 @@ traced_more F b log n act is on =
         opening = r.opening;
         shows = r.shows;
         idle = r.idle;
-        follows = follows_more r.opening F on.flat r.rest n act r.follows on.leads (key_at b, on.shows.history);
+        follows = follows_more r.opening F on.flat r.rest n act r.follows on.leads on.sound;
       };
       idle = on.idle;
     }
 
--- what was noted is the act that led on
-traced_note : (F : Flat) (b : ArrayView) (log after : List (Entry Act)) (n : ℕ) (act noted : Act) → IsTraced log F → (on : GoesOn F act b)
-    → after ≡ log ++ entry n noted ∷ [] → noted ≡ act → IsTraced after on.flat
-traced_note F b log after n act noted is on same acts =
-    subst (λ (l : List (Entry Act)). IsTraced l on.flat) (sym (same ∙ ap (λ (x : Act). log ++ entry n x ∷ []) acts)) (traced_more F b log n act is on)
-
--- and no hand more was hired
-pub led_note : (F : Flat) (b : ArrayView) (before after : Course Act) (hands n : ℕ) (act noted : Act) → IsLed before hands F → (on : GoesOn F act b)
+-- what was noted is the act that led on, and no hand more was hired
+pub led_more : (F : Flat) (before after : Course Act) (hands n : ℕ) (act noted : Act) → IsLed before hands F → (on : Goes F act)
     → after ≡ record { hired = before.hired; log = before.log ++ entry n noted ∷ [] } → noted ≡ act → IsLed after hands on.flat
-led_note F b before after hands n act noted is on same acts = record {
-  traced = traced_note F b before.log after.log n act noted is.traced on (ap (λ (k : Course Act). k.log) same) acts;
+led_more F before after hands n act noted is on same acts = record {
+  traced = subst (λ (l : List (Entry Act)). IsTraced l on.flat) (sym (ap (λ (k : Course Act). k.log) same ∙ ap (λ (x : Act). before.log ++ entry n x ∷ []) acts))
+      (traced_more F before.log n act is.traced on);
   hired = ap (λ (k : Course Act). k.hired) same ∙ is.hired;
 }
+
+pub led_note : (F : Flat) (b : ArrayView) (before after : Course Act) (hands n : ℕ) (act noted : Act) → IsLed before hands F → (on : GoesOn F act b)
+    → after ≡ record { hired = before.hired; log = before.log ++ entry n noted ∷ [] } → noted ≡ act → IsLed after hands on.flat
+led_note F b before after hands n act noted is on same acts = led_more F before after hands n act noted is (goes_of F act b on) same acts
 
 -- so it was noted by the hand, which has seen the history up to it
 pub noted_as : (v w : Carried Act) (what act : Act) (log : List (Entry Act)) (F : Flat) → Extends v what w → what ≡ act → w.seen ≡ log → IsTraced log F → Noted v act w
@@ -105,7 +117,7 @@ shows_released a F s is = record {
   tables = hands_move a F (without_pair F.held s (Worker 0)) (without_worker F 0 s) is.tables;
 }
 
-claims : (F : Flat) (s : ℕ) → IsIdle F → (IsKept F s → ⊥) → ClaimCase F 0 s (say.Claimed s) (with_claim F s 0)
+pub claims : (F : Flat) (s : ℕ) → IsIdle F → (IsKept F s → ⊥) → ClaimCase F 0 s (say.Claimed s) (with_claim F s 0)
 claims F s idle none = (refl, is_free F s idle none, leaves_self (with_claim F s 0))
 
 releases : (F : Flat) (s : ℕ) → F.held s (Worker 0) ≡ true → ReleaseCase F 0 s (say.Released s) (released F s)
@@ -148,7 +160,7 @@ back_idle F G s idle l = released_idle G.held s (subst (λ (h : ℕ → Holder �
 back_held : (F G : Flat) (s : ℕ) → Leaves (with_claim F s 0) G → G.held s (Worker 0) ≡ true
 back_held F G s l = ap (λ (h : ℕ → Holder → Bool). h s (Worker 0)) (held_of (with_claim F s 0) G l) ∙ holds_one_more F s 0
 
-refused_put_goes : (q : Refusal) (b : ArrayView) (F : Flat) (s : ℕ) (what : Put) (block : ℕ) → IsIdle F → (IsKept F s → ⊥) → q ≢ Memory
+pub refused_put_goes : (q : Refusal) (b : ArrayView) (F : Flat) (s : ℕ) (what : Put) (block : ℕ) → IsIdle F → (IsKept F s → ⊥) → q ≢ Memory
     → MayRefuse q (Unit {0}) ((G : Flat) × Case (with_claim F s 0) (put_step what 0 s block) (say.Refused q) G × ShowsArray b G) → GoesOn F (unplaced_act what s block q) b
 refused_put_goes Memory b F s what block idle none other may = absurd (other refl)
 refused_put_goes q b F s what block idle none other may =
@@ -160,12 +172,17 @@ refused_put_goes q b F s what block idle none other may =
       shows = shows_released b may.0 s may.2;
     }
 
+-- a slot that something was put into is a ticket's
+pub put_idle : (F G : Flat) (what : Put) (s block : ℕ) → IsIdle F → Case (with_claim F s 0) (put_step what 0 s block) (put_answer what s) G → IsIdle G
+put_idle F G what s block idle case =
+    subst AreIdle (sym (put_held (with_claim F s 0) G what 0 s block case)) (ticketed_idle (with_pair F.held s (Worker 0)) s (claimed_but F.held s idle))
+
 pub put_goes : {C : Type 0} (r : Result ℕ (Refusal × C)) (b : ArrayView) (F : Flat) (s : ℕ) (what : Put) (block : ℕ) → IsIdle F → (IsKept F s → ⊥)
     → IfErr r (λ e. e.0 ≢ Memory) → PutTells r (with_claim F s 0) 0 what s block b → GoesOn F (put_act what s block r) b
 put_goes (Ok t) b F s what block idle none other tells = record {
   flat = tells.0;
   leads = (with_claim F s 0, claims F s idle none, (tells.0, tells.1, refl));
-  idle = subst AreIdle (sym (put_held (with_claim F s 0) tells.0 what 0 s block tells.1)) (ticketed_idle (with_pair F.held s (Worker 0)) s (claimed_but F.held s idle));
+  idle = put_idle F tells.0 what s block idle tells.1;
   shows = tells.2;
 }
 put_goes (Err e) b F s what block idle none other tells = refused_put_goes e.0 b F s what block idle none other tells
@@ -275,12 +292,34 @@ commit_back names F G b s block r (Some claim) (Some q) idle case shows of held 
 commit_back names F G b s block r None (Some q) idle case shows of held = absurd of
 commit_back names F G b s block r (Some claim) None idle case shows of held = absurd of
 
+pub commits_go : {C : Type 0} (names : C → ℕ) (keys : ℕ → ℕ) (b : ArrayView) (F : Flat) (s block : ℕ) (r : Record) (old : Option C) → IsHistory F keys → IsIdle F
+    → IsPlaceOf names old (record_at block (keys block)) → (G : Flat) × CommitCase F 0 s block (say.Committed r) G × ShowsArray b G
+    → GoesOn F (committed_act s block r (place_of names old)) b
+commits_go names keys b F s block r old history idle of told =
+    let found = told.1.2.0 in
+    let newest : IsNewest F.emitted block (record_at block (keys block)) = newest_told F.emitted keys block history.records history.map in
+    let same : found ≡ record_at block (keys block) = newest_unique F.emitted block history.records found (record_at block (keys block)) told.1.2.1 newest in
+    commit_back names F told.0 b s block r old found idle told.1 told.2 (subst (λ (o : Option Record). IsPlaceOf names old o) (sym same) of)
+    (commit_held F told.0 s block found (F.tickets s) r told.1.2.2)
+
 pub commit_goes : {C : Type 0} (names : C → ℕ) (a b : ArrayView) (F : Flat) (s block : ℕ) (r : Record) (old : Option C) → ShowsArray a F → IsIdle F
     → IsPlaceOf names old (record_at block (key_at a block)) → (G : Flat) × CommitCase F 0 s block (say.Committed r) G × ShowsArray b G
     → GoesOn F (committed_act s block r (place_of names old)) b
-commit_goes names a b F s block r old shows idle of told =
-    let found = told.1.2.0 in
-    let newest : IsNewest F.emitted block (record_at block (key_at a block)) = newest_told F.emitted (key_at a) block shows.history.records shows.history.map in
-    let same : found ≡ record_at block (key_at a block) = newest_unique F.emitted block shows.history.records found (record_at block (key_at a block)) told.1.2.1 newest in
-    commit_back names F told.0 b s block r old found idle told.1 told.2 (subst (λ (o : Option Record). IsPlaceOf names old o) (sym same) of)
-    (commit_held F told.0 s block found (F.tickets s) r told.1.2.2)
+commit_goes names a b F s block r old shows idle of told = commits_go names (key_at a) b F s block r old shows.history idle of told
+
+-- a put and its commit in one write: first the state between, which no array shows
+pub put_sound : (F G : Flat) (keys : ℕ → ℕ) (what : Put) (w s block : ℕ) → IsHistory F keys → IsStep F.groups (put_step what w s block)
+    → Case F (put_step what w s block) (put_answer what s) G → IsHistory G keys
+put_sound F G keys what w s block history fits case =
+    step_keeps F G keys keys (put_step what w s block) (put_answer what s) history fits case
+    (subst (λ (rs : List Record). IsMapOf rs keys) (sym (alike_put F G what w s block case).emitted) history.map)
+
+abbrev pub puts_go : (F M : Flat) (keys : ℕ → ℕ) (s block : ℕ) (what : Put) → IsIdle F → (IsKept F s → ⊥) → IsHistory M keys
+    → Case (with_claim F s 0) (put_step what 0 s block) (put_answer what s) M → Goes F (placed_act what s block)
+puts_go F M keys s block what idle none history case = record {
+  flat = M;
+  leads = (with_claim F s 0, claims F s idle none, (M, case, refl));
+  idle = put_idle F M what s block idle case;
+  sound = (keys, history);
+}
+

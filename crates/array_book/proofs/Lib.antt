@@ -8,6 +8,7 @@ pub mod Answering
 pub mod Named
 pub mod Idling
 pub mod Going
+pub mod Once
 pub mod Noting
 pub mod Idled
 pub mod Wholes

@@ -30,6 +30,7 @@ use Rattle.step_core.specs.Told.{Lesson}
 use Rattle.step_core.specs.Placing.{IsStill, Put, Fresh, Again, PutTells, put_step}
 use Rattle.step_core.proofs.Placing.{refused_still}
 use Rattle.flat_machine.specs.Cases.{Case}
+use Rattle.flat_machine.specs.History.{IsHistory}
 use Rattle.array_book.specs.Kept as book
 use Rattle.array_book.specs.Kept.{KeptView}
 
@@ -53,20 +54,24 @@ kept_with blocks payload k l is still planner shown = record {
 }
 
 -- a commit is noted: the order has a place for its block
-pub noted_of : (blocks payload : ℕ) (k : KeptView) (groups : Groups) (after : Marked) (w s b : ℕ) (r : Record) (is : book.IsKept blocks payload k) (G : Flat) → b < blocks
-    → CommitCase is.flat w s b (say.Committed r) G → (r.block < length k.planner.ages.order → IsNoted groups k.planner.ages after r) → IsNoted groups k.planner.ages after r
-noted_of blocks payload k groups after w s b r is G low case noted =
-    let emits = commit_emits is.flat G w s b r is.shows.history.records case in
+pub noted_then : (blocks payload : ℕ) (k : KeptView) (groups : Groups) (after : Marked) (w s b : ℕ) (r : Record) → book.IsKept blocks payload k → (M G : Flat) (keys : ℕ → ℕ) → IsHistory M keys → b < blocks
+    → CommitCase M w s b (say.Committed r) G → (r.block < length k.planner.ages.order → IsNoted groups k.planner.ages after r) → IsNoted groups k.planner.ages after r
+noted_then blocks payload k groups after w s b r is M G keys history low case noted =
+    let emits = commit_emits M G w s b r history.records case in
     let block : r.block ≡ b = emits.newest.1 in
     let order : length k.planner.ages.order ≡ blocks = is.order in
     noted (omega (arith, block, order, low))
 
--- with an array that committed a record, which is noted, it holds too
-pub kept_committed : (blocks payload : ℕ) (k l : KeptView) (w s b : ℕ) (r : Record) (is : book.IsKept blocks payload k) → b < blocks
+pub noted_of : (blocks payload : ℕ) (k : KeptView) (groups : Groups) (after : Marked) (w s b : ℕ) (r : Record) (is : book.IsKept blocks payload k) (G : Flat) → b < blocks
+    → CommitCase is.flat w s b (say.Committed r) G → (r.block < length k.planner.ages.order → IsNoted groups k.planner.ages after r) → IsNoted groups k.planner.ages after r
+noted_of blocks payload k groups after w s b r is G low case noted = noted_then blocks payload k groups after w s b r is is.flat G (key_at k.array) is.shows.history low case noted
+
+-- with an array that committed a record, which is noted, it holds too; from a state with the array's keys, whether it shows that or not
+pub kept_then : (blocks payload : ℕ) (k l : KeptView) (w s b : ℕ) (r : Record) → book.IsKept blocks payload k → (M : Flat) → IsHistory M (key_at k.array) → M.groups ≡ k.array.parts.groups → b < blocks
     → l.array.parts.groups ≡ k.array.parts.groups → length l.planner.ages.order ≡ length k.planner.ages.order
     → (r.block < length k.planner.ages.order → IsNoted l.array.parts.groups k.planner.ages l.planner.ages r)
-    → (G : Flat) × CommitCase is.flat w s b (say.Committed r) G × ShowsArray l.array G → book.IsKept blocks payload l
-kept_committed blocks payload k l w s b r is low same order noted shown = record {
+    → (G : Flat) × CommitCase M w s b (say.Committed r) G × ShowsArray l.array G → book.IsKept blocks payload l
+kept_then blocks payload k l w s b r is M history groups low same order noted shown = record {
   flat = shown.0;
   shows = shown.2;
   blocks = ap (λ (z : Groups). z.blocks) same ∙ is.blocks;
@@ -76,15 +81,22 @@ kept_committed blocks payload k l w s b r is low same order noted shown = record
   marked = subst (λ (ms : List Bool). AreMarked ms l.array.parts.groups (key_at l.array)) (sym marks)
       (subst (λ (n : ℕ). AreMarked (slice_set k.planner.ages.marks n (is_mirrors (class_at l.array.parts.groups (Some r)))) l.array.parts.groups (key_at l.array)) (sym emits.newest.1)
       (subst (λ (z : Groups). AreMarked (slice_set k.planner.ages.marks b (is_mirrors (class_at z (Some r)))) z (key_at l.array)) shown.2.tables.groups
-      (marked_emitted is.flat shown.0 (key_at k.array) (key_at l.array) k.planner.ages.marks b r shown.2.history.records (let long = is.long in omega (arith, long, low))
-      is.shows.history.map shown.2.history.map emits (subst (λ (z : Groups). AreMarked k.planner.ages.marks z (key_at k.array)) (sym is.shows.tables.groups) is.marked))));
+      (marked_emitted M shown.0 (key_at k.array) (key_at l.array) k.planner.ages.marks b r shown.2.history.records (let long = is.long in omega (arith, long, low))
+      history.map shown.2.history.map emits (subst (λ (z : Groups). AreMarked k.planner.ages.marks z (key_at k.array)) (sym groups) is.marked))));
 }
   where
-    emits : HasEmitted is.flat shown.0 b r
-    emits = commit_emits is.flat shown.0 w s b r is.shows.history.records shown.1
+    emits : HasEmitted M shown.0 b r
+    emits = commit_emits M shown.0 w s b r history.records shown.1
 
     marks : l.planner.ages.marks ≡ slice_set k.planner.ages.marks r.block (is_mirrors (class_at l.array.parts.groups (Some r)))
-    marks = (noted_of blocks payload k l.array.parts.groups l.planner.ages w s b r is shown.0 low shown.1 noted).1
+    marks = (noted_then blocks payload k l.array.parts.groups l.planner.ages w s b r is M shown.0 (key_at k.array) history low shown.1 noted).1
+
+pub kept_committed : (blocks payload : ℕ) (k l : KeptView) (w s b : ℕ) (r : Record) (is : book.IsKept blocks payload k) → b < blocks
+    → l.array.parts.groups ≡ k.array.parts.groups → length l.planner.ages.order ≡ length k.planner.ages.order
+    → (r.block < length k.planner.ages.order → IsNoted l.array.parts.groups k.planner.ages l.planner.ages r)
+    → (G : Flat) × CommitCase is.flat w s b (say.Committed r) G × ShowsArray l.array G → book.IsKept blocks payload l
+kept_committed blocks payload k l w s b r is low same order noted shown =
+    kept_then blocks payload k l w s b r is is.flat is.shows.history is.shows.tables.groups low same order noted shown
 
 -- a worker whose ticket it is, where there is one
 pub ticket_of_some : (F : Flat) (a : ArrayView) (s : ℕ) → ShowsArray a F → (w : ℕ) × (F.tickets s ≢ None → F.held s (Ticket w) ≡ true)

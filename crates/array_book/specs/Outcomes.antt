@@ -8,7 +8,7 @@ use Rattle.flat_machine.specs.declared.refusal.Refusal.{Refusal}
 use Rattle.flat_machine.specs.declared.refusal.Refusal.TheVariants as refusal
 use Rattle.flat_machine.specs.Flat.{Flat}
 use Rattle.slot_tables.specs.Represents.{ShowsArray}
-use Rattle.step_core.specs.Placing.{Put, Again}
+use Rattle.step_core.specs.Placing.{Put, Fresh, Again}
 use Rattle.step_core.specs.Told.{Lesson}
 use Rattle.history.specs.Entries.{Carried, Extends}
 use Rattle.array_book.specs.Acts.{Act, Learns, IsCourse, placed_act, unplaced_act, committed_act, refused_commit, discarded_act, undiscarded_act, refused_read}
@@ -46,6 +46,11 @@ pub record HasPlaced (v : Carried Act) (what : Put) (slot block : ℕ) (r : Reco
   pub between : Carried Act
   pub placed : Noted v (placed_act what slot block) between
   pub committed : HasCommitted between slot block r w
+
+-- the record of a fresh content has no hop
+abbrev pub HasHop : Put → Record → Type 0
+HasHop (Fresh x) r = r.hop ≡ 0
+HasHop Again r = Unit {0}
 
 -- this was put into a slot, and its commit refused
 pub record HasLeft (v : Carried Act) (what : Put) (slot block : ℕ) (q : Refusal) (w : Carried Act) : Type 0 where

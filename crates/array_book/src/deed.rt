@@ -2,7 +2,7 @@
 ghost use Rattle.std.specs.Prelude.{[]};
 ghost use Rattle.step_core.specs.Placing.{block_for, put_for};
 ghost use Rattle.array_book.specs.Acts as act;
-ghost use Rattle.array_book.specs.Acts.{put_act, commit_act, refused_commit, discard_act, read_act};
+ghost use Rattle.array_book.specs.Acts.{put_act, placed_act, unplaced_act, commit_act, refused_commit, discard_act, read_act};
 
 use crate::claim::Claim;
 use extents::Drive;
@@ -38,6 +38,20 @@ pub(crate) struct Puts;
 impl<'a, 'b, N: Naming> Says<(u16, What<'a>, &'b Result<Ticket, (Refusal, Claim<N>)>), Deed>
     for Puts {
     ghost what = { λ x. put_act (put_for x.1) x.0 (block_for x.1) x.2.now };
+}
+
+// The slot, what was put into it together with its commit, and the block.
+pub(crate) struct Places;
+
+impl<'a> Says<(u16, What<'a>, u32), Deed> for Places {
+    ghost what = { λ x. placed_act (put_for x.1) x.0 x.2 };
+}
+
+// The same, and why it wasn't put there.
+pub(crate) struct PutFails;
+
+impl<'a> Says<(u16, What<'a>, u32, Refusal), Deed> for PutFails {
+    ghost what = { λ x. unplaced_act (put_for x.1) x.0 x.2 x.3 };
 }
 
 // The slot, its block, and what was committed.

@@ -110,7 +110,7 @@ pub(crate) fn end_moved_in<D: Drive, N: Naming + Sizes>(
     }
 }
 
-/// Fills a claimed slot with what is given, and commits it.
+/// Fills a claimed slot with what is given, and commits it: in one write, unless the commit is refused.
 pub(crate) fn put_in<D: Drive, N: Naming + Sizes>(
     kept: &mut Kept<D, N>,
     history: &History<N, Deed>,
@@ -126,13 +126,22 @@ pub(crate) fn put_in<D: Drive, N: Naming + Sizes>(
     ensures ok { IfOk result (λ ended. IfOk ended (λ done. (done.emitted.block ≡ block) × (0 < done.emitted.version) × (done.emitted.hop ≡ 0))) }
     ensures called { HasTried (λ done. done.emitted) (λ e. e.refusal) me.old (Fresh (content_of given.entry)) claim.0.slot block result me.new }
 {
-    match place_in(kept, history, me, words, claim, What::Fresh(given)) {
+    let what = What::Fresh(given);
+    let claim = match kept::place_in(kept, history, me, words, alloc, claim, what, block) {
+        Ok(done) => return Ok(Ok(done)),
+        Err((None, claim)) => claim,
+        Err((Some(refusal), claim)) => return Err(Refused {
+            refusal,
+            claim: Some(claim),
+        }),
+    };
+    match place_in(kept, history, me, words, claim, what) {
         Ok(ticket) => Ok(end_fresh_in(kept, history, me, alloc, ticket, block)),
         Err(refused) => Err(refused),
     }
 }
 
-/// Copies a plan's block into a claimed slot, and commits it.
+/// Copies a plan's block into a claimed slot, and commits it: in one write, unless the commit is refused.
 pub(crate) fn move_in<D: Drive, N: Naming + Sizes>(
     kept: &mut Kept<D, N>,
     history: &History<N, Deed>,
@@ -146,7 +155,21 @@ pub(crate) fn move_in<D: Drive, N: Naming + Sizes>(
     ensures ok { IfOk result (λ ended. IfOk ended (λ done. (done.emitted.block ≡ plan.now.block) × (0 < done.emitted.version))) }
     ensures called { HasTried (λ done. done.emitted) (λ e. e.refusal) me.old Again claim.0.slot plan.now.block result me.new }
 {
-    match place_in(kept, history, me, words, claim, What::CopyOf(plan.block)) {
+    let what = What::CopyOf(plan.block);
+    let claim = match kept::place_in(kept, history, me, words, alloc, claim, what, plan.block) {
+        Ok(done) => {
+            if plan.appends {
+                appended_in(kept, done.emitted.record().place);
+            }
+            return Ok(Ok(done));
+        }
+        Err((None, claim)) => claim,
+        Err((Some(refusal), claim)) => return Err(Refused {
+            refusal,
+            claim: Some(claim),
+        }),
+    };
+    match place_in(kept, history, me, words, claim, what) {
         Ok(ticket) => Ok(end_moved_in(kept, history, me, alloc, ticket, plan)),
         Err(refused) => Err(refused),
     }

@@ -1,5 +1,5 @@
 // What lies under a Book's lock, and the calls that borrow it.
-ghost use Rattle.std.specs.Prelude.{◌≡◌, ◌≢◌, ◌⊎◌, ℕ, ◌<◌, ◌≤◌, length, IfOk, IfErr, IsErr, IsErrOf, MatchResult, true, None};
+ghost use Rattle.std.specs.Prelude.{◌≡◌, ◌≢◌, ◌⊎◌, ℕ, ◌<◌, ◌≤◌, length, IfOk, IfErr, IsErr, IsErrOf, MatchOption, MatchResult, true, None};
 ghost use Rattle.map_join.specs.Record.{key_of, record_at};
 ghost use Rattle.flat_machine.specs.Steps as say;
 ghost use Rattle.flat_machine.specs.Flat.{Flat, Payload, Trim, Worker, Ticket as ticket_of};
@@ -12,13 +12,13 @@ ghost use Rattle.slot_tables.specs.Views.{key_at};
 ghost use Rattle.slot_tables.specs.Represents.{ShowsArray};
 ghost use Rattle.migrator.specs.Slots.{end_at};
 ghost use Rattle.step_core.specs.Refused.{IsRefused};
-ghost use Rattle.step_core.specs.Placing.{Fresh, Again, IsWhatFor, PutTells, block_for, put_for};
-ghost use Rattle.array_book.specs.Acts.{put_act, refused_commit, discard_act, read_act};
+ghost use Rattle.step_core.specs.Placing.{Fresh, Again, IsWhatFor, IsWhatOf, PutTells, block_for, put_for};
+ghost use Rattle.array_book.specs.Acts.{put_act, unplaced_act, refused_commit, discard_act, read_act};
 ghost use Rattle.array_book.specs.Kept.{IsKept, Agrees, HasNoted, OnlyArray};
-ghost use Rattle.array_book.specs.Outcomes.{Noted, HasCommitted};
+ghost use Rattle.array_book.specs.Outcomes.{Noted, HasCommitted, HasHop, HasPlaced};
 
 use crate::claim::{Claim, Sizes};
-use crate::deed::{CommitFails, Commits, Deed, Discards, Puts, Reads};
+use crate::deed::{CommitFails, Commits, Deed, Discards, Places, PutFails, Puts, Reads};
 use background::Planner;
 use extents::Drive;
 use flat_machine::Refusal;
@@ -27,7 +27,7 @@ use map_join::Record;
 use slot_words::{Naming, SlotWords};
 use std::alloc::{AllocError, Global};
 use std::marker::Model;
-use step_core::{Array, Done, Given, Hold, Reading, Ticket, What, put};
+use step_core::{Array, Done, Given, Hold, Reading, Ticket, What, place_at_once, put};
 
 /// An array, what its plans go by, and the keeper of the history that led to it.
 pub struct Kept<D: Drive, N: Naming + Sizes> {
@@ -96,6 +96,54 @@ pub fn put_in<D: Drive, N: Naming + Sizes>(
             &(slot, what, &placed),
         );
     placed
+}
+
+/// Puts a payload, a trim or a copy into a claimed slot and commits it for the block, in one write, and notes the write where the
+/// record has no hop. Where the commit would be refused, or an allocation fails, there is no refusal, and nothing was done.
+pub(crate) fn place_in<D: Drive, N: Naming + Sizes>(
+    kept: &mut Kept<D, N>,
+    history: &History<N, Deed>,
+    me: &mut Hand<N, Deed>,
+    words: &SlotWords<N>,
+    alloc: Global,
+    claim: Claim<N>,
+    what: What,
+    block: u32,
+) -> Result<Done<Claim<N>>, (Option<Refusal>, Claim<N>)>
+    requires what { IsWhatFor N.blocks N.payload what }
+    requires of { IsWhatOf block what }
+    requires block { block < N.blocks }
+    ensures ok { IfOk result (λ done. (done.emitted.block ≡ block) × (0 < done.emitted.version) × HasHop (put_for what.entry) done.emitted) }
+    ensures noted { IfOk result (λ done. HasNoted kept.old kept.new done.emitted) }
+    ensures end { kept.new.planner.end ≡ kept.old.planner.end }
+    ensures err { IfErr result (λ e. (e.1 ≡ claim) × (kept.new.planner.ages ≡ kept.old.planner.ages)) }
+    ensures called { MatchResult result
+        (λ done. HasPlaced me.old (put_for what.entry) claim.0.slot block done.emitted me.new)
+        (λ e. MatchOption e.0 (me.new ≡ me.old) (λ refusal. Noted me.old (unplaced_act (put_for what.entry) claim.0.slot block refusal) me.new)) }
+{
+    let mut claim = claim;
+    kept.array.apart_from(words, &mut claim);
+    let slot = claim.slot();
+    match place_at_once(&mut kept.array, alloc, claim, what, block) {
+        Ok(done) => {
+            kept.planner.note(&kept.array, done.emitted.record());
+            kept.keeper
+                .note::<(u16, What, u32), Places>(history, me, &(slot, what, block));
+            kept.keeper
+                .note::<(u16, u32, &Done<Claim<N>>), Commits>(history, me, &(slot, block, &done));
+            Ok(done)
+        }
+        Err((Some(refusal), claim)) => {
+            kept.keeper
+                .note::<(u16, What, u32, Refusal), PutFails>(
+                    history,
+                    me,
+                    &(slot, what, block, refusal),
+                );
+            Err((Some(refusal), claim))
+        }
+        Err((None, claim)) => Err((None, claim)),
+    }
 }
 
 /// Fills a mirrored slot with a fresh payload, as the array does, but is never refused as `InUse`.
