@@ -16,12 +16,10 @@ use Rattle.flat_machine.proofs.Newest.{newest_unique}
 use Rattle.flat_machine.proofs.Pairs.{equal, equal_back}
 use Rattle.flat_machine.proofs.Writes.{last_here, last_else}
 use Rattle.step_core.proofs.Worlds.{refused_leaves}
-use Rattle.slot_tables.specs.Represents.{ShowsArray}
 use Rattle.slot_tables.specs.Views.{ArrayView, key_at}
 use Rattle.history.specs.declared.view.Entry.{Entry}
-use Rattle.history.specs.Entries.{entry}
 use Rattle.array_book.specs.Acts.{Act, Opens, Steps, Learns, Fails, Leads, IsSound, Follows, IsEndOf}
-use Rattle.array_book.specs.OneRun.{AreReads, AreStepsOf, AreStepsIn, record_in, committed_in, fresh_of, content_of, waiting_in, contents_of, waits_after, holds_after, holds_in, IsUnchanged, IsOneRun}
+use Rattle.array_book.specs.OneRun.{AreStepsOf, AreStepsIn, record_in, committed_in, fresh_of, content_of, waiting_in, contents_of, waits_after, holds_after, holds_in, IsUnchanged, IsOneRun}
 
 -- what a step with its answer does to the records, to what waits, and to what blocks hold
 record Tells (F : Flat) (step : FlatStep) (answer : FlatAnswer) (G : Flat) : Type 0 where

@@ -1,9 +1,9 @@
 -- The hands of all that ended, compared with the history.
-use Rattle.std.proofs.Common.{◌≡◌, ◌≢◌, ◌⊎◌, ℕ, ◌+◌, ◌<◌, ◌≤◌, zero, suc, List, [], ◌∷◌, length, map, Bool, true, false, eq-eqb, Option, Some, None, IfNone, refl, sym, ap, ◌∙◌, subst, inl, inr, arith}
+use Rattle.std.proofs.Common.{◌≡◌, ◌≢◌, ◌⊎◌, ℕ, ◌+◌, ◌<◌, ◌≤◌, zero, suc, List, [], ◌∷◌, length, map, Bool, true, false, eq-eqb, Option, Some, None, refl, sym, ap, ◌∙◌, subst, inl, inr, arith}
 use Rattle.std.specs.Prelude.{◌==◌, ◌||◌}
 use Rattle.std.specs.List.{list_any}
 use Rattle.history.specs.declared.view.Entry.{Entry}
-use Rattle.history.specs.Entries.{Carried, Course, IsWhole, cons_if, entries_by}
+use Rattle.history.specs.Entries.{Carried, Course, cons_if, entries_by}
 use Rattle.slot_tables.specs.Views.{ArrayView, IsWhole as HasAll}
 use Rattle.array_book.specs.Acts.{Act, IsEndOf}
 use Rattle.array_book.specs.Whole.{AreWhole, has_number, AreTheirs, IsLowestMissing, IsMissing, IsHistoryOf}

@@ -2,8 +2,7 @@
 use Rattle.std.specs.Prelude.{◌≡◌, ◌⊎◌, ℕ, List, [], ◌∷◌, ◌++◌, Option, Some, None}
 use Rattle.map_join.specs.declared.records.Record.{Record}
 use Rattle.map_join.specs.Maps.{IsMapOf}
-use Rattle.flat_machine.specs.declared.refusal.Refusal.{Refusal}
-use Rattle.flat_machine.specs.Flat.{Flat, Content, Write, Waiting, Fresh, Moved, put, or_else, last_write}
+use Rattle.flat_machine.specs.Flat.{Flat, Content, Write, Waiting, Fresh, put, or_else, last_write}
 use Rattle.flat_machine.specs.Steps.{FlatStep, Fill, Copy, Commit, Discard, Read, ReadAt, Data, Stale, FlatAnswer, Filled, Copied, Committed, Discarded, Found, FoundAt, Refused}
 use Rattle.flat_machine.specs.Cases.{Runs, found_in}
 use Rattle.slot_tables.specs.Represents.{ShowsArray}

@@ -416,6 +416,7 @@ pub(crate) fn play<
     requires blocks { (blocks_of A.table ≡ 16) × (blocks_of B.table ≡ 16) }
     requires hands { array.2.hired + (length numbers.now - 1) ≡ N.hands }
     ensures course { IsEndOf result.1.keeper.log result.1.array }
+    ensures hands { result.1.keeper.hired ≡ N.hands }
 {
     let (array, history, mut keeper, hand) = array;
     let Bench {

@@ -1,4 +1,4 @@
-use Rattle.std.proofs.Common.{refl, rules, ap}
+use Rattle.std.proofs.Common.{refl, rules}
 use Rattle.array_book.specs.Acts.{IsLed}
 use Rattle.array_book.proofs.Going.{ticket_zero, discard_goes, led_note, noted_as, kept_as}
 use Rattle.array_book.proofs.Shown.{kept_with, ticket_of_some, discard_still}

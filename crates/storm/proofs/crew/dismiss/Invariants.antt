@@ -1,7 +1,5 @@
-use Rattle.std.proofs.Common.{◌≡◌, [], ◌∷◌, map}
+use Rattle.std.proofs.Common.{map}
 use Rattle.slot_tables.specs.Views.{ArrayView}
-use Rattle.history.specs.Entries.{entry}
-use Rattle.array_book.specs.Acts.{Opens}
 use Rattle.storm.specs.Ending.{HaveBegun}
 use Rattle.storm.proofs.crew.dismiss.Given as goal
 
