@@ -45,6 +45,11 @@ impl Batch {
         }
     }
 
+    // What its memory comes from.
+    pub(crate) fn allocator(&self) -> Global {
+        *self.entries.allocator()
+    }
+
     /// Adds a write. Refused if out of memory, and then nothing is added.
     #[tactic(auto, using(crate::proofs::Held::writes_more, crate::proofs::Held::within_more))]
     pub fn push(&mut self, place: Place, unit: &[u8]) -> Result<(), AllocError>
