@@ -11,6 +11,9 @@ use std::marker::Model;
 /// How many of the last writes are looked at for one with the same unit.
 const LOOKED_AT: usize = 64;
 
+/// The byte that is compared first: the low one of a header's slot number, in which most units differ.
+const TELLING: usize = 15;
+
 /// Where the unit of a write lies among the bytes of its batch.
 #[derive(Clone, Copy, Debug)]
 struct Entry {
@@ -157,6 +160,17 @@ impl Batch {
     }
 }
 
+// Whether the telling byte of a unit is another than that of the unit at `from`.
+fn differ(units: &[u8], from: usize, unit: &[u8]) -> bool
+    ensures { IsTrue result → (to : ℕ) → slice_range units.now from to ≡ unit.now → ⊥ }
+{
+    let at = from.saturating_add(TELLING);
+    if at >= units.len() || TELLING >= unit.len() {
+        return false;
+    }
+    units[at] != unit[TELLING]
+}
+
 // Whether a unit is that of the entry of an index.
 fn is_unit_of(entries: &[Entry], units: &[u8], index: usize, unit: &[u8]) -> bool
     requires { AreWithin units.now entries.now }
@@ -166,6 +180,9 @@ fn is_unit_of(entries: &[Entry], units: &[u8], index: usize, unit: &[u8]) -> boo
         return false;
     }
     let entry = entries[index];
+    if differ(units, entry.from, unit) {
+        return false;
+    }
     units[entry.from..entry.to] == unit[..]
 }
 

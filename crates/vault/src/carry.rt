@@ -14,7 +14,7 @@ use crate::store::{Vault, VaultError};
 use extent_groups::Place;
 use extents::DRIVES;
 
-/// Writes the units of all batches to their places, but those for lost drives, and empties the journal. All batches are durable
+/// Writes the last unit of each place in the journal, but those for lost drives, and empties the journal. All batches are durable
 /// before. After a restart, when what calls find is what was left, this is the recovery. It may be stopped too, at any moment, and
 /// leaves the same units. Each batch is read into `batch`. Where a drive fails, it can be tried again without that drive.
 pub fn settle<V: Vault>(

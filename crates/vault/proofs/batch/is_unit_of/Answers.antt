@@ -33,3 +33,12 @@ returns c =
     let e = slice_index_or es k none in
     let decides = slice_eq-Decides Decides-eqb (slice_range units e.from e.to) c.args.unit.now c.eq.result c.eq.ensures in
     ((λ yes. unit_at units es k none c.if-index-entries.false ∙ ap (λ u. Some u) (decides.0 yes)), (λ is. decides.1 (is_unit_at units es k none c.args.unit.now is)))
+
+pub returns-then-differ : goal.returns-then-differ
+returns-then-differ c = (
+  (λ never. absurd (true≢false (sym never))),
+  (λ is.
+  let none : Entry = record { place = record { drive = 0; address = 0 }; from = 0; to = 0 } in
+  let es = c.args.entries.now in
+  absurd (c.differ.ensures c.if-differ.true (slice_index_or es c.args.index none).to (is_unit_at c.args.units.now es c.args.index none c.args.unit.now is)))
+)
