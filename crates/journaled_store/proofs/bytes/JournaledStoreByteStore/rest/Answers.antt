@@ -1,10 +1,15 @@
 use Rattle.std.proofs.Common.{refl}
+use Rattle.background.specs.Views.{TiersView}
 use Rattle.byte_store.proofs.Lasts.{lasts_after}
 use Rattle.array_store.proofs.Holding.{follows_more}
-use Rattle.journaled_store.specs.Outlasting.{Outlasts, OutlastsSince, point}
+use Rattle.journaled_store.specs.Outlasting.{Outlasts, OutlastsSince, Point, point}
 use Rattle.journaled_store.proofs.Lasting.{lasts_at, moved_lasts}
 use Rattle.journaled_store.proofs.Storing.{noting, own_note, with_note}
 use Rattle.journaled_store.proofs.bytes.JournaledStoreByteStore.rest.Goals as goal
+
+-- the store after what its array does ahead
+abbrev moved : {V : Type 0} → Point V → TiersView → Point V
+moved p t = record { keeper = p.keeper; noted = p.noted; batch = p.batch; failed = p.failed; tiers = t; vault = p.vault }
 
 pub returns-then-self-clause-kept : goal.returns-then-self-clause-kept
 returns-then-self-clause-kept g c F is =
@@ -35,7 +40,7 @@ returns-then-self-clause-lasts g c F is =
     let was = c.args.self.now.store in
     let own = c.args.self.now.unsynced in
     let p = point c.args.self.now in
-    let q = record { keeper = p.keeper; noted = p.noted; batch = p.batch; failed = p.failed; tiers = c.rest.new.self.tiers; vault = p.vault } in
+    let q = moved p c.rest.new.self.tiers in
     let follows = c.rest.ensures.stays (noting was.unsynced F) (with_note was own F is) in
     let kept = own_note c.rest.new.self was.unsynced own F is.noted (c.rest.ensures.kept (noting was.unsynced F) (with_note was own F is)) in
     lasts_at point (Outlasts v.known v.seen v.may_leave) (λ r. v.moment r.vault) (OutlastsSince v.left_since) F.bytes F.bytes c.args.self.now c.settle.new.self
@@ -48,5 +53,5 @@ returns-else-self-clause-lasts g c F is =
     let v = g.V.Vault in
     let p = point c.args.self.now in
     lasts_at point (Outlasts v.known v.seen v.may_leave) (λ r. v.moment r.vault) (OutlastsSince v.left_since) F.bytes F.bytes c.args.self.now _
-    (moved_lasts v.known v.seen v.may_leave v.moment v.left_since g.met.V.Vault.counts_now g.met.V.Vault.only_now p (record { keeper = p.keeper; noted = p.noted; batch = p.batch; failed = p.failed; tiers = c.rest.new.self.tiers; vault = p.vault }) refl
+    (moved_lasts v.known v.seen v.may_leave v.moment v.left_since g.met.V.Vault.counts_now g.met.V.Vault.only_now p (moved p c.rest.new.self.tiers) refl
     (c.rest.ensures.stays (noting c.args.self.now.store.unsynced F) (with_note c.args.self.now.store c.args.self.now.unsynced F is)) (λ on. on) (λ lost cells live. live) F.bytes F.bytes)
