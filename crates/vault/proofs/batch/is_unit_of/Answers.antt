@@ -38,7 +38,7 @@ pub returns-then-differ : goal.returns-then-differ
 returns-then-differ c = (
   (λ never. absurd (true≢false (sym never))),
   (λ is.
-  let none : Entry = record { place = record { drive = 0; address = 0 }; from = 0; to = 0 } in
-  let es = c.args.entries.now in
-  absurd (c.differ.ensures c.if-differ.true (slice_index_or es c.args.index none).to (is_unit_at c.args.units.now es c.args.index none c.args.unit.now is)))
+      let none : Entry = record { place = record { drive = 0; address = 0 }; from = 0; to = 0 } in
+      let es = c.args.entries.now in
+      absurd (c.differ.ensures c.if-differ.true (slice_index_or es c.args.index none).to (is_unit_at c.args.units.now es c.args.index none c.args.unit.now is))),
 )
