@@ -1,10 +1,10 @@
 -- Writes of a drive's changed units make its saved units those of now.
-use Rattle.std.proofs.Common.{◌≡◌, ◌≢◌, ◌<◌, ◌⊎◌, inl, inr, ℕ, zero, suc, ◌+◌, arith, Bool, false, Option, Some, None, List, [], ◌∷◌, ◌++◌, length, append_assoc, slice_get, get_or, refl, sym, ◌∙◌, ap, subst}
+use Rattle.std.proofs.Common.{◌≡◌, ◌≢◌, ◌<◌, ◌⊎◌, inl, inr, ℕ, zero, suc, arith, Bool, false, Some, None, List, [], ◌∷◌, ◌++◌, length, append_assoc, slice_get, refl, sym, ◌∙◌, ap, subst}
 use Rattle.std.specs.Prelude.{Contains, slice_index_or}
 use Rattle.std.proofs.lemmas.Option.{slice_get-get_or}
 use Rattle.std.proofs.lemmas.List.Elements.{Contains-push, Contains-push_cases, Contains-append_left}
 use Rattle.extent_groups.specs.declared.place.Place.{Place}
-use Rattle.extent_groups.specs.Cells.{Cells, held}
+use Rattle.extent_groups.specs.Cells.{Cells}
 use Rattle.extent_groups.specs.Planned.{Wanted, over, with_unit, after}
 use Rattle.extent_groups.proofs.Finishing.{write_here, write_else}
 use Rattle.extent_groups.proofs.Places.{same_or_not}
@@ -12,21 +12,21 @@ use Rattle.history.specs.declared.view.Entry.{Entry}
 use Rattle.cached_drive.specs.Saving.{Units, AreSaved, Brings, writes_at, upto, last_of}
 
 -- one of some addresses
-abbrev IsIn : List ℕ → ℕ → Type 0
+abbrev pub IsIn : List ℕ → ℕ → Type 0
 IsIn [] a = ⊥
 IsIn (x ∷ xs) a = (x ≡ a) ⊎ IsIn xs a
 
-into : (xs : List ℕ) (a : ℕ) → Contains xs a → IsIn xs a
+pub into : (xs : List ℕ) (a : ℕ) → Contains xs a → IsIn xs a
 into [] a (k, low, is) = absurd (omega (arith, low))
 into (x ∷ xs) a (zero, low, is) = inl is
 into (x ∷ xs) a (suc k, low, is) = inr (into xs a (k, omega (arith, low), is))
 
-back : (xs : List ℕ) (a : ℕ) → IsIn xs a → Contains xs a
+pub back : (xs : List ℕ) (a : ℕ) → IsIn xs a → Contains xs a
 back [] a out = absurd out
 back (x ∷ xs) a (inl is) = (0, omega arith, is)
 back (x ∷ xs) a (inr more) = let rest = back xs a more in let low = rest.1 in (suc rest.0, omega (arith, low), rest.2)
 
-in_or_not : (xs : List ℕ) (a : ℕ) → IsIn xs a ⊎ (IsIn xs a → ⊥)
+pub in_or_not : (xs : List ℕ) (a : ℕ) → IsIn xs a ⊎ (IsIn xs a → ⊥)
 in_or_not [] a = inr (λ out. out)
 in_or_not (x ∷ xs) a = elim (same_or_not x a) [
   | inl is ↦ inl (inl is)
@@ -97,7 +97,7 @@ module _ (drive : ℕ) (units : Units) where
   pub listed_brings : (saved : Units) (dirty : List ℕ) (all : Bool) → all ≡ false → AreSaved all dirty saved units → Brings drive saved units (writes_at drive units dirty)
   listed_brings saved dirty all out are = brings saved dirty are.many (are.listed out) are.inside
 
-upto_below : (n at : ℕ) → Contains (upto n) at → at < n
+pub upto_below : (n at : ℕ) → Contains (upto n) at → at < n
 upto_below zero at (k, low, is) = absurd (omega (arith, low))
 upto_below (suc n) at has = elim (Contains-push_cases (upto n) n at has) [
   | inl before ↦ (let low = upto_below n at before in omega (arith, low))

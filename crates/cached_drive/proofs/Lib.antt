@@ -1,2 +1,3 @@
 pub mod Writing
 pub mod Bringing
+pub mod Marking

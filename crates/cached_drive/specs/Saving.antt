@@ -1,5 +1,5 @@
 -- The units that were saved, and those that were written since.
-use Rattle.std.specs.Prelude.{◌≡◌, ◌≢◌, ◌++◌, ◌<◌, ℕ, zero, suc, Bool, false, Option, Some, List, [], ◌∷◌, length, slice_get, slice_index_or, Contains}
+use Rattle.std.specs.Prelude.{◌≡◌, ◌≢◌, ◌++◌, ◌<◌, ℕ, zero, suc, Bool, false, true, Some, List, [], ◌∷◌, length, slice_get, slice_index_or, Contains}
 use Rattle.extent_groups.specs.Cells.{Cells}
 use Rattle.extent_groups.specs.Planned.{Wanted, after}
 use Rattle.history.specs.declared.view.Entry.{Entry}
@@ -23,6 +23,20 @@ pub record AreSaved (all : Bool) (dirty : List ℕ) (saved units : Units) : Type
   pub many : length saved ≡ length units
   pub listed : all ≡ false → (at : ℕ) → (Contains dirty at → ⊥) → slice_get saved at ≡ slice_get units at
   pub inside : (at : ℕ) → Contains dirty at → at < length units
+
+-- an address has a mark
+abbrev pub IsMarked : List Bool → ℕ → Type 0
+IsMarked marks at = slice_get marks at ≡ Some true
+
+-- no address is listed twice
+abbrev pub IsOnce : List ℕ → Type 0
+IsOnce ats = (i j : ℕ) → i < j → j < length ats → slice_index_or ats i 0 ≢ slice_index_or ats j 0
+
+-- exactly the listed addresses have a mark, and none is listed twice
+pub record AreMarked (marks : List Bool) (dirty : List ℕ) : Type 0 where
+  pub marked : (at : ℕ) → Contains dirty at → IsMarked marks at
+  pub listed : (at : ℕ) → (Contains dirty at → ⊥) → IsMarked marks at → ⊥
+  pub once : IsOnce dirty
 
 -- the writes of a drive's units at these addresses
 abbrev pub writes_at : ℕ → Units → List ℕ → List Wanted

@@ -1,24 +1,26 @@
 // A drive in memory whose written units are listed.
-ghost use Rattle.std.specs.Prelude.{◌≡◌, ◌≢◌, ◌<◌, ◌+◌, ◌++◌, [], ◌∷◌, ℕ, false, true, length, slice_get, slice_set, Some, Contains, IsTrue};
+ghost use Rattle.std.specs.Prelude.{◌≡◌, ◌≢◌, ◌≤◌, ◌<◌, ◌+◌, ◌↔◌, ◌++◌, [], ◌∷◌, ℕ, false, true, length, slice_get, slice_set, Some, Contains, IsTrue, OnOk, OnErr};
 ghost use Rattle.extents.specs.declared.mem_drive.Condition.TheVariants.{Present};
 ghost use Rattle.extents.specs.Failures.{Counts, StaysSteady, unsteady};
 ghost use Rattle.extents.specs.Units.{IsSized, HaveFront, HasRoom, loss, fronts};
-ghost use Rattle.cached_drive.specs.Saving.{AreSaved, last_of};
+ghost use Rattle.cached_drive.specs.Saving.{AreSaved, AreMarked, IsMarked, last_of};
 ghost use Rattle.history.specs.Entries.{entry};
 
 use crate::saved::{Saved, Saves};
 use extents::{Drive, DriveLost, MemDrive};
 use history::{Chronicle, Hand, History, Keeper};
-use std::alloc::Global;
+use std::alloc::{AllocError, Global};
 
 /// Units in memory, and a list of those that were written since the last save. A call fails, and loses the drive, only after
 /// `doom`.
 #[derive(Drop)]
 pub struct CachedDrive<N: Chronicle> {
     pub(crate) cache: MemDrive,
-    /// Addresses of written units, in the order of their first writes; one may come more than once.
+    /// Addresses of written units, in the order of their first writes.
     pub(crate) dirty: Vec<u32>,
-    /// The list has no room: any unit may have been written.
+    /// Which addresses are listed, from the first write on a mark for each unit.
+    pub(crate) marks: Vec<bool>,
+    /// Memory was out for the list: any unit may have been written.
     pub(crate) all: bool,
     lost: bool,
     /// The next read, write or sync loses the drive.
@@ -26,6 +28,7 @@ pub struct CachedDrive<N: Chronicle> {
     pub(crate) hand: Hand<N, Saved>,
     ghost present: { cache.condition ≡ Present },
     ghost saved: { AreSaved all dirty.items (last_of [] hand.mine) cache.units },
+    ghost marked: { AreMarked marks.items dirty.items },
 }
 
 impl<N: Chronicle> CachedDrive<N> {
@@ -49,6 +52,7 @@ impl<N: Chronicle> CachedDrive<N> {
         CachedDrive {
             cache,
             dirty: Vec::new(alloc),
+            marks: Vec::new(alloc),
             all: false,
             lost: false,
             doomed: false,
@@ -94,19 +98,61 @@ fn answers(lost: &mut bool, doomed: bool) -> bool
     !*lost
 }
 
-// Lists an address, of `most`. Where the list has no room for more, all count as written.
-fn list(dirty: &mut Vec<u32>, all: &mut bool, at: u32, most: u32)
+// Whether an address has a mark.
+fn is_marked(marks: &[bool], at: u32) -> bool
+    ensures { IsTrue result ↔ IsMarked marks.now at }
+{
+    match marks.get(at as usize) {
+        Some(mark) => *mark,
+        None => false,
+    }
+}
+
+// Makes marks for `most` addresses.
+fn make_marks(marks: &mut Vec<bool>, most: u32) -> Result<(), AllocError>
+    ensures long { OnOk result (most ≤ length marks.new.items) }
+    ensures same { (a : ℕ) → IsMarked marks.new.items a ↔ IsMarked marks.old.items a }
+{
+    if marks.len() < most as usize {
+        marks.resize(most as usize, false)?;
+    }
+    Ok(())
+}
+
+// Lists an address that has no mark, and marks it.
+fn list_fresh(
+    dirty: &mut Vec<u32>,
+    marks: &mut Vec<bool>,
+    at: u32,
+    most: u32,
+) -> Result<(), AllocError>
+    requires at { at < most }
+    requires fresh { IsMarked marks.old.items at → ⊥ }
+    requires marked { AreMarked marks.old.items dirty.old.items }
+    ensures marked { AreMarked marks.new.items dirty.new.items }
+    ensures ok { OnOk result (dirty.new.items ≡ dirty.old.items ++ at ∷ []) }
+    ensures err { OnErr result (dirty.new.items ≡ dirty.old.items) }
+{
+    make_marks(marks, most)?;
+    dirty.push(at)?;
+    marks[at as usize] = true;
+    Ok(())
+}
+
+// Lists an address, of `most`, once. Where memory is out, all count as written.
+fn list(dirty: &mut Vec<u32>, marks: &mut Vec<bool>, all: &mut bool, at: u32, most: u32)
+    requires at { at < most }
+    requires marked { AreMarked marks.old.items dirty.old.items }
+    ensures marked { AreMarked marks.new.items dirty.new.items }
     ensures listed { all.new ≡ false → Contains dirty.new.items at }
     ensures kept { all.new ≡ false → (a : ℕ) → Contains dirty.old.items a → Contains dirty.new.items a }
     ensures only { (a : ℕ) → Contains dirty.new.items a → (a ≢ at → Contains dirty.old.items a) }
     ensures all { all.old ≡ true → all.new ≡ true }
 {
-    if let Some(last) = dirty.last() {
-        if *last == at {
-            return;
-        }
+    if is_marked(marks, at) {
+        return;
     }
-    if dirty.len() >= most as usize || dirty.push(at).is_err() {
+    if list_fresh(dirty, marks, at, most).is_err() {
         *all = true;
     }
 }
@@ -177,7 +223,7 @@ impl<N: Chronicle> Drive for CachedDrive<N> {
             return Err(DriveLost);
         }
         let most = self.cache.units();
-        list(&mut self.dirty, &mut self.all, at, most);
+        list(&mut self.dirty, &mut self.marks, &mut self.all, at, most);
         keep(&mut self.cache, at, unit);
         Ok(())
     }
@@ -193,7 +239,7 @@ impl<N: Chronicle> Drive for CachedDrive<N> {
             return Err(DriveLost);
         }
         let most = self.cache.units();
-        list(&mut self.dirty, &mut self.all, at, most);
+        list(&mut self.dirty, &mut self.marks, &mut self.all, at, most);
         keep_gathered(&mut self.cache, at, front, rest, scratch);
         Ok(())
     }

@@ -2,9 +2,9 @@
 ghost use Rattle.std.specs.Prelude.{◌≡◌, ◌<◌, ◌++◌, [], ◌∷◌, ℕ, length, OnOk, OnErr, slice_get, Some, List, Contains};
 ghost use Rattle.extents.specs.declared.mem_drive.Condition.TheVariants.{Present};
 ghost use Rattle.extents.specs.Units.{IsSized};
-ghost use Rattle.extent_groups.specs.Planned.{Wanted};
+ghost use Rattle.extent_groups.specs.Planned.{Wanted, AreOnce};
 ghost use Rattle.history.specs.Entries.{entry};
-ghost use Rattle.cached_drive.specs.Saving.{Units, AreSaved, Brings, saved_by, writes_at, upto};
+ghost use Rattle.cached_drive.specs.Saving.{Units, AreSaved, Brings, IsMarked, IsOnce, saved_by, writes_at, upto};
 
 use crate::drive::CachedDrive;
 use crate::saved::{Saved, Saves};
@@ -100,16 +100,38 @@ fn put_written(
     requires size { IsSized (length unit.old) cache.old.units }
     requires present { cache.old.condition ≡ Present }
     requires inside { (at : ℕ) → Contains dirty.now at → at < length cache.old.units }
+    requires once { IsOnce dirty.now }
     ensures same { cache.new ≡ cache.old }
     ensures size { length unit.new ≡ length unit.old }
     ensures ok { OnOk result ((saved : Units) → AreSaved all dirty.now saved cache.old.units
         → (writes : List Wanted) × (batch.new ≡ batch.old ++ writes) × Brings drive saved cache.old.units writes) }
+    ensures once { OnOk result ((writes : List Wanted) × (batch.new ≡ batch.old ++ writes) × AreOnce writes) }
     ensures more { (writes : List Wanted) × (batch.new ≡ batch.old ++ writes) }
 {
     if all {
         put_all(cache, drive, unit, batch)
     } else {
         put_listed(cache, drive, dirty, unit, batch)
+    }
+}
+
+// Takes away the mark of an address, if it has one.
+fn unmark(marks: &mut Vec<bool>, at: u32)
+    ensures unmarked { IsMarked marks.new.items at → ⊥ }
+    ensures rest { (a : ℕ) → IsMarked marks.new.items a → IsMarked marks.old.items a }
+{
+    if (at as usize) < marks.len() {
+        marks[at as usize] = false;
+    }
+}
+
+// Takes away the marks of the listed addresses, which are all marks.
+fn unmark_all(marks: &mut Vec<bool>, dirty: &[u32])
+    requires { (at : ℕ) → IsMarked marks.old.items at → Contains dirty.now at }
+    ensures { (at : ℕ) → IsMarked marks.new.items at → ⊥ }
+{
+    for at in dirty {
+        unmark(marks, *at);
     }
 }
 
@@ -135,6 +157,8 @@ impl<N: Chronicle> CachedDrive<N> {
         }) }
         ensures brings { OnOk result ((writes : List Wanted) × (batch.new ≡ batch.old ++ writes)
             × Brings drive (saved_by self.old.hand.number keeper.old.log) self.old.cache.units writes) }
+        // Each unit once.
+        ensures once { OnOk result ((writes : List Wanted) × (batch.new ≡ batch.old ++ writes) × AreOnce writes) }
         ensures below { OnOk result (self.old.hand.number < keeper.old.hired) }
         ensures err { OnErr result ((batch.new ≡ batch.old) × (keeper.new ≡ keeper.old)) }
     {
@@ -146,6 +170,7 @@ impl<N: Chronicle> CachedDrive<N> {
         }
         keeper.check(history, &mut self.hand);
         keeper.note::<MemDrive, Saves>(history, &mut self.hand, &self.cache);
+        unmark_all(&mut self.marks, &self.dirty);
         self.dirty.clear();
         self.all = false;
         Ok(())

@@ -52,10 +52,9 @@ impl<N: Chronicle, V: Vault + Drop> ByteStore for JournaledStore<N, V> {
         self.kept_flush()
     }
 
-    // What the array does ahead is a batch too.
+    // What the array does ahead is part of the next batch: a stop before that leaves the array as if it had not been done.
     fn rest(&mut self, alloc: Global) {
         self.store.rest(alloc);
-        let _ = self.publish();
         if self.changes.appended >= self.settle_at {
             let _ = self.settle();
         }

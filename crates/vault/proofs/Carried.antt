@@ -11,7 +11,7 @@ use Rattle.vault.specs.declared.store.Stop.{Stop}
 use Rattle.vault.specs.declared.store.VaultError.{VaultError}
 use Rattle.vault.specs.declared.store.VaultError.TheVariants.{Memory, Misfit, Journal, Drive}
 use Rattle.vault.specs.Images.{Image, SameOn, Stands, recovered, flat, is_lost}
-use Rattle.vault.specs.Moments.{Torn, IsWrittenTo, IsTorn, IsFront, IsUnderway, IsKept, AreTorn, IsAmong, IsUnchanged, Elapses, HasCause, IsRefused, Within, torn_at}
+use Rattle.vault.specs.Moments.{Torn, IsWrittenTo, IsTorn, IsFront, IsUnderway, IsKept, AreTorn, IsAmong, IsUnchanged, Elapses, HasCause, IsRefused, torn_at}
 use Rattle.vault.proofs.Runs.{started, goes_on, both_runs}
 use Rattle.vault.proofs.Writes.{torn_more, torn_on, torn_back, torn_not, torn_front, torn_stands, same_here, after_both, flat_last, take_next, in_list, in_batch}
 

@@ -1,11 +1,12 @@
 -- What a batch holds, by its entries.
 use Rattle.std.proofs.Common.{◌≡◌, ◌<◌, ◌≤◌, ◌+◌, ◌-◌, ℕ, zero, suc, Some, List, [], ◌∷◌, ◌++◌, length, take, drop, get_or, refl, sym, ◌∙◌, ap, subst, arith, length-append, length-drop, length-take}
 use Rattle.std.specs.Prelude.{slice_get, slice_range, slice_index_or, option_map}
-use Rattle.std.proofs.lemmas.List.{drop-append-le, take-append-le, take_all, get_or_default}
+use Rattle.std.proofs.lemmas.List.{drop-append-le, take-append-le, take_all}
 use Rattle.std.proofs.Math.Seq.{drop-append_seam}
 use Rattle.extent_groups.specs.Planned.{Wanted}
 use Rattle.vault.specs.declared.batch.Entry.{Entry}
-use Rattle.vault.specs.Entries.{write_in, writes_in, AreWithin}
+use Rattle.std.proofs.lemmas.Option.{none-some, same_Some}
+use Rattle.vault.specs.Entries.{write_in, writes_in, AreWithin, IsUnitOf}
 
 pub writes_len : (units : List ℕ) (es : List Entry) → length (writes_in units es) ≡ length es
 writes_len units [] = refl
@@ -59,10 +60,27 @@ write_at units (first ∷ es) (suc k) e low is = write_at units es k e (omega (a
 pub place_at : (units : List ℕ) (es : List Entry) (k : ℕ) (e : Entry) → k < length es → e ≡ get_or es k e → option_map (λ (w : Wanted). w.place) (slice_get (writes_in units es) k) ≡ Some e.place
 place_at units es k e low is = ap (λ o. option_map (λ (w : Wanted). w.place) o) (write_at units es k e low is)
 
--- the last entry
-pub last_within : (units : List ℕ) (es : List Entry) (d : Entry) → AreWithin units es → 0 < length es
-    → ((slice_index_or es (length es - 1) d).from ≤ (slice_index_or es (length es - 1) d).to) × ((slice_index_or es (length es - 1) d).to ≤ length units)
-last_within units es d within some = within_at units es (length es - 1) (get_or es (length es - 1) d) within (omega (arith, some)) (get_or_default es (length es - 1) d (get_or es (length es - 1) d) (omega (arith, some)))
+-- a write's unit, by its entry
+pub unit_at : (units : List ℕ) (es : List Entry) (k : ℕ) (d : Entry) → k < length es
+    → option_map (λ (w : Wanted). w.unit) (slice_get (writes_in units es) k) ≡ Some (slice_range units (slice_index_or es k d).from (slice_index_or es k d).to)
+unit_at units [] k d low = absurd (omega (arith, low))
+unit_at units (e ∷ es) zero d low = refl
+unit_at units (e ∷ es) (suc k) d low = unit_at units es k d (omega (arith, low))
+
+pub unit_below : (units : List ℕ) (es : List Entry) (k : ℕ) (unit : List ℕ) → IsUnitOf units es k unit → k < length es
+unit_below units [] k unit is = absurd (none-some unit is)
+unit_below units (e ∷ es) zero unit is = omega arith
+unit_below units (e ∷ es) (suc k) unit is = let low = unit_below units es k unit is in omega (arith, low)
+
+pub is_unit_at : (units : List ℕ) (es : List Entry) (k : ℕ) (d : Entry) (unit : List ℕ) → IsUnitOf units es k unit
+    → slice_range units (slice_index_or es k d).from (slice_index_or es k d).to ≡ unit
+is_unit_at units es k d unit is = same_Some _ unit (sym (unit_at units es k d (unit_below units es k unit is)) ∙ is)
+
+pub within_here : (units : List ℕ) (es : List Entry) (k : ℕ) (d : Entry) → AreWithin units es → k < length es
+    → ((slice_index_or es k d).from ≤ (slice_index_or es k d).to) × ((slice_index_or es k d).to ≤ length units)
+within_here units [] k d within low = absurd (omega (arith, low))
+within_here units (e ∷ es) zero d within low = (within.0, within.1)
+within_here units (e ∷ es) (suc k) d within low = within_here units es k d within.2 (omega (arith, low))
 
 -- a part of the bytes that is the same as others
 pub same_part : (units unit : List ℕ) (i j : ℕ) → i ≤ j → j ≤ length units → slice_range units i j ≡ unit → (i + length unit ≤ length units) × (slice_range units i (i + length unit) ≡ unit)

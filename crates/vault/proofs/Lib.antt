@@ -4,3 +4,4 @@ pub mod Writes
 pub mod Runs
 pub mod Carried
 pub mod Replayed
+pub mod LastWrites

@@ -94,6 +94,18 @@ else_here (w ∷ ws) c x never = else_here ws (with_unit c w) x (λ more. never 
 pub twice : (ws : List Wanted) (c : Cells) (x : Place) → held (after (after c ws) ws) x ≡ held (after c ws) x
 twice ws c x = torn_here ws (after c ws) c x (some_after ws c x) (λ never. else_here ws c x never)
 
+-- a write before later ones, of which one is for its place
+pub again : (w : Wanted) (ws : List Wanted) (c : Cells) (x : Place) → IsWrittenTo ws w.place → held (after c (w ∷ ws)) x ≡ held (after c ws) x
+again w ws c x written = torn_here ws (with_unit c w) c x (some_with c w x) (λ never. write_else c w x (λ e. never (subst (IsWrittenTo ws) e written)))
+
+-- a write for a place that no later one is for, made before them or after them
+pub first_or_last : (w : Wanted) (ws : List Wanted) (c : Cells) (x : Place) → (IsWrittenTo ws w.place → ⊥) → held (after c (w ∷ ws)) x ≡ held (with_unit (after c ws) w) x
+first_or_last w ws c x never = elim (place_or_not w.place x) [
+  | inl e ↦ subst (λ y. held (after c (w ∷ ws)) y ≡ held (with_unit (after c ws) w) y) e
+      (else_here ws (with_unit c w) w.place never ∙ write_here c w ∙ ap (λ o. over o w.unit) (sym (else_here ws c w.place never)) ∙ sym (write_here (after c ws) w))
+  | inr ne ↦ same_here ws (with_unit c w) c x (write_else c w x ne) ∙ sym (write_else (after c ws) w x ne)
+]
+
 -- a write more at the end, and more of them
 pub after_both : (first second : List Wanted) (c : Cells) → after c (first ++ second) ≡ after (after c first) second
 after_both [] second c = refl

@@ -1,5 +1,5 @@
 -- The writes that a batch holds, by where their units lie among its bytes.
-use Rattle.std.specs.Prelude.{◌≤◌, ℕ, List, [], ◌∷◌, length, slice_range}
+use Rattle.std.specs.Prelude.{◌≡◌, ◌≤◌, ℕ, Some, List, [], ◌∷◌, length, option_map, slice_get, slice_range}
 use Rattle.extent_groups.specs.Planned.{Wanted}
 use Rattle.vault.specs.declared.batch.Entry.{Entry}
 
@@ -14,3 +14,7 @@ writes_in units (entry ∷ entries) = write_in units entry ∷ writes_in units e
 abbrev pub AreWithin : List ℕ → List Entry → Type 0
 AreWithin units [] = Unit {0}
 AreWithin units (entry ∷ entries) = (entry.from ≤ entry.to) × (entry.to ≤ length units) × AreWithin units entries
+
+-- the write of this index has this unit
+abbrev pub IsUnitOf : List ℕ → List Entry → ℕ → List ℕ → Type 0
+IsUnitOf units entries index unit = option_map (λ (w : Wanted). w.unit) (slice_get (writes_in units entries) index) ≡ Some unit

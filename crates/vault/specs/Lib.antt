@@ -4,3 +4,4 @@ pub mod Images
 pub mod Moments
 pub mod Replay
 pub mod Memory
+pub mod Marks

@@ -1,12 +1,18 @@
 // A batch of unit writes.
-ghost use Rattle.std.specs.Prelude.{◌≡◌, ◌↔◌, ◌<◌, ◌≤◌, ◌+◌, ◌-◌, ◌*◌, ◌++◌, [], ◌∷◌, Some, length, take, IsTrue, IfOk, IfSome, IfNone, OnOk, OnErr, slice_get, option_map, slice_range};
-ghost use Rattle.vault.specs.Entries.{writes_in, AreWithin};
+ghost use Rattle.std.specs.Prelude.{◌≡◌, ◌↔◌, ◌<◌, ◌≤◌, ◌+◌, ◌-◌, ◌*◌, ◌++◌, [], ◌∷◌, ℕ, Some, length, take, IsTrue, IfOk, IfSome, IfNone, OnOk, OnErr, slice_get, option_map, slice_range};
+ghost use Rattle.vault.specs.Entries.{writes_in, AreWithin, IsUnitOf};
 ghost use Rattle.vault.specs.Coding.{Encodes, IsCode, decoded, entries_code, entry_code, entries_at, entry_at, AreSmall, IsSmall, AreGood, IsGoodEntry};
 
 use crate::code::{count_in, number, put_number};
 use extent_groups::Place;
 use std::alloc::{AllocError, Global};
 use std::marker::Model;
+
+/// How many of the last writes are looked at for one with the same unit.
+const LOOKED_AT: usize = 64;
+
+/// The byte that is compared first: the low one of a header's slot number, in which most units differ.
+const TELLING: usize = 15;
 
 /// Where the unit of a write lies among the bytes of its batch.
 #[derive(Clone, Copy, Debug)]
@@ -16,11 +22,13 @@ struct Entry {
     to: usize,
 }
 
-/// Unit writes, in their order. A unit that is written to two places in turn is held once.
+/// Unit writes, in their order. A unit that one of the last 64 writes has too is held once.
 #[derive(Debug, Drop)]
 pub struct Batch {
     entries: Vec<Entry>,
     units: Vec<u8>,
+    /// The write after the one that last had the same unit as another: the next pair's may be there.
+    hint: usize,
 }
 
 impl Model for Batch {
@@ -42,7 +50,13 @@ impl Batch {
         Batch {
             entries: Vec::new(alloc),
             units: Vec::new(alloc),
+            hint: 0,
         }
+    }
+
+    // What its memory comes from.
+    pub(crate) fn allocator(&self) -> Global {
+        *self.entries.allocator()
     }
 
     /// Adds a write. Refused if out of memory, and then nothing is added.
@@ -51,7 +65,7 @@ impl Batch {
         ensures ok { OnOk result (self.new ≡ self.old ++ record { place = place; unit = unit.now } ∷ []) }
         ensures err { OnErr result (self.new ≡ self.old) }
     {
-        let from = kept_at(&self.entries, &mut self.units, unit)?;
+        let from = kept_at(&self.entries, &mut self.units, &mut self.hint, unit)?;
         let entry = Entry {
             place,
             from,
@@ -146,20 +160,70 @@ impl Batch {
     }
 }
 
-// Where these bytes lie among the units: those of the last entry if they are the same, else appended.
-#[tactic(auto, using(crate::proofs::Held::within_longer, crate::proofs::Held::writes_longer, crate::proofs::Held::within_at, crate::proofs::Held::range_last))]
-fn kept_at(entries: &[Entry], units: &mut Vec<u8>, unit: &[u8]) -> Result<usize, AllocError>
+// Whether the telling byte of a unit is another than that of the unit at `from`.
+fn differ(units: &[u8], from: usize, unit: &[u8]) -> bool
+    ensures { IsTrue result → (to : ℕ) → slice_range units.now from to ≡ unit.now → ⊥ }
+{
+    let at = from.saturating_add(TELLING);
+    if at >= units.len() || TELLING >= unit.len() {
+        return false;
+    }
+    units[at] != unit[TELLING]
+}
+
+// Whether a unit is that of the entry of an index.
+fn is_unit_of(entries: &[Entry], units: &[u8], index: usize, unit: &[u8]) -> bool
+    requires { AreWithin units.now entries.now }
+    ensures { IsTrue result ↔ IsUnitOf units.now entries.now index unit.now }
+{
+    if index >= entries.len() {
+        return false;
+    }
+    let entry = entries[index];
+    if differ(units, entry.from, unit) {
+        return false;
+    }
+    units[entry.from..entry.to] == unit[..]
+}
+
+// The index of an entry with this unit: the hint, or the first of the last `LOOKED_AT`.
+#[tactic(auto, using(crate::proofs::Held::unit_below))]
+fn find_unit(entries: &[Entry], units: &[u8], hint: usize, unit: &[u8]) -> Option<usize>
+    requires { AreWithin units.now entries.now }
+    ensures some { IfSome result (λ index. IsUnitOf units.now entries.now index unit.now) }
+    ensures inside { IfSome result (λ index. index < length entries.now) }
+    ensures none { IfNone result ((index : ℕ) → length entries.now ≤ index + 64 → IsUnitOf units.now entries.now index unit.now → ⊥) }
+{
+    if is_unit_of(entries, units, hint, unit) {
+        return Some(hint);
+    }
+    for index in entries.len().saturating_sub(LOOKED_AT)..entries.len() {
+        if is_unit_of(entries, units, index, unit) {
+            return Some(index);
+        }
+    }
+    None
+}
+
+// Where these bytes lie among the units: those of an entry if they are the same, else appended.
+#[tactic(auto, using(crate::proofs::Held::within_longer, crate::proofs::Held::writes_longer, crate::proofs::Held::range_last))]
+fn kept_at(
+    entries: &[Entry],
+    units: &mut Vec<u8>,
+    hint: &mut usize,
+    unit: &[u8],
+) -> Result<usize, AllocError>
     requires { AreWithin units.old.items entries.now }
     ensures at { IfOk result (λ from. (from + length unit.now ≤ length units.new.items) × (slice_range units.new.items from (from + length unit.now) ≡ unit.now)) }
     ensures within { AreWithin units.new.items entries.now }
     ensures same { writes_in units.new.items entries.now ≡ writes_in units.old.items entries.now }
+
+    // One of the last 64 writes that has the unit keeps it from being held again.
+    ensures once { (index : ℕ) → length entries.now ≤ index + 64 → IsUnitOf units.old.items entries.now index unit.now → units.new.items ≡ units.old.items }
 {
-    let count = entries.len();
-    if count > 0 {
-        let last = entries[count - 1];
-        if units[last.from..last.to] == unit[..] {
-            return Ok(last.from);
-        }
+    if let Some(index) = find_unit(entries, units, *hint, unit) {
+        *hint = index + 1;
+        return Ok(entries[index].from);
     }
     let from = units.len();
     units.extend_from_slice(unit)?;

@@ -6,6 +6,7 @@ mod carry;
 mod code;
 mod commit;
 mod memory;
+mod places;
 mod store;
 
 pub use batch::Batch;

@@ -2,7 +2,7 @@ use Rattle.std.proofs.Common.{◌≤◌, take}
 use Rattle.extent_groups.specs.Planned.{after}
 use Rattle.vault.specs.Images.{Image, SameOn, flat}
 use Rattle.vault.specs.Moments.{IsUnderway}
-use Rattle.vault.proofs.carry.write_batches.Given as goal
+use Rattle.vault.proofs.carry.write_all.Given as goal
 
 abbrev pub invariant-loop-index : goal.invariant-loop-index
 invariant-loop-index g l = record {
