@@ -1,5 +1,5 @@
 // Files in memory that keep their calls. A stop leaves all that the contract of files lets it leave.
-ghost use Rattle.std.specs.Prelude.{◌≡◌, ◌<◌, ◌≤◌, ◌+◌, ◌^◌, ◌++◌, [], ◌∷◌, ℕ, ⊤, length, OnOk, OnErr};
+ghost use Rattle.std.specs.Prelude.{◌≡◌, ◌<◌, ◌≤◌, ◌+◌, ◌^◌, ◌++◌, [], ◌∷◌, ℕ, ⊤, length, OnOk, OnErr, IfSome};
 ghost use Rattle.file_vault.specs.Folders.{Reads};
 ghost use Rattle.file_vault.specs.Calls.{folder_of, seen_from, seen_after, leaves_at, LeftSince, left_now, only_left};
 
@@ -99,7 +99,7 @@ impl Fuse {
 }
 
 // One failure more.
-fn one_more(faults: u32) -> u32
+pub(crate) fn one_more(faults: u32) -> u32
     ensures later { faults ≤ result }
     ensures some { 0 < result }
 {
@@ -165,6 +165,41 @@ fn read(first: &[Vec<u8>], calls: &[FileCall], file: u8, at: u64, out: &mut [u8]
     }
 }
 
+// Bytes that a file had at first.
+fn first_length(first: &[Vec<u8>], file: u8) -> u64
+    ensures { (k : ℕ) → result ≤ k → folder_of first.now file k ≡ 0 }
+{
+    match first.get(file as usize) {
+        Some(bytes) => bytes.len() as u64,
+        None => 0,
+    }
+}
+
+// Where a file ends after one call more; none past what a number holds.
+fn end_after(call: &FileCall, file: u8, end: u64) -> Option<u64>
+    ensures { (f : ℕ → ℕ → ℕ) → ((k : ℕ) → end ≤ k → f file k ≡ 0) → IfSome result (λ end. (k : ℕ) → end ≤ k → seen_after call.now f file k ≡ 0) }
+{
+    let FileCall::Write(to, from, bytes) = call else {
+        return Some(end);
+    };
+    if *to != file {
+        return Some(end);
+    }
+    let past = from.checked_add(bytes.len() as u64)?;
+    Some(end.max(past))
+}
+
+// Where a file ends after these calls.
+fn end_of(first: &[Vec<u8>], calls: &[FileCall], file: u8) -> Option<u64>
+    ensures { IfSome result (λ end. (k : ℕ) → end ≤ k → seen_from (folder_of first.now) calls.now file k ≡ 0) }
+{
+    let mut end = first_length(first, file);
+    for call in calls {
+        end = end_after(call, file, end)?;
+    }
+    Some(end)
+}
+
 impl Files for MemFiles {
     ghost known = { λ m. ⊤ };
 
@@ -214,6 +249,16 @@ impl Files for MemFiles {
         }
         read(&self.first, &self.calls, file, at, out);
         Ok(())
+    }
+
+    fn length(&mut self, file: u8) -> Result<u64, FileFault> {
+        if !self.fuse.is_cut(file) {
+            if let Some(end) = end_of(&self.first, &self.calls, file) {
+                return Ok(end);
+            }
+        }
+        self.faults = one_more(self.faults);
+        Err(FileFault)
     }
 }
 

@@ -1,0 +1,138 @@
+// Files whose journal lies in two of them, so that one may be lost at any moment.
+ghost use Rattle.std.specs.Prelude.{◌+◌, ◌≡◌, ◌≤◌};
+ghost use Rattle.file_vault.specs.Twins.{seen_as, lead_of, shown, IsHeld};
+
+use crate::files::{FileFault, Files};
+use crate::held::{Held, read_both, sync_both, write_both};
+use crate::joined::join;
+use crate::layout::{HEADER, JOURNAL};
+use crate::mem_files::one_more;
+use crate::twin::SECOND;
+
+/// Files whose journal lies in two of them. The first block of the journal is that of each file alone: calls begin after it.
+#[derive(Drop)]
+pub struct TwinFiles<F: Files + Drop> {
+    pub(crate) files: F,
+    pub(crate) held: Held,
+    // Calls that were refused.
+    pub(crate) faults: u32,
+}
+
+impl<F: Files + Drop> TwinFiles<F> {
+    /// Files that a stop may have left.
+    pub fn open(files: F) -> Result<TwinFiles<F>, (FileFault, F)> {
+        let mut files = files;
+        match join(&mut files) {
+            Held::Neither => Err((FileFault, files)),
+            held => Ok(TwinFiles {
+                files,
+                held,
+                faults: 0,
+            }),
+        }
+    }
+
+    /// Which files of the journal are written and read.
+    pub fn held(&self) -> Held {
+        self.held
+    }
+
+    /// The files.
+    pub fn into_files(self) -> F {
+        self.files
+    }
+
+    // What a call returns that may have changed which files are left.
+    fn outcome(&mut self) -> Result<(), FileFault> {
+        match self.held {
+            Held::Neither => {
+                self.faults = one_more(self.faults);
+                Err(FileFault)
+            }
+            _ => Ok(()),
+        }
+    }
+}
+
+impl<F: Files + Drop> Files for TwinFiles<F> {
+    ghost known = { λ t. F.Files.known t.files × IsHeld F.Files.seen F.Files.may_leave t.files t.held };
+
+    ghost seen = { λ t. seen_as (lead_of t.held) (F.Files.seen t.files) };
+
+    // What either copy shows that counts: so each stop may also lose one of two such copies.
+    ghost may_leave = { λ t stop h. shown (F.Files.may_leave t.files stop) h };
+
+    ghost moment = { λ t. F.Files.moment t.files };
+
+    ghost left_since = { λ t stop time h. shown (F.Files.left_since t.files stop time) h };
+
+    ghost faults = { λ t. F.Files.faults t.files + t.faults };
+
+    ghost counts_now = { λ t known stop time h le now. (now.0, F.Files.counts_now t.files known.0 stop time now.0 le now.1, now.2) };
+
+    ghost only_now = { λ t known stop h left. (left.0, F.Files.only_now t.files known.0 stop left.0 left.1, left.2) };
+
+    fn write_at(&mut self, file: u8, at: u64, bytes: &[u8]) -> Result<(), FileFault> {
+        if file != JOURNAL && file != SECOND {
+            return self.files.write_at(file, at, bytes);
+        }
+        if file == SECOND || at < HEADER {
+            self.faults = one_more(self.faults);
+            return Err(FileFault);
+        }
+        match self.held {
+            Held::Both(count) => {
+                self.held = write_both(&mut self.files, count, at, bytes);
+                self.outcome()
+            }
+            Held::Only(twin, _) => self.files.write_at(twin.number(), at, bytes),
+            Held::Neither => self.outcome(),
+        }
+    }
+
+    fn sync(&mut self, file: u8) -> Result<(), FileFault> {
+        if file != JOURNAL {
+            return if file == SECOND { Ok(()) } else { self.files.sync(file) };
+        }
+        match self.held {
+            Held::Both(count) => {
+                self.held = sync_both(&mut self.files, count);
+                self.outcome()
+            }
+            Held::Only(twin, _) => self.files.sync(twin.number()),
+            Held::Neither => self.outcome(),
+        }
+    }
+
+    fn read_at(&mut self, file: u8, at: u64, out: &mut [u8]) -> Result<(), FileFault> {
+        if file != JOURNAL && file != SECOND {
+            return self.files.read_at(file, at, out);
+        }
+        if file == SECOND || at < HEADER {
+            self.faults = one_more(self.faults);
+            return Err(FileFault);
+        }
+        match self.held {
+            Held::Both(count) => {
+                self.held = read_both(&mut self.files, count, at, out);
+                self.outcome()
+            }
+            Held::Only(twin, _) => self.files.read_at(twin.number(), at, out),
+            Held::Neither => self.outcome(),
+        }
+    }
+
+    fn length(&mut self, file: u8) -> Result<u64, FileFault> {
+        if file == SECOND {
+            return Ok(0);
+        }
+        if file != JOURNAL {
+            return self.files.length(file);
+        }
+        match self.held {
+            Held::Both(_) => self.files.length(JOURNAL),
+            Held::Only(twin, _) => self.files.length(twin.number()),
+            Held::Neither => self.files.length(JOURNAL),
+        }
+    }
+}
