@@ -13,3 +13,4 @@ pub mod Blocks
 pub mod Recovered
 pub mod Opened
 pub mod Boots
+pub mod Counted
