@@ -14,3 +14,5 @@ pub mod Recovered
 pub mod Opened
 pub mod Boots
 pub mod Counted
+pub mod Shown
+pub mod PairCalls
