@@ -16,3 +16,4 @@ pub mod Boots
 pub mod Counted
 pub mod Shown
 pub mod PairCalls
+pub mod TwinCalls

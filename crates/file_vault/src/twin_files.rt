@@ -1,6 +1,7 @@
 // Files whose journal lies in two of them, so that one may be lost at any moment.
-ghost use Rattle.std.specs.Prelude.{◌+◌, ◌≡◌, ◌≤◌};
-ghost use Rattle.file_vault.specs.Twins.{seen_as, lead_of, shown, IsHeld};
+ghost use Rattle.std.specs.Prelude.{◌+◌, OnOk, IsOk};
+ghost use Rattle.file_vault.specs.Folders.{HasFault};
+ghost use Rattle.file_vault.specs.Twins.{seen_as, lead_of, shown, IsHeld, IsKept};
 
 use crate::files::{FileFault, Files};
 use crate::held::{Held, read_both, sync_both, write_both};
@@ -41,16 +42,20 @@ impl<F: Files + Drop> TwinFiles<F> {
     pub fn into_files(self) -> F {
         self.files
     }
+}
 
-    // What a call returns that may have changed which files are left.
-    fn outcome(&mut self) -> Result<(), FileFault> {
-        match self.held {
-            Held::Neither => {
-                self.faults = one_more(self.faults);
-                Err(FileFault)
-            }
-            _ => Ok(()),
+// What a call returns that was made of the files that are left.
+fn outcome(held: Held, faults: &mut u32) -> Result<(), FileFault>
+    ensures kept { OnOk result (IsKept held) }
+    ensures ok { IsKept held → IsOk result }
+    ensures cause { HasFault faults.old faults.new result }
+{
+    match held {
+        Held::Neither => {
+            *faults = one_more(*faults);
+            Err(FileFault)
         }
+        _ => Ok(()),
     }
 }
 
@@ -73,52 +78,63 @@ impl<F: Files + Drop> Files for TwinFiles<F> {
     ghost only_now = { λ t known stop h left. (left.0, F.Files.only_now t.files known.0 stop left.0 left.1, left.2) };
 
     fn write_at(&mut self, file: u8, at: u64, bytes: &[u8]) -> Result<(), FileFault> {
-        if file != JOURNAL && file != SECOND {
+        if file == SECOND {
+            self.faults = one_more(self.faults);
+            return Err(FileFault);
+        }
+        if file != JOURNAL {
             return self.files.write_at(file, at, bytes);
         }
-        if file == SECOND || at < HEADER {
+        if at < HEADER {
             self.faults = one_more(self.faults);
             return Err(FileFault);
         }
         match self.held {
             Held::Both(count) => {
                 self.held = write_both(&mut self.files, count, at, bytes);
-                self.outcome()
+                outcome(self.held, &mut self.faults)
             }
             Held::Only(twin, _) => self.files.write_at(twin.number(), at, bytes),
-            Held::Neither => self.outcome(),
+            Held::Neither => outcome(self.held, &mut self.faults),
         }
     }
 
     fn sync(&mut self, file: u8) -> Result<(), FileFault> {
+        if file == SECOND {
+            return Ok(());
+        }
         if file != JOURNAL {
-            return if file == SECOND { Ok(()) } else { self.files.sync(file) };
+            return self.files.sync(file);
         }
         match self.held {
             Held::Both(count) => {
                 self.held = sync_both(&mut self.files, count);
-                self.outcome()
+                outcome(self.held, &mut self.faults)
             }
             Held::Only(twin, _) => self.files.sync(twin.number()),
-            Held::Neither => self.outcome(),
+            Held::Neither => outcome(self.held, &mut self.faults),
         }
     }
 
     fn read_at(&mut self, file: u8, at: u64, out: &mut [u8]) -> Result<(), FileFault> {
-        if file != JOURNAL && file != SECOND {
+        if file == SECOND {
+            self.faults = one_more(self.faults);
+            return Err(FileFault);
+        }
+        if file != JOURNAL {
             return self.files.read_at(file, at, out);
         }
-        if file == SECOND || at < HEADER {
+        if at < HEADER {
             self.faults = one_more(self.faults);
             return Err(FileFault);
         }
         match self.held {
             Held::Both(count) => {
                 self.held = read_both(&mut self.files, count, at, out);
-                self.outcome()
+                outcome(self.held, &mut self.faults)
             }
             Held::Only(twin, _) => self.files.read_at(twin.number(), at, out),
-            Held::Neither => self.outcome(),
+            Held::Neither => outcome(self.held, &mut self.faults),
         }
     }
 
