@@ -1,7 +1,7 @@
 // Files in memory that keep their calls. A stop leaves all that the contract of files lets it leave.
-ghost use Rattle.std.specs.Prelude.{◌≡◌, ◌<◌, ◌≤◌, ◌+◌, ◌^◌, ◌++◌, [], ◌∷◌, ℕ, ⊤, length, OnOk, OnErr, IfSome};
+ghost use Rattle.std.specs.Prelude.{◌≡◌, ◌<◌, ◌≤◌, ◌+◌, ◌^◌, ◌++◌, [], ◌∷◌, ℕ, ⊤, length, slice_get, OnOk, OnErr, IfSome};
 ghost use Rattle.file_vault.specs.Folders.{Reads};
-ghost use Rattle.file_vault.specs.Calls.{folder_of, seen_from, seen_after, leaves_at, LeftSince, left_now, only_left};
+ghost use Rattle.file_vault.specs.Calls.{folder_of, length_of, seen_from, seen_after, leaves_at, LeftSince, left_now, only_left};
 
 use crate::files::{FileFault, Files};
 use std::alloc::{AllocError, Global};
@@ -167,7 +167,7 @@ fn read(first: &[Vec<u8>], calls: &[FileCall], file: u8, at: u64, out: &mut [u8]
 
 // Bytes that a file had at first.
 fn first_length(first: &[Vec<u8>], file: u8) -> u64
-    ensures { (k : ℕ) → result ≤ k → folder_of first.now file k ≡ 0 }
+    ensures { result ≡ length_of (slice_get first.now file) }
 {
     match first.get(file as usize) {
         Some(bytes) => bytes.len() as u64,
@@ -179,14 +179,17 @@ fn first_length(first: &[Vec<u8>], file: u8) -> u64
 fn end_after(call: &FileCall, file: u8, end: u64) -> Option<u64>
     ensures { (f : ℕ → ℕ → ℕ) → ((k : ℕ) → end ≤ k → f file k ≡ 0) → IfSome result (λ end. (k : ℕ) → end ≤ k → seen_after call.now f file k ≡ 0) }
 {
-    let FileCall::Write(to, from, bytes) = call else {
-        return Some(end);
-    };
-    if *to != file {
-        return Some(end);
+    match call {
+        FileCall::Write(to, from, bytes) => {
+            if *to != file {
+                return Some(end);
+            }
+            let past = from.checked_add(bytes.len() as u64)?;
+            Some(end.max(past))
+        }
+        FileCall::Cut(_, _, _) => Some(end),
+        FileCall::Sync(_) => Some(end),
     }
-    let past = from.checked_add(bytes.len() as u64)?;
-    Some(end.max(past))
 }
 
 // Where a file ends after these calls.
