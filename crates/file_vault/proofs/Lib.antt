@@ -17,3 +17,5 @@ pub mod Counted
 pub mod Shown
 pub mod PairCalls
 pub mod TwinCalls
+pub mod Copied
+pub mod Raised

@@ -63,7 +63,7 @@ pub mixed_count : (file at : ℕ) (bytes : List ℕ) (f g : Folder) (d : ℕ) �
 mixed_count file at bytes f g d past mixed = count_same (f d) (g d) (λ k low. mixed_low file at bytes f g d k mixed (omega (arith, low, past)))
 
 -- where an offset lies
-inside_or : (k at count : ℕ) → ((k < at) ⊎ (at + count ≤ k)) ⊎ ((j : ℕ) × (j < count) × (k ≡ at + j))
+pub inside_or : (k at count : ℕ) → ((k < at) ⊎ (at + count ≤ k)) ⊎ ((j : ℕ) × (j < count) × (k ≡ at + j))
 inside_or k at count = elim (below_or k at) [
   | inl under ↦ inl (inl under)
   | inr rest ↦ elim rest [

@@ -10,6 +10,8 @@ use Rattle.file_vault.specs.declared.twin.Twin.{Twin}
 use Rattle.file_vault.specs.declared.twin.Twin.TheVariants.{First, Second}
 use Rattle.file_vault.specs.declared.held.Held.{Held}
 use Rattle.file_vault.specs.declared.held.Held.TheVariants.{Both, Only, Neither}
+use Rattle.file_vault.specs.declared.joined.Found.{Found}
+use Rattle.file_vault.specs.declared.joined.Found.TheVariants.{Pair, One, None}
 
 -- the other one, and the number of a copy's file
 abbrev pub other : Twin → Twin
@@ -130,3 +132,31 @@ pub record SameBoth (f g : Folder) : Type 0 where
 abbrev pub ShownElapses : {F : Type 0} → (F → ℕ) → (F → Stop → ℕ → Folder → Type 0) → (F → Stop → Folder → Type 0) → F → F → Stop → (Folder → Type 0) → Type 0
 ShownElapses moment left_since may_leave old new stop during =
     Elapses (moment old) (moment new) (λ t h. shown (left_since old stop t) h) (λ t h. shown (left_since new stop t) h) during (λ h. shown (may_leave new stop) h)
+
+-- no other file than this one is newer by more than one, also after each stop
+abbrev pub CountsOn : {F : Type 0} → (F → Stop → Folder → Type 0) → F → Twin → Type 0
+CountsOn may_leave files twin = (stop : Stop) (g : Folder) → may_leave files stop g → Counts g twin
+
+-- a file that couldn't be read or synced isn't newer than the other
+abbrev pub IsOlder : {F : Type 0} → (F → Stop → Folder → Type 0) → F → Found → Type 0
+IsOlder may_leave files Pair = Unit {0}
+IsOlder may_leave files (One twin) = CountsOn may_leave files twin
+IsOlder may_leave files None = Unit {0}
+
+-- what is found: of two files what both may show, of one what it shows
+abbrev pub IsFoundIn : Found → Folder → Folder → Type 0
+IsFoundIn Pair f h = Shows f h
+IsFoundIn (One twin) f h = h ≡ seen_as twin f
+IsFoundIn None f h = ⊥
+
+-- bytes of one file may have been copied over the other's, after the first block
+pub record CopiedOver (lead : Twin) (s f g : Folder) : Type 0 where
+  pub mate : (k : ℕ) → (g (file_of (other lead)) k ≡ f (file_of (other lead)) k) ⊎ ((4096 ≤ k) × (g (file_of (other lead)) k ≡ s (file_of lead) k))
+  pub others : (d : ℕ) → d ≢ file_of (other lead) → g d ≡ f d
+
+abbrev pub copied_at : Twin → Folder → (Folder → Type 0) → Folder → Type 0
+copied_at lead s outcomes g = (f : Folder) × outcomes f × CopiedOver lead s f g
+
+-- both files are as calls find them, also after each stop
+abbrev pub AreSettled : {F : Type 0} → (F → Folder) → (F → Stop → Folder → Type 0) → F → Type 0
+AreSettled seen may_leave files = (stop : Stop) (g : Folder) → may_leave files stop g → (g 17 ≡ seen files 17) × (g 18 ≡ seen files 18)

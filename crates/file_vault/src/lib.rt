@@ -18,6 +18,7 @@ mod twin_files;
 pub use files::{FileFault, Files};
 pub use header::{Header, read_header, write_header};
 pub use held::Held;
+pub use joined::Found;
 pub use layout::{HEADER, JOURNAL, Layout};
 pub use mem_files::MemFiles;
 pub use over_files::FileVault;

@@ -1,11 +1,12 @@
 // Files whose journal lies in two of them, so that one may be lost at any moment.
-ghost use Rattle.std.specs.Prelude.{◌+◌, OnOk, IsOk};
+ghost use Rattle.std.specs.Prelude.{◌+◌, ◌≡◌, OnOk, IfOk, IsOk, MatchResult};
+ghost use Rattle.vault.specs.declared.store.Stop.{Stop};
 ghost use Rattle.file_vault.specs.Folders.{HasFault};
-ghost use Rattle.file_vault.specs.Twins.{seen_as, lead_of, shown, IsHeld, IsKept};
+ghost use Rattle.file_vault.specs.Twins.{seen_as, lead_of, shown, IsHeld, IsKept, IsOlder, IsFoundIn, ShownElapses};
 
 use crate::files::{FileFault, Files};
 use crate::held::{Held, read_both, sync_both, write_both};
-use crate::joined::join;
+use crate::joined::{Found, join};
 use crate::layout::{HEADER, JOURNAL};
 use crate::mem_files::one_more;
 use crate::twin::SECOND;
@@ -15,31 +16,60 @@ use crate::twin::SECOND;
 pub struct TwinFiles<F: Files + Drop> {
     pub(crate) files: F,
     pub(crate) held: Held,
+    pub(crate) found: Found,
     // Calls that were refused.
     pub(crate) faults: u32,
 }
 
 impl<F: Files + Drop> TwinFiles<F> {
-    /// Files that a stop may have left.
-    pub fn open(files: F) -> Result<TwinFiles<F>, (FileFault, F)> {
+    ghost use Rattle.file_vault.specs.Twins.{seen_as, lead_of, shown, IsHeld, IsOlder, IsFoundIn, ShownElapses};
+
+    /// Files that a stop may have left. A file of the journal that can't be read or synced is left out, and can't be taken for the
+    /// other's equal later. An error says which could be read, and hands the files back.
+    pub fn open(files: F) -> Result<TwinFiles<F>, (Found, F)>
+        ensures known { F.known files → IfOk result (λ t. IsOlder F.may_leave files t.found → F.known t.files × IsHeld F.seen F.may_leave t.files t.held) }
+
+        // What the files show that count is found.
+        ensures seen { F.known files → IfOk result (λ t. IsFoundIn t.found (F.seen files) (seen_as (lead_of t.held) (F.seen t.files))) }
+
+        // A stop at any moment of it leaves what it left before.
+        ensures time { F.known files
+            → MatchResult result (λ t. IsOlder F.may_leave files t.found
+            → (stop : Stop) → ShownElapses F.moment F.left_since F.may_leave files t.files stop (λ h. shown (F.may_leave files stop) h))
+            (λ e. IsOlder F.may_leave files e.0
+            → (stop : Stop) → ShownElapses F.moment F.left_since F.may_leave files e.1 stop (λ h. shown (F.may_leave files stop) h)) }
+    {
         let mut files = files;
-        match join(&mut files) {
-            Held::Neither => Err((FileFault, files)),
-            held => Ok(TwinFiles {
+        let (found, held) = join(&mut files);
+        match held {
+            Held::Neither => Err((found, files)),
+            _ => Ok(TwinFiles {
                 files,
                 held,
+                found,
                 faults: 0,
             }),
         }
     }
 
+    /// Which files of the journal could be read when they were opened.
+    pub fn found(&self) -> Found
+        ensures { result ≡ self.now.found }
+    {
+        self.found
+    }
+
     /// Which files of the journal are written and read.
-    pub fn held(&self) -> Held {
+    pub fn held(&self) -> Held
+        ensures { result ≡ self.now.held }
+    {
         self.held
     }
 
     /// The files.
-    pub fn into_files(self) -> F {
+    pub fn into_files(self) -> F
+        ensures { result ≡ self.files }
+    {
         self.files
     }
 }

@@ -1,0 +1,150 @@
+-- One file of a journal is copied over the other.
+use Rattle.std.proofs.Common.{◌≡◌, ◌≢◌, ◌≤◌, ◌<◌, ◌⊎◌, inl, inr, ⊎_elim, ℕ, suc, ◌+◌, ◌-◌, Bool, true, false, List, Result, Ok, Err, refl, sym, ◌∙◌, ap, subst, arith, length, get_or}
+use Rattle.std.specs.Prelude.{OnOk, is_err}
+use Rattle.std.proofs.lemmas.Bool.{true≢false}
+use Rattle.vault.specs.declared.store.Stop.{Stop}
+use Rattle.vault.specs.Moments.{Elapses, Within}
+use Rattle.file_vault.specs.Folders.{Bytes, Folder, Reads, Wrote, Mixed, mixed_at, HasFile}
+use Rattle.file_vault.specs.declared.twin.Twin.{Twin}
+use Rattle.file_vault.specs.declared.twin.Twin.TheVariants.{First, Second}
+use Rattle.file_vault.specs.Twins.{file_of, other, count_in, Counts, behind_of, seen_as, Shows, shown, AreAlike, CopiedOver, copied_at, SameBoth}
+use Rattle.file_vault.proofs.Puts.{below_or}
+use Rattle.file_vault.proofs.Shown.{behind_eq, count_same, shows_as}
+use Rattle.file_vault.proofs.PairCalls.{inside_or}
+
+pub not_err : {T E : Type 0} (r : Result T E) (P : Type 0) → OnOk r P → is_err r ≡ false → P
+not_err (Ok x) P ok is = ok
+not_err (Err e) P ok is = absurd (true≢false is)
+
+pub lead_apart : (lead : Twin) → file_of lead ≢ file_of (other lead)
+lead_apart First e = omega (arith, e)
+lead_apart Second e = omega (arith, e)
+
+-- none, one more, and from a file that is the same
+pub copied_still : (lead : Twin) (s f : Folder) → CopiedOver lead s f f
+copied_still lead s f = record { mate = λ k. inl refl; others = λ d ne. refl }
+
+pub copied_more : (lead : Twin) (s f g h : Folder) → CopiedOver lead s f g → CopiedOver lead s g h → CopiedOver lead s f h
+copied_more lead s f g h one two = record {
+  mate = λ k. elim (two.mate k) [
+    | inl same ↦ elim (one.mate k) [ inl was ↦ inl (same ∙ was) | inr (past, is) ↦ inr (past, same ∙ is) ]
+    | inr made ↦ inr made
+  ];
+  others = λ d ne. two.others d ne ∙ one.others d ne;
+}
+
+pub copied_from : (lead : Twin) (s t f g : Folder) → t (file_of lead) ≡ s (file_of lead) → CopiedOver lead t f g → CopiedOver lead s f g
+copied_from lead s t f g same copied = record {
+  mate = λ k. ⊎_elim (λ was. inl was) (λ made. inr (made.0, made.1 ∙ ap (λ (b : Bytes). b k) same)) (copied.mate k);
+  others = copied.others;
+}
+
+pub copied_lead : (lead : Twin) (s f g : Folder) → CopiedOver lead s f g → g (file_of lead) ≡ f (file_of lead)
+copied_lead lead s f g copied = copied.others (file_of lead) (lead_apart lead)
+
+-- a write of the other file's bytes
+pub copied_mixed : (lead : Twin) (n at : ℕ) (bytes : List ℕ) (s f g : Folder) → n ≡ file_of (other lead) → 4096 ≤ at → ((j : ℕ) → j < length bytes → get_or bytes j 0 ≡ s (file_of lead) (at + j)) → Mixed n at bytes f g → CopiedOver lead s f g
+copied_mixed lead n at bytes s f g is past read mixed = record {
+  mate = λ k. subst (λ m. (g m k ≡ f m k) ⊎ ((4096 ≤ k) × (g m k ≡ s (file_of lead) k))) is (byte k);
+  others = λ d ne. mixed.others d (λ e. ne (e ∙ is));
+}
+  where
+    byte : (k : ℕ) → (g n k ≡ f n k) ⊎ ((4096 ≤ k) × (g n k ≡ s (file_of lead) k))
+    byte k = elim (inside_or k at (length bytes)) [
+      | inl out ↦ inl (mixed.outside k out)
+      | inr (j, low, e) ↦ elim (mixed.inside j low) [
+        | inl same ↦ inl (ap (g n) e ∙ same ∙ sym (ap (f n) e))
+        | inr made ↦ inr (omega (arith, past, e), ap (g n) e ∙ made ∙ read j low ∙ sym (ap (s (file_of lead)) e))
+      ]
+    ]
+
+pub copied_done : (lead : Twin) (n at count : ℕ) (bytes : List ℕ) (s f g : Folder) → n ≡ file_of (other lead) → count ≡ length bytes → ((j : ℕ) → j < length bytes → get_or bytes j 0 ≡ s (file_of lead) (at + j)) → Wrote n at bytes f g
+    → (k : ℕ) → at ≤ k → k < at + count → g (file_of (other lead)) k ≡ s (file_of lead) k
+copied_done lead n at count bytes s f g is long read wrote k low high =
+    let e : k ≡ at + (k - at) = omega (arith, low) in
+    let inside : k - at < length bytes = omega (arith, low, high, long) in
+    subst (λ m. g m k ≡ s (file_of lead) k) is (ap (g n) e ∙ wrote.inside (k - at) inside ∙ read (k - at) inside ∙ sym (ap (s (file_of lead)) e))
+
+-- or both were the same
+pub same_done : (b c : Bytes) (at count : ℕ) (xs ys : List ℕ) → count ≡ length xs → xs ≡ ys → Reads b at xs → Reads c at ys → (k : ℕ) → at ≤ k → k < at + count → c k ≡ b k
+same_done b c at count xs ys long same one two k low high =
+    let e : k ≡ at + (k - at) = omega (arith, low) in
+    let inside : k - at < length xs = omega (arith, low, high, long) in
+    ap c e ∙ sym (two (k - at) (subst (λ (l : List ℕ). k - at < length l) same inside)) ∙ sym (ap (λ (l : List ℕ). get_or l (k - at) 0) same) ∙ one (k - at) inside ∙ sym (ap b e)
+
+-- copied up to the end of both, they are alike
+pub alike_from : (lead : Twin) (s t : Folder) (end : ℕ) → CopiedOver lead s s t → ((k : ℕ) → 4096 ≤ k → k < end → t (file_of (other lead)) k ≡ s (file_of lead) k)
+    → ((k : ℕ) → end ≤ k → (s (file_of lead) k ≡ 0) × (s (file_of (other lead)) k ≡ 0)) → AreAlike t
+alike_from lead s t end copied done zeros k past = by lead refl
+  where
+    mate : t (file_of (other lead)) k ≡ s (file_of lead) k
+    mate = elim (below_or k end) [
+      | inl low ↦ done k past low
+      | inr rest ↦
+        let more : end ≤ k = elim rest [ inl e ↦ omega (arith, e) | inr (j, e) ↦ omega (arith, e) ] in
+        elim (copied.mate k) [ inl same ↦ same ∙ (zeros k more).1 ∙ sym (zeros k more).0 | inr made ↦ made.1 ]
+    ]
+
+    mine : t (file_of lead) k ≡ s (file_of lead) k
+    mine = ap (λ (b : Bytes). b k) (copied_lead lead s s t copied)
+
+    by : (twin : Twin) → lead ≡ twin → t 17 k ≡ t 18 k
+    by First is = subst (λ (w : Twin). t (file_of w) k ≡ t (file_of (other w)) k) is (mine ∙ sym mate)
+    by Second is = sym (subst (λ (w : Twin). t (file_of w) k ≡ t (file_of (other w)) k) is (mine ∙ sym mate))
+
+-- the counts stay
+pub copied_count : (lead : Twin) (s f g : Folder) → CopiedOver lead s f g → (count_in (g (file_of lead)) ≡ count_in (f (file_of lead))) × (count_in (g (file_of (other lead))) ≡ count_in (f (file_of (other lead))))
+copied_count lead s f g copied = (
+  ap count_in (copied_lead lead s f g copied),
+  count_same (f (file_of (other lead))) (g (file_of (other lead))) (λ k low. elim (copied.mate k) [ inl same ↦ same | inr (past, made) ↦ absurd (omega (arith, low, past)) ]),
+)
+
+-- what is shown while it is copied was shown before: of each byte one of two that count
+pub copied_shows : (lead : Twin) (s f g h : Folder) → CopiedOver lead s f g → f (file_of lead) ≡ s (file_of lead) → Counts f lead → Shows g h → Shows f h
+copied_shows First s f g h copied settled counts shows =
+    let same = copied_count First s f g copied in
+    let one = same.0 in
+    let two = same.1 in
+    record {
+      journal = λ k. elim (shows.journal k) [
+        | inl (c, is) ↦ inl (counts, is ∙ ap (λ (b : Bytes). behind_of b k) (copied_lead First s f g copied))
+        | inr (c, is) ↦ elim (copied.mate k) [
+          | inl was ↦ inr (omega (arith, c, one, two), is ∙ behind_eq (f 18) (g 18) k (λ past. was))
+          | inr made ↦ inl (counts, is ∙ behind_eq (f 17) (g 18) k (λ past. made.1 ∙ sym (ap (λ (b : Bytes). b k) settled)))
+        ]
+      ];
+      hidden = shows.hidden;
+      others = λ d n17 n18. shows.others d n17 n18 ∙ copied.others d n18;
+    }
+copied_shows Second s f g h copied settled counts shows =
+    let same = copied_count Second s f g copied in
+    let one = same.0 in
+    let two = same.1 in
+    record {
+      journal = λ k. elim (shows.journal k) [
+        | inl (c, is) ↦ elim (copied.mate k) [
+          | inl was ↦ inl (omega (arith, c, one, two), is ∙ behind_eq (f 17) (g 17) k (λ past. was))
+          | inr made ↦ inr (counts, is ∙ behind_eq (f 18) (g 17) k (λ past. made.1 ∙ sym (ap (λ (b : Bytes). b k) settled)))
+        ]
+        | inr (c, is) ↦ inr (counts, is ∙ ap (λ (b : Bytes). behind_of b k) (copied_lead Second s f g copied))
+      ];
+      hidden = shows.hidden;
+      others = λ d n17 n18. shows.others d n17 n18 ∙ copied.others d n17;
+    }
+
+pub copied_within : (lead : Twin) (s : Folder) (outcomes : Folder → Type 0) → ((f : Folder) → outcomes f → (f (file_of lead) ≡ s (file_of lead)) × Counts f lead) → Within (λ h. shown (copied_at lead s outcomes) h) (λ h. shown outcomes h)
+copied_within lead s outcomes may h (g, (f, was, copied), shows) = let is = may f was in (f, was, copied_shows lead s f g h copied is.0 is.1 shows)
+
+-- one piece more
+pub copied_up : (lead : Twin) (s m t : Folder) (at count : ℕ) → CopiedOver lead s s m → CopiedOver lead m m t → ((k : ℕ) → 4096 ≤ k → k < at → m (file_of (other lead)) k ≡ s (file_of lead) k)
+    → ((k : ℕ) → at ≤ k → k < at + count → t (file_of (other lead)) k ≡ m (file_of lead) k) → (k : ℕ) → 4096 ≤ k → k < at + count → t (file_of (other lead)) k ≡ s (file_of lead) k
+copied_up lead s m t at count one two done piece k past high =
+    let lead_same : m (file_of lead) k ≡ s (file_of lead) k = ap (λ (b : Bytes). b k) (copied_lead lead s s m one) in
+    elim (below_or k at) [
+      | inl under ↦ elim (two.mate k) [ inl same ↦ same ∙ done k past under | inr made ↦ made.1 ∙ lead_same ]
+      | inr rest ↦ piece k (elim rest [ inl e ↦ omega (arith, e) | inr (j, e) ↦ omega (arith, e) ]) high ∙ lead_same
+    ]
+
+pub copied_next : (lead : Twin) (s m : Folder) (first middle : Folder → Type 0) → m (file_of lead) ≡ s (file_of lead) → Within middle (copied_at lead s first) → Within (copied_at lead m middle) (copied_at lead s first)
+copied_next lead s m first middle same within h (g, now, copied) =
+    let from = within g now in (from.0, from.1, copied_more lead s from.0 g h from.2 (copied_from lead s m g h same copied))
