@@ -5,11 +5,14 @@ use Rattle.std.proofs.lemmas.Bool.{true≢false}
 use Rattle.vault.specs.declared.store.Stop.{Stop}
 use Rattle.vault.specs.Moments.{Elapses, Within}
 use Rattle.file_vault.specs.Folders.{Bytes, Folder, Reads, Wrote, Mixed, mixed_at, HasFile}
+use Rattle.file_vault.specs.Headers.{SameBehind}
+use Rattle.file_vault.specs.declared.held.Held.{Held}
+use Rattle.file_vault.specs.declared.held.Held.TheVariants.{Both, Only, Neither}
 use Rattle.file_vault.specs.declared.twin.Twin.{Twin}
 use Rattle.file_vault.specs.declared.twin.Twin.TheVariants.{First, Second}
-use Rattle.file_vault.specs.Twins.{file_of, other, count_in, Counts, behind_of, seen_as, Shows, shown, AreAlike, CopiedOver, copied_at, SameBoth}
+use Rattle.file_vault.specs.Twins.{file_of, other, count_in, Counts, behind_of, seen_as, Shows, shown, AreAlike, CopiedOver, copied_at, SameBoth, IsOnly, IsKept, lead_of}
 use Rattle.file_vault.proofs.Puts.{below_or}
-use Rattle.file_vault.proofs.Shown.{behind_eq, count_same, shows_as}
+use Rattle.file_vault.proofs.Shown.{behind_eq, count_same, shows_as, seen_same}
 use Rattle.file_vault.proofs.PairCalls.{inside_or}
 
 pub not_err : {T E : Type 0} (r : Result T E) (P : Type 0) → OnOk r P → is_err r ≡ false → P
@@ -148,3 +151,51 @@ copied_up lead s m t at count one two done piece k past high =
 pub copied_next : (lead : Twin) (s m : Folder) (first middle : Folder → Type 0) → m (file_of lead) ≡ s (file_of lead) → Within middle (copied_at lead s first) → Within (copied_at lead m middle) (copied_at lead s first)
 copied_next lead s m first middle same within h (g, now, copied) =
     let from = within g now in (from.0, from.1, copied_more lead s from.0 g h from.2 (copied_from lead s m g h same copied))
+
+-- the one that is copied was settled, and the other is synced
+pub settled_copied : (lead : Twin) (s t f g : Folder) → (f 17 ≡ s 17) × (f 18 ≡ s 18) → CopiedOver lead s f g → CopiedOver lead s s t → g (file_of (other lead)) ≡ t (file_of (other lead)) → (g 17 ≡ t 17) × (g 18 ≡ t 18)
+settled_copied First s t f g is one two synced = (copied_lead First s f g one ∙ is.0 ∙ sym (copied_lead First s s t two), synced)
+settled_copied Second s t f g is one two synced = (synced, copied_lead Second s f g one ∙ is.1 ∙ sym (copied_lead Second s s t two))
+
+pub settled_lead : (lead : Twin) (s f : Folder) → (f 17 ≡ s 17) × (f 18 ≡ s 18) → (f (file_of lead) ≡ s (file_of lead)) × (f (file_of (other lead)) ≡ s (file_of (other lead)))
+settled_lead First s f is = is
+settled_lead Second s f (one, two) = (two, one)
+
+-- which counts, by the counts that calls find
+pub settled_counts : (lead : Twin) (s f : Folder) (count least : ℕ) → (f 17 ≡ s 17) × (f 18 ≡ s 18) → count ≡ count_in (s (file_of lead)) → least ≡ count_in (s (file_of (other lead)))
+    → (count_in (f (file_of lead)) ≡ count) × (count_in (f (file_of (other lead))) ≡ least)
+settled_counts lead s f count least settled is small = let so = settled_lead lead s f settled in (ap count_in so.0 ∙ sym is, ap count_in so.1 ∙ sym small)
+
+pub copied_may : (lead : Twin) (s f g : Folder) (count least : ℕ) → (f 17 ≡ s 17) × (f 18 ≡ s 18) → count ≡ count_in (s (file_of lead)) → least ≡ count_in (s (file_of (other lead))) → CopiedOver lead s f g
+    → (count_in (g (file_of lead)) ≡ count) × (count_in (g (file_of (other lead))) ≡ least)
+copied_may lead s f g count least settled is small copied =
+    let so = settled_counts lead s f count least settled is small in
+    let same = copied_count lead s f g copied in
+    (same.0 ∙ so.0, same.1 ∙ so.1)
+
+other_back : (lead : Twin) → other (other lead) ≡ lead
+other_back First = refl
+other_back Second = refl
+
+pub lead_leads : (lead : Twin) (g : Folder) (count least : ℕ) → (count_in (g (file_of lead)) ≡ count) × (count_in (g (file_of (other lead))) ≡ least) → least ≤ count → Counts g lead × (count_in (g (file_of (other lead))) ≤ suc count)
+lead_leads lead g count least (one, two) low = (omega (arith, one, two, low), omega (arith, two, low))
+
+pub mate_leads : (lead : Twin) (g : Folder) (count least : ℕ) → (count_in (g (file_of lead)) ≡ count) × (count_in (g (file_of (other lead))) ≡ least) → count ≤ suc least
+    → Counts g (other lead) × (count_in (g (file_of (other (other lead)))) ≤ suc least)
+mate_leads lead g count least (one, two) near =
+    subst (λ (t : Twin). (count_in (g (file_of t)) ≤ suc (count_in (g (file_of (other lead))))) × (count_in (g (file_of t)) ≤ suc least)) (sym (other_back lead)) (omega (arith, one, two, near), omega (arith, one, near))
+
+-- one that is left alone is the one that is read
+pub only_lead : (twin : Twin) (held : Held) → IsOnly twin held → IsKept held → lead_of held ≡ twin
+only_lead twin (Both count) only kept = absurd only
+only_lead twin (Only one count) only kept = only
+only_lead twin Neither only kept = absurd kept
+
+-- and shows what was shown
+pub alone_shows : (lead twin : Twin) (s t u : Folder) (held : Held) → CopiedOver lead s s t → Counts s lead → Counts t twin → IsOnly twin held → IsKept held → SameBehind (file_of twin) t u → Shows s (seen_as (lead_of held) u)
+alone_shows lead twin s t u held copied counts now only kept same =
+    subst (λ (w : Twin). Shows s (seen_as w u)) (sym (only_lead twin held only kept))
+    (subst (λ (h : Folder). Shows s h) (sym (seen_same twin t u same)) (copied_shows lead s s t (seen_as twin t) copied refl counts (shows_as twin t now)))
+
+pub pair_shows : (lead : Twin) (s t h : Folder) → CopiedOver lead s s t → Counts s lead → Counts t lead → h ≡ seen_as lead t → Shows s h
+pair_shows lead s t h copied counts now is = subst (λ (x : Folder). Shows s x) (sym is) (copied_shows lead s s t (seen_as lead t) copied refl counts (shows_as lead t now))

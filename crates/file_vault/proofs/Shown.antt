@@ -124,6 +124,22 @@ seen_both f g same alike one two i d k = (byte d k) i
       ]
     ]
 
+-- a file shows the same where its first block alone is another
+pub seen_same : (twin : Twin) (f g : Folder) → SameBehind (file_of twin) f g → seen_as twin g ≡ seen_as twin f
+seen_same twin f g same i d k = (byte d k) i
+  where
+    mine : (k : ℕ) → behind_of (g (file_of twin)) k ≡ behind_of (f (file_of twin)) k
+    mine k = behind_eq (f (file_of twin)) (g (file_of twin)) k (λ past. same.behind k past)
+
+    byte : (d k : ℕ) → seen_as twin g d k ≡ seen_as twin f d k
+    byte d k = elim (which_file d) [
+      | inl e ↦ ap (λ n. seen_as twin g n k) e ∙ mine k ∙ sym (ap (λ n. seen_as twin f n k) e)
+      | inr rest ↦ elim rest [
+        | inl e ↦ ap (λ n. seen_as twin g n k) e ∙ sym (ap (λ n. seen_as twin f n k) e)
+        | inr (n17, n18) ↦ ap (λ (b : Bytes). b k) (with_other _ g d n17 n18 ∙ (both_of twin f g same).others d n17 n18 ∙ sym (with_other _ f d n17 n18))
+      ]
+    ]
+
 -- the byte that was there before, of the file that shows this one
 abbrev pick : {A B : Type 0} → A ⊎ B → ℕ → ℕ → ℕ
 pick (inl a) p q = p
