@@ -1,6 +1,6 @@
 -- One file of a journal is copied over the other.
-use Rattle.std.proofs.Common.{◌≡◌, ◌≢◌, ◌≤◌, ◌<◌, ◌⊎◌, inl, inr, ⊎_elim, ℕ, suc, ◌+◌, ◌-◌, Bool, true, false, List, Result, Ok, Err, refl, sym, ◌∙◌, ap, subst, arith, length, get_or}
-use Rattle.std.specs.Prelude.{OnOk, is_err}
+use Rattle.std.proofs.Common.{◌≡◌, ◌≢◌, ◌≤◌, ◌<◌, ◌⊎◌, inl, inr, ⊎_elim, ℕ, suc, ◌+◌, ◌-◌, Bool, true, false, List, Option, Some, Result, Ok, Err, refl, sym, ◌∙◌, ap, subst, arith, length, get_or}
+use Rattle.std.specs.Prelude.{OnOk, IfSome, is_err}
 use Rattle.std.proofs.lemmas.Bool.{true≢false}
 use Rattle.vault.specs.declared.store.Stop.{Stop}
 use Rattle.vault.specs.Moments.{Elapses, Within}
@@ -199,3 +199,18 @@ alone_shows lead twin s t u held copied counts now only kept same =
 
 pub pair_shows : (lead : Twin) (s t h : Folder) → CopiedOver lead s s t → Counts s lead → Counts t lead → h ≡ seen_as lead t → Shows s h
 pair_shows lead s t h copied counts now is = subst (λ (x : Folder). Shows s x) (sym is) (copied_shows lead s s t (seen_as lead t) copied refl counts (shows_as lead t now))
+
+pub some_at : (o : Option ℕ) (x : ℕ) (P : ℕ → Type 0) → IfSome o P → o ≡ Some x → P x
+some_at o x P given is = subst (λ (q : Option ℕ). IfSome q P) is given
+
+-- a file that goes on alone shows what it showed
+pub alone_found : (twin : Twin) (s t u : Folder) (held : Held) → t ≡ s → IsOnly twin held → IsKept held → SameBehind (file_of twin) t u → seen_as (lead_of held) u ≡ seen_as twin s
+alone_found twin s t u held same only kept behind =
+    subst (λ (w : Twin). seen_as w u ≡ seen_as twin s) (sym (only_lead twin held only kept)) (seen_same twin t u behind ∙ ap (λ (f : Folder). seen_as twin f) same)
+
+-- it may go on where the other doesn't count more
+pub alone_may : (twin : Twin) (s f : Folder) (count : ℕ) → f (file_of twin) ≡ s (file_of twin) → count ≡ count_in (s (file_of twin)) → Counts f twin → Counts f twin × (count_in (f (file_of (other twin))) ≤ suc count)
+alone_may twin s f count same is counts = let mine : count_in (f (file_of twin)) ≡ count_in (s (file_of twin)) = ap count_in same in (counts, omega (arith, counts, mine, is))
+
+pub both_are : (s f : Folder) → f 17 ≡ s 17 → f 18 ≡ s 18 → (f 17 ≡ s 17) × (f 18 ≡ s 18)
+both_are s f one two = (one, two)
