@@ -239,3 +239,8 @@ zeros_behind b k is = elim (below_or k 4096) [
 -- the file's number, and which files are held
 pub none_kept : {P : Type 0} (held : Held) → held ≡ Neither → IsKept held → P
 none_kept held is kept = absurd (subst IsKept is kept)
+
+pub kept_not : (held : Held) → (held ≡ Neither → ⊥) → IsKept held
+kept_not (Both count) not = tt
+kept_not (Only twin count) not = tt
+kept_not Neither not = not refl
