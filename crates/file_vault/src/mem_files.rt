@@ -56,6 +56,16 @@ impl MemFiles {
         self.fuse.weak_alive = calls;
     }
 
+    /// Makes a file what it was at first in others.
+    pub fn take_file(&mut self, file: u8, others: &MemFiles) -> Result<(), AllocError> {
+        let file = file as usize;
+        if file < self.first.len() && file < others.first.len() {
+            let bytes = others.first[file].to_vec(self.alloc)?;
+            self.first[file] = bytes;
+        }
+        Ok(())
+    }
+
     /// How many calls were made.
     pub fn count(&self) -> usize {
         self.calls.len()
