@@ -1,7 +1,7 @@
 -- One file of a journal is copied over the other.
-use Rattle.std.proofs.Common.{◌≡◌, ◌≢◌, ◌≤◌, ◌<◌, ◌⊎◌, inl, inr, ⊎_elim, ℕ, suc, ◌+◌, ◌-◌, Bool, true, false, List, Option, Some, Result, Ok, Err, refl, sym, ◌∙◌, ap, subst, arith, length, get_or}
+use Rattle.std.proofs.Common.{◌≡◌, ◌≢◌, ◌≤◌, ◌<◌, ◌⊎◌, inl, inr, ⊎_elim, ℕ, suc, ◌+◌, ◌-◌, Bool, true, false, if◌then◌else◌, List, Option, Some, Result, Ok, Err, refl, sym, ◌∙◌, ap, subst, arith, length, get_or}
 use Rattle.std.specs.Prelude.{OnOk, IfSome, is_err}
-use Rattle.std.proofs.lemmas.Bool.{true≢false}
+use Rattle.std.proofs.lemmas.Bool.{true≢false, lt-ltb, le-ltb}
 use Rattle.vault.specs.declared.store.Stop.{Stop}
 use Rattle.vault.specs.Moments.{Elapses, Within}
 use Rattle.file_vault.specs.Folders.{Bytes, Folder, Reads, Wrote, Mixed, mixed_at, HasFile}
@@ -10,9 +10,9 @@ use Rattle.file_vault.specs.declared.held.Held.{Held}
 use Rattle.file_vault.specs.declared.held.Held.TheVariants.{Both, Only, Neither}
 use Rattle.file_vault.specs.declared.twin.Twin.{Twin}
 use Rattle.file_vault.specs.declared.twin.Twin.TheVariants.{First, Second}
-use Rattle.file_vault.specs.Twins.{file_of, other, count_in, Counts, behind_of, seen_as, Shows, shown, AreAlike, CopiedOver, copied_at, SameBoth, IsOnly, IsKept, lead_of}
+use Rattle.file_vault.specs.Twins.{file_of, other, count_in, Counts, behind_of, seen_as, Shows, shown, AreAlike, CopiedOver, copied_at, SameBoth, IsOnly, IsKept, IsBoth, newer_of, lead_of}
 use Rattle.file_vault.proofs.Puts.{below_or}
-use Rattle.file_vault.proofs.Shown.{behind_eq, count_same, shows_as, seen_same}
+use Rattle.file_vault.proofs.Shown.{behind_eq, count_same, shows_as, seen_same, which_file, with_other}
 use Rattle.file_vault.proofs.PairCalls.{inside_or}
 
 pub not_err : {T E : Type 0} (r : Result T E) (P : Type 0) → OnOk r P → is_err r ≡ false → P
@@ -214,3 +214,35 @@ alone_may twin s f count same is counts = let mine : count_in (f (file_of twin))
 
 pub both_are : (s f : Folder) → f 17 ≡ s 17 → f 18 ≡ s 18 → (f 17 ≡ s 17) × (f 18 ≡ s 18)
 both_are s f one two = (one, two)
+
+-- the one that is copied shows the same
+pub copied_seen : (lead : Twin) (s t : Folder) → CopiedOver lead s s t → seen_as lead t ≡ seen_as lead s
+copied_seen lead s t copied i d k = (byte d k) i
+  where
+    mine : (k : ℕ) → behind_of (t (file_of lead)) k ≡ behind_of (s (file_of lead)) k
+    mine k = ap (λ (b : Bytes). behind_of b k) (copied_lead lead s s t copied)
+
+    apart : (lead : Twin) (d : ℕ) → d ≢ 17 → d ≢ 18 → d ≢ file_of (other lead)
+    apart First d n17 n18 = n18
+    apart Second d n17 n18 = n17
+
+    byte : (d k : ℕ) → seen_as lead t d k ≡ seen_as lead s d k
+    byte d k = elim (which_file d) [
+      | inl e ↦ ap (λ n. seen_as lead t n k) e ∙ mine k ∙ sym (ap (λ n. seen_as lead s n k) e)
+      | inr rest ↦ elim rest [
+        | inl e ↦ ap (λ n. seen_as lead t n k) e ∙ sym (ap (λ n. seen_as lead s n k) e)
+        | inr (n17, n18) ↦ ap (λ (b : Bytes). b k) (with_other _ t d n17 n18 ∙ copied.others d (apart lead d n17 n18) ∙ sym (with_other _ s d n17 n18))
+      ]
+    ]
+
+pub only_both : {P : Type 0} (twin : Twin) (held : Held) → IsOnly twin held → IsBoth held → P
+only_both twin (Both count) only both = absurd only
+only_both twin (Only one count) only both = absurd both
+only_both twin Neither only both = absurd both
+
+-- which is newer
+pub newer_second : (s : Folder) (first second : ℕ) → first ≡ count_in (s 17) → second ≡ count_in (s 18) → first < second → newer_of s ≡ Second
+newer_second s first second one two low = ap (λ (t : Bool). if t then Second else First) (lt-ltb (count_in (s 17)) (count_in (s 18)) (omega (arith, one, two, low)))
+
+pub newer_first : (s : Folder) (first second : ℕ) → first ≡ count_in (s 17) → second ≡ count_in (s 18) → second ≤ first → newer_of s ≡ First
+newer_first s first second one two low = ap (λ (t : Bool). if t then Second else First) (le-ltb (count_in (s 17)) (count_in (s 18)) (omega (arith, one, two, low)))

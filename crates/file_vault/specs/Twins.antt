@@ -143,6 +143,16 @@ IsOlder may_leave files Pair = Unit {0}
 IsOlder may_leave files (One twin) = CountsOn may_leave files twin
 IsOlder may_leave files None = Unit {0}
 
+-- both files are left
+abbrev pub IsBoth : Held → Type 0
+IsBoth (Both count) = Unit {0}
+IsBoth (Only twin count) = ⊥
+IsBoth Neither = ⊥
+
+-- the one whose count is higher, of two as high the first
+abbrev pub newer_of : Folder → Twin
+newer_of f = if nat_lt (count_in (f 17)) (count_in (f 18)) then Second else First
+
 -- what is found: of two files what both may show, of one what it shows
 abbrev pub IsFoundIn : Found → Folder → Folder → Type 0
 IsFoundIn Pair f h = Shows f h

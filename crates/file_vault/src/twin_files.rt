@@ -2,7 +2,7 @@
 ghost use Rattle.std.specs.Prelude.{◌+◌, ◌≡◌, OnOk, IfOk, IsOk, MatchResult};
 ghost use Rattle.vault.specs.declared.store.Stop.{Stop};
 ghost use Rattle.file_vault.specs.Folders.{HasFault};
-ghost use Rattle.file_vault.specs.Twins.{seen_as, lead_of, shown, IsHeld, IsKept, IsOlder, IsFoundIn, ShownElapses};
+ghost use Rattle.file_vault.specs.Twins.{seen_as, lead_of, shown, IsHeld, IsKept, IsBoth, newer_of, IsOlder, IsFoundIn, ShownElapses};
 
 use crate::files::{FileFault, Files};
 use crate::held::{Held, read_both, sync_both, write_both};
@@ -22,15 +22,17 @@ pub struct TwinFiles<F: Files + Drop> {
 }
 
 impl<F: Files + Drop> TwinFiles<F> {
-    ghost use Rattle.file_vault.specs.Twins.{seen_as, lead_of, shown, IsHeld, IsOlder, IsFoundIn, ShownElapses};
+    ghost use Rattle.file_vault.specs.Twins.{seen_as, lead_of, shown, IsHeld, IsBoth, newer_of, IsOlder, IsFoundIn, ShownElapses};
 
     /// Files that a stop may have left. A file of the journal that can't be read or synced is left out, and can't be taken for the
     /// other's equal later. An error says which could be read, and hands the files back.
     pub fn open(files: F) -> Result<TwinFiles<F>, (Found, F)>
         ensures known { F.known files → IfOk result (λ t. IsOlder F.may_leave files t.found → F.known t.files × IsHeld F.seen F.may_leave t.files t.held) }
 
-        // What the files show that count is found.
+        // What the files show that count is found; where both are left, what the newer one shows.
         ensures seen { F.known files → IfOk result (λ t. IsFoundIn t.found (F.seen files) (seen_as (lead_of t.held) (F.seen t.files))) }
+        ensures newest { F.known files → IfOk result (λ t. IsBoth t.held
+            → seen_as (lead_of t.held) (F.seen t.files) ≡ seen_as (newer_of (F.seen files)) (F.seen files)) }
 
         // A stop at any moment of it leaves what it left before.
         ensures time { F.known files

@@ -5,7 +5,7 @@ use Rattle.file_vault.specs.declared.twin.Twin.TheVariants.{First, Second}
 use Rattle.file_vault.specs.Twins.{file_of, other, count_in, shown, Shows, seen_as, lead_of}
 use Rattle.file_vault.proofs.Puts.{both_elapse}
 use Rattle.file_vault.proofs.Shown.{shown_elapses}
-use Rattle.file_vault.proofs.Copied.{some_at, alone_found, alone_may, both_are}
+use Rattle.file_vault.proofs.Copied.{some_at, alone_found, alone_may, both_are, only_both, newer_second, newer_first}
 use Rattle.file_vault.proofs.joined.join.Goals as goal
 
 pub returns-then-first-second-clause-held : goal.returns-then-first-second-clause-held
@@ -176,3 +176,31 @@ returns-in-None-None-clause-time g c = λ known older stop.
     let raw = both_elapse _ _ _ _ _ _ _ _ _ _ _ (c.admit-first.ensures.time known stop) (c.admit-second.ensures.time k1 stop) (λ h d. d) (λ h there. (c.admit-first.ensures.time known stop).ends h there) in
     let so_far = shown_elapses _ _ _ _ _ _ (λ h. shown (g.F.Files.may_leave c.args.files.now stop) h) raw (λ h d. d) in
     so_far
+
+pub returns-then-first-second-clause-newest : goal.returns-then-first-second-clause-newest
+returns-then-first-second-clause-newest g c = λ known both.
+    let k1 = c.admit-first.ensures.stays known in
+    let k2 = c.admit-second.ensures.stays k1 in
+    let same1 = c.admit-first.ensures.seen known in
+    let same2 = c.admit-second.ensures.seen k1 in
+    let one = some_at c.admit-first.result c.in-Some-Some.first (λ n. n ≡ count_in (g.F.Files.seen c.args.files.now 17)) (c.admit-first.ensures.count known) c.in-Some-Some.is-0 in
+    let two = some_at c.admit-second.result c.in-Some-Some.second (λ n. n ≡ count_in (g.F.Files.seen c.admit-first.new.files 18)) (c.admit-second.ensures.count k1) c.in-Some-Some.is-1 in
+    c.pair.ensures.newest k2 both ∙ ap (λ (f : Folder). seen_as Second f) (same2 ∙ same1)
+    ∙ sym (ap (λ t. seen_as t (g.F.Files.seen c.args.files.now)) (newer_second (g.F.Files.seen c.args.files.now) c.in-Some-Some.first c.in-Some-Some.second one (two ∙ ap (λ (f : Folder). count_in (f 18)) same1) (omega arith)))
+
+pub returns-else-first-second-clause-newest : goal.returns-else-first-second-clause-newest
+returns-else-first-second-clause-newest g c = λ known both.
+    let k1 = c.admit-first.ensures.stays known in
+    let k2 = c.admit-second.ensures.stays k1 in
+    let same1 = c.admit-first.ensures.seen known in
+    let same2 = c.admit-second.ensures.seen k1 in
+    let one = some_at c.admit-first.result c.in-Some-Some.first (λ n. n ≡ count_in (g.F.Files.seen c.args.files.now 17)) (c.admit-first.ensures.count known) c.in-Some-Some.is-0 in
+    let two = some_at c.admit-second.result c.in-Some-Some.second (λ n. n ≡ count_in (g.F.Files.seen c.admit-first.new.files 18)) (c.admit-second.ensures.count k1) c.in-Some-Some.is-1 in
+    c.pair-else-first-second.ensures.newest k2 both ∙ ap (λ (f : Folder). seen_as First f) (same2 ∙ same1)
+    ∙ sym (ap (λ t. seen_as t (g.F.Files.seen c.args.files.now)) (newer_first (g.F.Files.seen c.args.files.now) c.in-Some-Some.first c.in-Some-Some.second one (two ∙ ap (λ (f : Folder). count_in (f 18)) same1) (omega arith)))
+
+pub returns-in-Some-None-clause-newest : goal.returns-in-Some-None-clause-newest
+returns-in-Some-None-clause-newest g c = λ known both. only_both First c.go_alone.result c.go_alone.ensures.only both
+
+pub returns-in-None-Some-clause-newest : goal.returns-in-None-Some-clause-newest
+returns-in-None-Some-clause-newest g c = λ known both. only_both Second c.go_alone-in-None-Some.result c.go_alone-in-None-Some.ensures.only both

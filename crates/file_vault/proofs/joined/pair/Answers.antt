@@ -5,7 +5,7 @@ use Rattle.file_vault.specs.declared.twin.Twin.{Twin}
 use Rattle.file_vault.specs.Twins.{file_of, other, count_in, Counts, shown, IsOnly}
 use Rattle.file_vault.proofs.Puts.{both_elapse}
 use Rattle.file_vault.proofs.Shown.{shown_elapses}
-use Rattle.file_vault.proofs.Copied.{copied_within, copied_count, copied_lead, settled_copied, settled_lead, settled_counts, copied_may, lead_leads, mate_leads, alone_shows, pair_shows}
+use Rattle.file_vault.proofs.Copied.{copied_within, copied_count, copied_lead, settled_copied, settled_lead, settled_counts, copied_may, lead_leads, mate_leads, alone_shows, pair_shows, copied_seen, only_both}
 use Rattle.file_vault.proofs.joined.pair.Goals as goal
 
 pub returns-in-Ok-clause-held : goal.returns-in-Ok-clause-held
@@ -106,3 +106,14 @@ returns-else-count-saturating_add-clause-time g c = λ known settled is small lo
     (copied_within c.args.lead (g.F.Files.seen c.args.files.now) (g.F.Files.may_leave c.args.files.now stop)
     (λ f now. ((settled_lead c.args.lead (g.F.Files.seen c.args.files.now) f (settled stop f now)).0, (lead_leads c.args.lead f c.args.count c.args.least (settled_counts c.args.lead (g.F.Files.seen c.args.files.now) f c.args.count c.args.least (settled stop f now) is small) low).0))) in
     first
+
+pub returns-in-Ok-clause-newest : goal.returns-in-Ok-clause-newest
+returns-in-Ok-clause-newest g c = λ known both.
+    let k1 = c.copy_over.ensures.stays known in
+    c.raise.ensures.seen k1 (c.in-Ok.ensures.alike known) ∙ copied_seen c.args.lead (g.F.Files.seen c.args.files.now) (g.F.Files.seen c.copy_over.new.files) (c.copy_over.ensures.seen known)
+
+pub returns-in-Err-Mate-clause-newest : goal.returns-in-Err-Mate-clause-newest
+returns-in-Err-Mate-clause-newest g c = λ known both. only_both c.args.lead c.go_alone.result c.go_alone.ensures.only both
+
+pub returns-then-count-saturating_add-clause-newest : goal.returns-then-count-saturating_add-clause-newest
+returns-then-count-saturating_add-clause-newest g c = λ known both. only_both c.other.result c.go_alone-then-count-saturating_add.result c.go_alone-then-count-saturating_add.ensures.only both
