@@ -1,16 +1,15 @@
 -- One file of a journal is copied over the other.
-use Rattle.std.proofs.Common.{◌≡◌, ◌≢◌, ◌≤◌, ◌<◌, ◌⊎◌, inl, inr, ⊎_elim, ℕ, suc, ◌+◌, ◌-◌, Bool, true, false, if◌then◌else◌, List, Option, Some, Result, Ok, Err, refl, sym, ◌∙◌, ap, subst, arith, length, get_or}
+use Rattle.std.proofs.Common.{◌≡◌, ◌≢◌, ◌≤◌, ◌<◌, ◌⊎◌, inl, inr, ⊎_elim, ℕ, suc, ◌+◌, ◌-◌, Bool, false, if◌then◌else◌, List, Option, Some, Result, Ok, Err, refl, sym, ◌∙◌, ap, subst, arith, length, get_or}
 use Rattle.std.specs.Prelude.{OnOk, IfSome, is_err}
 use Rattle.std.proofs.lemmas.Bool.{true≢false, lt-ltb, le-ltb}
-use Rattle.vault.specs.declared.store.Stop.{Stop}
-use Rattle.vault.specs.Moments.{Elapses, Within}
-use Rattle.file_vault.specs.Folders.{Bytes, Folder, Reads, Wrote, Mixed, mixed_at, HasFile}
+use Rattle.vault.specs.Moments.{Within}
+use Rattle.file_vault.specs.Folders.{Bytes, Folder, Reads, Wrote, Mixed}
 use Rattle.file_vault.specs.Headers.{SameBehind}
 use Rattle.file_vault.specs.declared.held.Held.{Held}
 use Rattle.file_vault.specs.declared.held.Held.TheVariants.{Both, Only, Neither}
 use Rattle.file_vault.specs.declared.twin.Twin.{Twin}
 use Rattle.file_vault.specs.declared.twin.Twin.TheVariants.{First, Second}
-use Rattle.file_vault.specs.Twins.{file_of, other, count_in, Counts, behind_of, seen_as, Shows, shown, AreAlike, CopiedOver, copied_at, SameBoth, IsOnly, IsKept, IsBoth, newer_of, lead_of}
+use Rattle.file_vault.specs.Twins.{file_of, other, count_in, Counts, behind_of, seen_as, Shows, shown, AreAlike, CopiedOver, copied_at, IsOnly, IsKept, IsBoth, newer_of, lead_of}
 use Rattle.file_vault.proofs.Puts.{below_or}
 use Rattle.file_vault.proofs.Shown.{behind_eq, count_same, shows_as, seen_same, which_file, with_other}
 use Rattle.file_vault.proofs.PairCalls.{inside_or}
@@ -84,8 +83,8 @@ alike_from lead s t end copied done zeros k past = by lead refl
     mate = elim (below_or k end) [
       | inl low ↦ done k past low
       | inr rest ↦
-        let more : end ≤ k = elim rest [ inl e ↦ omega (arith, e) | inr (j, e) ↦ omega (arith, e) ] in
-        elim (copied.mate k) [ inl same ↦ same ∙ (zeros k more).1 ∙ sym (zeros k more).0 | inr made ↦ made.1 ]
+          let more : end ≤ k = elim rest [ inl e ↦ omega (arith, e) | inr (j, e) ↦ omega (arith, e) ] in
+          elim (copied.mate k) [ inl same ↦ same ∙ (zeros k more).1 ∙ sym (zeros k more).0 | inr made ↦ made.1 ]
     ]
 
     mine : t (file_of lead) k ≡ s (file_of lead) k

@@ -1,16 +1,15 @@
 -- The count of one of a journal's two files becomes another.
-use Rattle.std.proofs.Common.{◌≡◌, ◌≤◌, ◌<◌, ◌⊎◌, inl, inr, ℕ, ◌+◌, ◌^◌, Bool, true, false, List, [], ◌∷◌, refl, sym, ◌∙◌, ap, subst, arith, length}
+use Rattle.std.proofs.Common.{◌≡◌, ◌≤◌, ◌<◌, ◌⊎◌, inl, inr, ℕ, ◌^◌, Bool, true, false, List, [], ◌∷◌, refl, sym, ◌∙◌, ap, arith, length}
 use Rattle.std.specs.Prelude.{◌==◌, not}
 use Rattle.std.specs.Int.{w64, to_le_bytes}
 use Rattle.vault.specs.Coding.{word, number}
 use Rattle.vault.specs.Moments.{Within}
 use Rattle.vault.proofs.Codes.{number-word}
-use Rattle.std.proofs.lemmas.List.{append-nil}
 use Rattle.file_vault.specs.Folders.{Bytes, Folder, part, Wrote, Mixed, HasFile, mixed_at}
-use Rattle.file_vault.specs.Headers.{SameBehind, behind_at}
+use Rattle.file_vault.specs.Headers.{SameBehind}
 use Rattle.file_vault.specs.Twins.{which_in, place_of, mark_of, count_in, counted_at}
 use Rattle.file_vault.proofs.Chains.{part_same}
-use Rattle.file_vault.proofs.Blocks.{part_wrote, part_kept}
+use Rattle.file_vault.proofs.Blocks.{part_wrote}
 use Rattle.file_vault.proofs.Opened.{mixed_behind}
 
 word_count : (n : ℕ) → n < 2 ^ 64 → number (to_le_bytes w64 n) ≡ n
@@ -48,11 +47,11 @@ flipped_part file f g next w mixed = let low = place_low w in part_same (f file)
 count_flipped : (file count : ℕ) (f g : Folder) (next : Bool) → number (part (f file) (place_of next) 8) ≡ count → Mixed file 64 (mark_of next ∷ []) f g → (count_in (g file) ≡ count_in (f file)) ⊎ (count_in (g file) ≡ count)
 count_flipped file count f g next is mixed = elim (mixed.inside 0 (omega arith)) [
   | inl same ↦
-    let which : which_in (g file) ≡ which_in (f file) = ap (λ n. not (n == 0)) same in
-    inl (ap (λ w. number (part (g file) (place_of w) 8)) which ∙ ap number (flipped_part file f g next (which_in (f file)) mixed))
+      let which : which_in (g file) ≡ which_in (f file) = ap (λ n. not (n == 0)) same in
+      inl (ap (λ w. number (part (g file) (place_of w) 8)) which ∙ ap number (flipped_part file f g next (which_in (f file)) mixed))
   | inr made ↦
-    let which : which_in (g file) ≡ next = mark_is next (g file 64) made in
-    inr (ap (λ w. number (part (g file) (place_of w) 8)) which ∙ ap number (flipped_part file f g next next mixed) ∙ is)
+      let which : which_in (g file) ≡ next = mark_is next (g file 64) made in
+      inr (ap (λ w. number (part (g file) (place_of w) 8)) which ∙ ap number (flipped_part file f g next next mixed) ∙ is)
 ]
 
 pub count_made : (file count : ℕ) (f g : Folder) (next : Bool) → number (part (f file) (place_of next) 8) ≡ count → Wrote file 64 (mark_of next ∷ []) f g → count_in (g file) ≡ count
@@ -83,8 +82,7 @@ counted_number file count s second first outcomes is within durable g (f, now, m
 pub counted_mark : (file count : ℕ) (s : Folder) (second : Bool) (first outcomes : Folder → Type 0) → number (part (s file) (place_of second) 8) ≡ count → Within outcomes (counted_at file count first) → HasFile file s outcomes
     → Within (mixed_at file 64 (mark_of second ∷ []) outcomes) (counted_at file count first)
 counted_mark file count s second first outcomes is within durable g (f, now, mixed) =
-    let from = within f now in
-    (
+    let from = within f now in (
       from.0,
       from.1,
       behind_both file from.0 f g from.2 (mixed_behind file 64 (mark_of second ∷ []) f g (omega arith) mixed),

@@ -1,5 +1,5 @@
 -- Calls that are made of both files of a journal, and of which either may fail.
-use Rattle.std.proofs.Common.{◌≡◌, ◌≢◌, ◌≤◌, ◌<◌, ◌⊎◌, inl, inr, ⊎_elim, ℕ, suc, ◌+◌, Bool, true, false, List, Result, Ok, Err, refl, sym, ◌∙◌, ap, subst, arith, length, get_or}
+use Rattle.std.proofs.Common.{◌≡◌, ◌≢◌, ◌≤◌, ◌<◌, ◌⊎◌, inl, inr, ⊎_elim, ℕ, ◌+◌, Bool, true, false, List, Result, Ok, Err, refl, sym, ◌∙◌, ap, subst, arith, length}
 use Rattle.std.specs.Prelude.{OnOk, is_ok}
 use Rattle.std.proofs.lemmas.Bool.{false≢true}
 use Rattle.vault.specs.declared.store.Stop.{Stop}
@@ -9,10 +9,10 @@ use Rattle.file_vault.specs.declared.twin.Twin.{Twin}
 use Rattle.file_vault.specs.declared.twin.Twin.TheVariants.{First, Second}
 use Rattle.file_vault.specs.declared.held.Held.{Held}
 use Rattle.file_vault.specs.declared.held.Held.TheVariants.{Both, Only, Neither}
-use Rattle.file_vault.specs.Twins.{file_of, count_in, Counts, behind_of, seen_as, Shows, shown, lead_of, AreEven, AreAlike, IsHeld, IsKept, HasSucceeded, SameBoth}
+use Rattle.file_vault.specs.Twins.{file_of, count_in, Counts, behind_of, seen_as, Shows, shown, lead_of, AreAlike, IsHeld, IsKept, HasSucceeded, SameBoth}
 use Rattle.file_vault.proofs.Puts.{below_or, both_elapse}
 use Rattle.file_vault.proofs.Replayed.{whole_mixed, none_mixed}
-use Rattle.file_vault.proofs.Shown.{both_still, behind_at, behind_eq, count_same, with_other, which_file, WroteBehind, MixedBehind, shown_wrote, shown_mixed, shown_elapses}
+use Rattle.file_vault.proofs.Shown.{both_still, behind_at, behind_eq, count_same, with_other, which_file, WroteBehind, MixedBehind, shown_wrote, shown_mixed}
 
 pub ok_then : {T E : Type 0} (r : Result T E) (P : Type 0) → OnOk r P → is_ok r ≡ true → P
 ok_then (Ok x) P ok is = ok

@@ -1,13 +1,12 @@
 -- The counts of two files of a journal that are alike are raised, one after the other.
-use Rattle.std.proofs.Common.{◌≡◌, ◌≢◌, ◌≤◌, ◌<◌, ◌⊎◌, inl, inr, ⊎_elim, ℕ, suc, ◌+◌, refl, sym, ◌∙◌, ap, subst, arith}
-use Rattle.vault.specs.declared.store.Stop.{Stop}
-use Rattle.vault.specs.Moments.{Elapses, Within}
+use Rattle.std.proofs.Common.{◌≡◌, ◌≤◌, ◌⊎◌, inl, inr, ℕ, suc, refl, sym, ◌∙◌, ap, subst, arith}
+use Rattle.vault.specs.Moments.{Within}
 use Rattle.file_vault.specs.Folders.{Bytes, Folder, HasFile}
 use Rattle.file_vault.specs.Headers.{SameBehind}
 use Rattle.file_vault.specs.declared.twin.Twin.{Twin}
 use Rattle.file_vault.specs.declared.twin.Twin.TheVariants.{First, Second}
-use Rattle.file_vault.specs.Twins.{file_of, other, count_in, Counts, behind_of, seen_as, Shows, shown, AreAlike, SameBoth, counted_at}
-use Rattle.file_vault.proofs.Shown.{both_of, behind_eq, seen_both}
+use Rattle.file_vault.specs.Twins.{file_of, other, count_in, Counts, Shows, shown, AreAlike, SameBoth, counted_at}
+use Rattle.file_vault.proofs.Shown.{both_of, behind_eq}
 use Rattle.file_vault.proofs.Copied.{lead_apart}
 
 -- each file has these bytes after the first block
@@ -21,18 +20,24 @@ holds_on b f g holds same = record { first = λ k past. same.first k past ∙ ho
 -- so all files show the same that have one file that counts
 pub holds_shows : (b : Bytes) (twin : Twin) (f g h : Folder) → Holds b f → SameBoth f g → Counts f twin → Shows g h → Shows f h
 holds_shows b First f g h holds same counts shows = record {
-  journal = λ k. inl (counts, elim (shows.journal k) [
-    | inl (c, is) ↦ is ∙ behind_eq (f 17) (g 17) k (λ past. same.first k past)
-    | inr (c, is) ↦ is ∙ behind_eq (f 17) (g 18) k (λ past. same.second k past ∙ holds.second k past ∙ sym (holds.first k past))
-  ]);
+  journal = λ k. inl (
+    counts,
+    elim (shows.journal k) [
+      | inl (c, is) ↦ is ∙ behind_eq (f 17) (g 17) k (λ past. same.first k past)
+      | inr (c, is) ↦ is ∙ behind_eq (f 17) (g 18) k (λ past. same.second k past ∙ holds.second k past ∙ sym (holds.first k past))
+    ],
+  );
   hidden = shows.hidden;
   others = λ d n17 n18. shows.others d n17 n18 ∙ same.others d n17 n18;
 }
 holds_shows b Second f g h holds same counts shows = record {
-  journal = λ k. inr (counts, elim (shows.journal k) [
-    | inl (c, is) ↦ is ∙ behind_eq (f 18) (g 17) k (λ past. same.first k past ∙ holds.first k past ∙ sym (holds.second k past))
-    | inr (c, is) ↦ is ∙ behind_eq (f 18) (g 18) k (λ past. same.second k past)
-  ]);
+  journal = λ k. inr (
+    counts,
+    elim (shows.journal k) [
+      | inl (c, is) ↦ is ∙ behind_eq (f 18) (g 17) k (λ past. same.first k past ∙ holds.first k past ∙ sym (holds.second k past))
+      | inr (c, is) ↦ is ∙ behind_eq (f 18) (g 18) k (λ past. same.second k past)
+    ],
+  );
   hidden = shows.hidden;
   others = λ d n17 n18. shows.others d n17 n18 ∙ same.others d n17 n18;
 }

@@ -1,15 +1,14 @@
 -- What the two files of a journal show, while their bytes and their counts change.
 use Rattle.std.proofs.Common.{◌≡◌, ◌≢◌, ◌≤◌, ◌<◌, ◌⊎◌, inl, inr, ⊎_elim, ℕ, suc, ◌+◌, Bool, true, false, if◌then◌else◌, List, refl, sym, ◌∙◌, ap, subst, arith, length, get_or}
-use Rattle.std.specs.Prelude.{◌==◌, nat_lt, not}
+use Rattle.std.specs.Prelude.{◌==◌, not}
 use Rattle.std.proofs.lemmas.Bool.{ne_eqb, lt-ltb, le-ltb}
-use Rattle.vault.specs.declared.store.Stop.{Stop}
 use Rattle.vault.specs.Coding.{number}
 use Rattle.vault.specs.Moments.{Elapses, Within}
-use Rattle.file_vault.specs.Folders.{Bytes, Folder, part, Wrote, Mixed, mixed_at, wrote_at, HasFile}
+use Rattle.file_vault.specs.Folders.{Bytes, Folder, part, Wrote, Mixed, HasFile}
 use Rattle.file_vault.specs.Headers.{SameBehind}
 use Rattle.file_vault.specs.declared.twin.Twin.{Twin}
 use Rattle.file_vault.specs.declared.twin.Twin.TheVariants.{First, Second}
-use Rattle.file_vault.specs.Twins.{other, file_of, which_in, place_of, count_in, Counts, behind_of, none, chosen, with_file, seen_as, Shows, shown, AreEven, AreAlike, MayLead, SameBoth, counted_at}
+use Rattle.file_vault.specs.Twins.{other, file_of, which_in, place_of, count_in, Counts, behind_of, chosen, with_file, seen_as, Shows, shown, AreAlike, SameBoth, counted_at}
 use Rattle.file_vault.proofs.Chains.{part_same}
 use Rattle.file_vault.proofs.Puts.{below_or}
 
@@ -224,31 +223,29 @@ pub alone_shown : (twin : Twin) (count : ℕ) (outcomes : Folder → Type 0) →
 alone_shown First count outcomes may h (g, (f, was, same, either), shows) =
     let mine = may f was in
     let mate : g 18 ≡ f 18 = same.others 18 (λ e. omega (arith, e)) in
-    let mate_count : count_in (g 18) ≡ count_in (f 18) = ap count_in mate in
-    (
+    let mate_count : count_in (g 18) ≡ count_in (f 18) = ap count_in mate in (
       f,
       was,
       shows_on f g h shows (λ c. record { counts = mine.0; same = same.behind })
-      (λ c. record {
-        counts = elim either [ inl is ↦ omega (arith, c, is, mate_count) | inr is ↦ absurd (omega (arith, c, is, mate_count, mine.1)) ];
-        same = λ k past. ap (λ (b : Bytes). b k) mate;
-      })
-      (λ d n17 n18. same.others d n17),
+          (λ c. record {
+            counts = elim either [ inl is ↦ omega (arith, c, is, mate_count) | inr is ↦ absurd (omega (arith, c, is, mate_count, mine.1)) ];
+            same = λ k past. ap (λ (b : Bytes). b k) mate;
+          })
+          (λ d n17 n18. same.others d n17),
     )
 alone_shown Second count outcomes may h (g, (f, was, same, either), shows) =
     let mine = may f was in
     let mate : g 17 ≡ f 17 = same.others 17 (λ e. omega (arith, e)) in
-    let mate_count : count_in (g 17) ≡ count_in (f 17) = ap count_in mate in
-    (
+    let mate_count : count_in (g 17) ≡ count_in (f 17) = ap count_in mate in (
       f,
       was,
       shows_on f g h shows
-      (λ c. record {
-        counts = elim either [ inl is ↦ omega (arith, c, is, mate_count) | inr is ↦ absurd (omega (arith, c, is, mate_count, mine.1)) ];
-        same = λ k past. ap (λ (b : Bytes). b k) mate;
-      })
-      (λ c. record { counts = mine.0; same = same.behind })
-      (λ d n17 n18. same.others d n18),
+          (λ c. record {
+            counts = elim either [ inl is ↦ omega (arith, c, is, mate_count) | inr is ↦ absurd (omega (arith, c, is, mate_count, mine.1)) ];
+            same = λ k past. ap (λ (b : Bytes). b k) mate;
+          })
+          (λ c. record { counts = mine.0; same = same.behind })
+          (λ d n17 n18. same.others d n18),
     )
 
 pub alone_ahead : (twin : Twin) (count : ℕ) (f g s : Folder) → Counts f twin × (count_in (f (file_of (other twin))) ≤ suc count) → SameBehind (file_of twin) f g → g (file_of twin) ≡ s (file_of twin) → count_in (s (file_of twin)) ≡ count + 3

@@ -1,19 +1,19 @@
 -- Calls of files whose journal lies in two of them.
-use Rattle.std.proofs.Common.{◌≡◌, ◌≢◌, ◌≤◌, ◌<◌, ◌⊎◌, inl, inr, ⊎_elim, ℕ, suc, ◌+◌, List, refl, sym, ◌∙◌, ap, subst, arith, length, get_or}
+use Rattle.std.proofs.Common.{◌≡◌, ◌≢◌, ◌≤◌, inl, inr, ⊎_elim, ℕ, suc, ◌+◌, List, refl, sym, ◌∙◌, ap, subst, arith, get_or}
 use Rattle.vault.specs.declared.store.Stop.{Stop}
-use Rattle.vault.specs.Moments.{Elapses, Within}
-use Rattle.file_vault.specs.Folders.{Bytes, Folder, Reads, Wrote, Mixed, mixed_at, wrote_at, HasFile}
+use Rattle.vault.specs.Moments.{Within}
+use Rattle.file_vault.specs.Folders.{Bytes, Folder, Wrote, Mixed, mixed_at, wrote_at, HasFile}
 use Rattle.file_vault.specs.declared.twin.Twin.{Twin}
 use Rattle.file_vault.specs.declared.twin.Twin.TheVariants.{First, Second}
 use Rattle.file_vault.specs.declared.held.Held.{Held}
 use Rattle.file_vault.specs.declared.held.Held.TheVariants.{Both, Only, Neither}
-use Rattle.file_vault.specs.Twins.{file_of, other, count_in, Counts, behind_of, none, with_file, seen_as, Shows, shown, lead_of, IsAhead, AreAlike, IsHeld, IsKept, SameBoth}
+use Rattle.file_vault.specs.Twins.{file_of, other, count_in, behind_of, with_file, seen_as, Shows, shown, IsAhead, IsHeld, IsKept}
 use Rattle.std.proofs.Common.{if◌then◌else◌}
 use Rattle.std.proofs.lemmas.Bool.{lt-ltb}
 use Rattle.file_vault.proofs.Puts.{below_or}
-use Rattle.file_vault.proofs.Replayed.{whole_mixed, none_mixed}
-use Rattle.file_vault.proofs.Shown.{behind_at, behind_eq, with_other, which_file, WroteBehind, MixedBehind, shown_wrote, shown_mixed, shows_only}
-use Rattle.file_vault.proofs.PairCalls.{mixed_count, seen_wrote, seen_mixed}
+use Rattle.file_vault.proofs.Replayed.{whole_mixed}
+use Rattle.file_vault.proofs.Shown.{behind_at, behind_eq, with_other, which_file, shown_wrote, shown_mixed, shows_only}
+use Rattle.file_vault.proofs.PairCalls.{mixed_count}
 
 -- the journal's files stay held where their counts stay and calls find both the same
 pub held_on : {F : Type 0} (seen : F → Folder) (may_leave : F → Stop → Folder → Type 0) (old new : F) (held : Held) → IsHeld seen may_leave old held → (seen new 17 ≡ seen old 17) × (seen new 18 ≡ seen old 18)

@@ -1,6 +1,6 @@
 -- A journal that lies in two files, 17 and 18: which of them counts, and what both show. The first block of each has a count, which
 -- is raised by one at each opening, and by three where the journal goes on without the other.
-use Rattle.std.specs.Prelude.{◌≡◌, ◌≢◌, ◌⊎◌, ◌==◌, ◌<◌, ◌≤◌, ◌+◌, nat_lt, not, if◌then◌else◌, Bool, true, false, ℕ, suc, List}
+use Rattle.std.specs.Prelude.{◌≡◌, ◌≢◌, ◌⊎◌, ◌==◌, ◌≤◌, ◌+◌, nat_lt, not, if◌then◌else◌, Bool, true, false, ℕ, suc}
 use Rattle.vault.specs.declared.store.Stop.{Stop}
 use Rattle.vault.specs.Coding.{number}
 use Rattle.vault.specs.Moments.{Elapses}

@@ -235,10 +235,7 @@ pub(crate) fn join<F: Files>(files: &mut F) -> (Found, Held)
                 (Found::Pair, pair(files, Twin::First, first, second))
             }
         }
-        (Some(first), None) => (
-            Found::One(Twin::First),
-            go_alone(files, Twin::First, first),
-        ),
+        (Some(first), None) => (Found::One(Twin::First), go_alone(files, Twin::First, first)),
         (None, Some(second)) => (
             Found::One(Twin::Second),
             go_alone(files, Twin::Second, second),

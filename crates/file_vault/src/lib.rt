@@ -23,5 +23,5 @@ pub use layout::{HEADER, JOURNAL, Layout};
 pub use mem_files::MemFiles;
 pub use over_files::FileVault;
 pub use real_files::RealFiles;
-pub use twin::{SECOND, Twin};
+pub use twin::{SECOND, Twin, read_count};
 pub use twin_files::TwinFiles;

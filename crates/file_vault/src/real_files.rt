@@ -44,6 +44,13 @@ impl RealFiles {
         Ok(())
     }
 
+    /// Leaves out the file of a number: calls of it fail.
+    pub fn leave_out(&mut self, number: u8) {
+        if let Ok(spot) = self.spot(number) {
+            self.held.swap_remove(spot);
+        }
+    }
+
     // Where the file of a number lies.
     fn spot(&self, number: u8) -> Result<usize, FileFault>
         ensures { IfOk result (λ spot. spot < length self.now.held.items) }

@@ -78,9 +78,9 @@ fn read_which<F: Files>(files: &mut F, number: u8) -> Result<bool, FileFault>
     Ok(which[0] != 0)
 }
 
-// Reads the count of a file.
+/// Reads the count of a file of a journal that lies in two: how often it was opened, and three for each time that it went on alone.
 #[tactic(auto, unfolding(vault::specs::Coding::number))]
-pub(crate) fn read_count<F: Files>(files: &mut F, number: u8) -> Result<u64, FileFault>
+pub fn read_count<F: Files>(files: &mut F, number: u8) -> Result<u64, FileFault>
     ensures stays { F.known files.old → F.known files.new }
     ensures count { F.known files.old → IfOk result (λ count. count ≡ count_in (F.seen files.old number)) }
     ensures seen { F.known files.old → F.seen files.new ≡ F.seen files.old }
@@ -96,12 +96,7 @@ pub(crate) fn read_count<F: Files>(files: &mut F, number: u8) -> Result<u64, Fil
 }
 
 // Writes bytes, and makes the file durable.
-fn put_durable<F: Files>(
-    files: &mut F,
-    number: u8,
-    at: u64,
-    bytes: &[u8],
-) -> Result<(), FileFault>
+fn put_durable<F: Files>(files: &mut F, number: u8, at: u64, bytes: &[u8]) -> Result<(), FileFault>
     ensures stays { F.known files.old → F.known files.new }
     ensures wrote { F.known files.old → OnOk result (Wrote number at bytes.now (F.seen files.old) (F.seen files.new)) }
     ensures mixed { F.known files.old → Mixed number at bytes.now (F.seen files.old) (F.seen files.new) }
@@ -130,11 +125,7 @@ fn put_number<F: Files>(files: &mut F, number: u8, at: u64, value: u64) -> Resul
 }
 
 // Makes the count of a file another, and the file durable. A stop in it leaves either count.
-pub(crate) fn put_count<F: Files>(
-    files: &mut F,
-    number: u8,
-    count: u64,
-) -> Result<(), FileFault>
+pub(crate) fn put_count<F: Files>(files: &mut F, number: u8, count: u64) -> Result<(), FileFault>
     ensures stays { F.known files.old → F.known files.new }
     ensures behind { F.known files.old → SameBehind number (F.seen files.old) (F.seen files.new) }
     ensures count { F.known files.old → OnOk result (count_in (F.seen files.new number) ≡ count) }

@@ -1,4 +1,4 @@
-use Rattle.std.proofs.Common.{◌≡◌, ◌+◌, arith}
+use Rattle.std.proofs.Common.{arith}
 use Rattle.file_vault.proofs.Shown.{shown_elapses, alone_within, ahead_of, left_behind}
 use Rattle.file_vault.proofs.held.go_alone.Goals as goal
 

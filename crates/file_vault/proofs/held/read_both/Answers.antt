@@ -1,8 +1,8 @@
-use Rattle.std.proofs.Common.{◌≡◌, ◌≤◌, ◌∙◌, sym, ap, subst, true, refl, ℕ}
+use Rattle.std.proofs.Common.{◌∙◌, sym, ap, subst}
 use Rattle.vault.specs.declared.store.Stop.{Stop}
 use Rattle.file_vault.specs.declared.twin.Twin.TheVariants.{First}
-use Rattle.file_vault.specs.Folders.{Folder, Bytes}
-use Rattle.file_vault.specs.Twins.{AreAlike, SameBoth, lead_of, shown, seen_as}
+use Rattle.file_vault.specs.Folders.{Folder}
+use Rattle.file_vault.specs.Twins.{AreAlike, SameBoth, lead_of, shown}
 use Rattle.file_vault.proofs.Puts.{both_elapse}
 use Rattle.file_vault.proofs.Shown.{seen_both, shown_elapses}
 use Rattle.file_vault.proofs.PairCalls.{ok_then, reads_behind, read_second}

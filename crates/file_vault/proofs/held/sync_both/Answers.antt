@@ -1,4 +1,4 @@
-use Rattle.std.proofs.Common.{◌≡◌, ◌∙◌, sym, ap, subst, true, refl}
+use Rattle.std.proofs.Common.{◌∙◌, sym, ap, subst}
 use Rattle.vault.specs.declared.store.Stop.{Stop}
 use Rattle.file_vault.specs.declared.twin.Twin.TheVariants.{First}
 use Rattle.file_vault.specs.Folders.{Folder, Bytes}

@@ -1,11 +1,9 @@
-use Rattle.std.proofs.Common.{◌≡◌, ◌∙◌, sym, ap, subst, true, refl, arith}
+use Rattle.std.proofs.Common.{◌∙◌, sym, refl}
 use Rattle.vault.specs.declared.store.Stop.{Stop}
 use Rattle.vault.specs.declared.store.Stop.TheVariants.{Killed}
-use Rattle.vault.specs.Moments.{Within}
 use Rattle.file_vault.specs.declared.twin.Twin.{Twin}
-use Rattle.file_vault.specs.declared.twin.Twin.TheVariants.{First, Second}
-use Rattle.file_vault.specs.Folders.{Folder, Bytes, mixed_at}
-use Rattle.file_vault.specs.Twins.{AreAlike, SameBoth, lead_of, shown, file_of, seen_as}
+use Rattle.file_vault.specs.Folders.{mixed_at}
+use Rattle.file_vault.specs.Twins.{lead_of, shown, file_of}
 use Rattle.file_vault.proofs.Puts.{both_elapse}
 use Rattle.file_vault.proofs.Shown.{shown_elapses, WroteBehind, MixedBehind}
 use Rattle.file_vault.proofs.PairCalls.{ok_then, first_done, second_done, lead_done, lead_either, alike_both, mixed_count, first_mixed, second_mixed, first_wrote, second_wrote, others_same, seen_wrote, seen_mixed, wrote_from, mixed_from, pair_shown, pair_elapses, killed_both, killed_shown, even_counts}
@@ -18,8 +16,7 @@ returns-clause-held g c = λ known even alike.
     (λ (stop : Stop) h now.
     let two = (c.write_at-2.ensures.time k1 stop).ends h now in
     let one = (c.write_at.ensures.time known stop).ends two.0 two.1 in
-    let is = even stop one.0 one.1 in
-    (
+    let is = even stop one.0 one.1 in (
       mixed_count 18 c.args.at c.args.bytes.now two.0 h 17 c.requires two.2 ∙ mixed_count 17 c.args.at c.args.bytes.now one.0 two.0 17 c.requires one.2 ∙ is.0,
       mixed_count 18 c.args.at c.args.bytes.now two.0 h 18 c.requires two.2 ∙ mixed_count 17 c.args.at c.args.bytes.now one.0 two.0 18 c.requires one.2 ∙ is.1,
     ))
@@ -87,8 +84,7 @@ returns-clause-time g c = λ known even stop.
     (λ (at : Stop) h now.
     let two = (c.write_at-2.ensures.time k1 at).ends h now in
     let one = (c.write_at.ensures.time known at).ends two.0 two.1 in
-    let is = even at one.0 one.1 in
-    (
+    let is = even at one.0 one.1 in (
       mixed_count 18 c.args.at c.args.bytes.now two.0 h 17 c.requires two.2 ∙ mixed_count 17 c.args.at c.args.bytes.now one.0 two.0 17 c.requires one.2 ∙ is.0,
       mixed_count 18 c.args.at c.args.bytes.now two.0 h 18 c.requires two.2 ∙ mixed_count 17 c.args.at c.args.bytes.now one.0 two.0 18 c.requires one.2 ∙ is.1,
     )) stop)

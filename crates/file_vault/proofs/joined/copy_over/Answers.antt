@@ -1,6 +1,6 @@
-use Rattle.std.proofs.Common.{◌≡◌, ◌≤◌, ◌<◌, ℕ, sym, ◌∙◌, ap, subst, arith}
+use Rattle.std.proofs.Common.{sym, ◌∙◌, ap, subst}
 use Rattle.vault.specs.declared.store.Stop.{Stop}
-use Rattle.file_vault.specs.Folders.{Folder, Bytes, HasFile}
+use Rattle.file_vault.specs.Folders.{Folder, HasFile}
 use Rattle.file_vault.specs.Twins.{file_of, other, copied_at, CopiedOver}
 use Rattle.file_vault.proofs.Puts.{one_elapse, both_elapse}
 use Rattle.file_vault.proofs.Copied.{copied_still, copied_next, alike_from}

@@ -1,9 +1,7 @@
-use Rattle.std.proofs.Common.{◌≡◌, ◌≤◌, ◌<◌, ◌+◌, ◌∙◌, ℕ, sym, ap, subst, refl, arith, length, get_or}
+use Rattle.std.proofs.Common.{◌≡◌, ◌≤◌, ◌<◌, ◌+◌, ◌∙◌, ℕ, sym, ap, subst, length}
 use Rattle.std.specs.Cmp.Lexicographic.{same_text}
-use Rattle.vault.specs.declared.store.Stop.{Stop}
-use Rattle.vault.specs.Moments.{Within}
-use Rattle.file_vault.specs.Folders.{Folder, Bytes, Reads}
-use Rattle.file_vault.specs.Twins.{file_of, other, copied_at, CopiedOver}
+use Rattle.file_vault.specs.Folders.{Folder, Reads}
+use Rattle.file_vault.specs.Twins.{file_of, copied_at, CopiedOver}
 use Rattle.file_vault.proofs.Puts.{one_elapse, both_elapse}
 use Rattle.file_vault.proofs.Copied.{not_err, copied_still, copied_mixed, copied_done, same_done}
 use Rattle.file_vault.proofs.joined.copy_piece.Goals as goal

@@ -1,6 +1,5 @@
-use Rattle.std.proofs.Common.{rules, ◌≡◌, ◌+◌, ℕ, arith, length, length-append, length-drop, take, drop, ap, refl, sym, ◌∙◌, subst, ◌<◌, ◌≤◌}
+use Rattle.std.proofs.Common.{rules, ◌≡◌, ◌+◌, arith, length, take, sym, subst, ◌<◌}
 use Rattle.std.proofs.lemmas.Grind.{common_steps}
-use Rattle.file_vault.specs.Twins.{file_of, other, copied_at}
 use Rattle.file_vault.proofs.Puts.{both_elapse}
 use Rattle.file_vault.proofs.Copied.{copied_more, copied_from, copied_lead, copied_up, copied_next}
 use Rattle.file_vault.proofs.joined.copy_to.Goals as goal

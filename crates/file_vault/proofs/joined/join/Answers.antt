@@ -1,8 +1,8 @@
-use Rattle.std.proofs.Common.{◌≡◌, ◌≤◌, ℕ, suc, sym, ◌∙◌, ap, subst, arith, refl}
+use Rattle.std.proofs.Common.{◌≡◌, ◌≤◌, sym, ◌∙◌, ap, subst, arith}
 use Rattle.vault.specs.declared.store.Stop.{Stop}
 use Rattle.file_vault.specs.Folders.{Folder, HasFile}
 use Rattle.file_vault.specs.declared.twin.Twin.TheVariants.{First, Second}
-use Rattle.file_vault.specs.Twins.{file_of, other, count_in, shown, Shows, seen_as, lead_of}
+use Rattle.file_vault.specs.Twins.{count_in, shown, Shows, seen_as, lead_of}
 use Rattle.file_vault.proofs.Puts.{both_elapse}
 use Rattle.file_vault.proofs.Shown.{shown_elapses}
 use Rattle.file_vault.proofs.Copied.{some_at, alone_found, alone_may, both_are, only_both, newer_second, newer_first}

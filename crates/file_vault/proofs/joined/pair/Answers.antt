@@ -1,11 +1,11 @@
-use Rattle.std.proofs.Common.{◌≡◌, ◌≤◌, ℕ, suc, sym, ◌∙◌, ap, subst, arith, refl}
+use Rattle.std.proofs.Common.{◌≡◌, ◌≤◌, suc, sym, ◌∙◌, subst, arith}
 use Rattle.vault.specs.declared.store.Stop.{Stop}
 use Rattle.file_vault.specs.Folders.{Folder}
 use Rattle.file_vault.specs.declared.twin.Twin.{Twin}
-use Rattle.file_vault.specs.Twins.{file_of, other, count_in, Counts, shown, IsOnly}
+use Rattle.file_vault.specs.Twins.{file_of, other, count_in, Counts, shown}
 use Rattle.file_vault.proofs.Puts.{both_elapse}
 use Rattle.file_vault.proofs.Shown.{shown_elapses}
-use Rattle.file_vault.proofs.Copied.{copied_within, copied_count, copied_lead, settled_copied, settled_lead, settled_counts, copied_may, lead_leads, mate_leads, alone_shows, pair_shows, copied_seen, only_both}
+use Rattle.file_vault.proofs.Copied.{copied_within, copied_count, settled_copied, settled_lead, settled_counts, copied_may, lead_leads, mate_leads, alone_shows, pair_shows, copied_seen, only_both}
 use Rattle.file_vault.proofs.joined.pair.Goals as goal
 
 pub returns-in-Ok-clause-held : goal.returns-in-Ok-clause-held

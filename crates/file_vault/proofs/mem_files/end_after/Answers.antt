@@ -1,4 +1,4 @@
-use Rattle.std.proofs.Common.{◌≡◌, ◌∙◌, ap}
+use Rattle.std.proofs.Common.{◌∙◌, ap}
 use Rattle.file_vault.specs.Calls.{seen_after}
 use Rattle.file_vault.proofs.mem_files.end_after.Goals as goal
 

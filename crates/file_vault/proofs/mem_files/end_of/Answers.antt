@@ -1,4 +1,4 @@
-use Rattle.std.proofs.Common.{◌≡◌, ◌∙◌, ap, sym, length, take, refl, arith}
+use Rattle.std.proofs.Common.{◌∙◌, ap, length, take, refl, arith}
 use Rattle.std.specs.Prelude.{slice_get}
 use Rattle.std.proofs.lemmas.Option.{slice_get_read}
 use Rattle.file_vault.specs.Folders.{Folder}

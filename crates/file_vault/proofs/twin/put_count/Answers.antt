@@ -1,14 +1,11 @@
-use Rattle.std.proofs.Common.{◌≡◌, sym, ◌∙◌, ap, subst, arith, not, ℕ, [], ◌∷◌}
-use Rattle.std.specs.Prelude.{Bool}
-use Rattle.vault.proofs.Carried.{on_ok_of}
+use Rattle.std.proofs.Common.{◌≡◌, sym, ◌∙◌, ap, subst, arith, not, [], ◌∷◌}
 use Rattle.std.proofs.lemmas.Result.{on_ok_weaker}
 use Rattle.std.specs.Int.{w64, to_le_bytes}
 use Rattle.vault.specs.Moments.{Within}
-use Rattle.file_vault.specs.Folders.{Folder, Bytes, Mixed, Wrote, HasFile, part, mixed_at}
-use Rattle.file_vault.specs.Headers.{SameBehind}
-use Rattle.file_vault.specs.Twins.{which_in, place_of, mark_of, count_in, counted_at}
+use Rattle.file_vault.specs.Folders.{Folder, Wrote, mixed_at}
+use Rattle.file_vault.specs.Twins.{which_in, counted_at}
 use Rattle.file_vault.proofs.Puts.{one_elapse, both_elapse}
-use Rattle.file_vault.proofs.Counted.{count_made, number_made, counted_first, counted_number, counted_mark, seen_behind, number_only}
+use Rattle.file_vault.proofs.Counted.{count_made, number_made, counted_first, counted_number, counted_mark}
 use Rattle.file_vault.proofs.twin.put_count.Goals as goal
 
 pub returns-in_err-sync-clause-time : goal.returns-in_err-sync-clause-time

@@ -1,4 +1,4 @@
-use Rattle.std.proofs.Common.{ap, subst, List, ℕ}
+use Rattle.std.proofs.Common.{subst, List, ℕ}
 use Rattle.vault.specs.Moments.{Elapses}
 use Rattle.file_vault.specs.Folders.{mixed_at}
 use Rattle.file_vault.proofs.twin.put_number.Goals as goal

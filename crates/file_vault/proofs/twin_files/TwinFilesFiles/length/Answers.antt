@@ -1,9 +1,9 @@
-use Rattle.std.proofs.Common.{◌≡◌, ◌∙◌, ap}
+use Rattle.std.proofs.Common.{◌∙◌, ap}
 use Rattle.std.proofs.lemmas.Result.{IfOk-weaker}
 use Rattle.file_vault.specs.Folders.{Bytes}
 use Rattle.file_vault.specs.Twins.{lead_of, file_of, behind_of}
 use Rattle.file_vault.proofs.Shown.{shown_elapses, with_other}
-use Rattle.file_vault.proofs.TwinCalls.{held_read, zeros_behind}
+use Rattle.file_vault.proofs.TwinCalls.{held_read}
 use Rattle.file_vault.proofs.twin_files.TwinFilesFiles.length.Goals as goal
 
 pub returns-then-file-ne-JOURNAL-clause-stays : goal.returns-then-file-ne-JOURNAL-clause-stays

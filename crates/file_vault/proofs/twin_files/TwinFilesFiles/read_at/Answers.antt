@@ -1,7 +1,7 @@
 use Rattle.std.proofs.Common.{subst}
 use Rattle.file_vault.specs.declared.held.Held.{Held}
 use Rattle.file_vault.specs.Twins.{IsHeld}
-use Rattle.file_vault.proofs.Shown.{shown_elapses, with_other}
+use Rattle.file_vault.proofs.Shown.{shown_elapses}
 use Rattle.file_vault.proofs.TwinCalls.{held_read}
 use Rattle.file_vault.proofs.twin_files.TwinFilesFiles.read_at.Goals as goal
 

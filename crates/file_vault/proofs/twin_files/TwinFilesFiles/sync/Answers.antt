@@ -1,7 +1,7 @@
-use Rattle.std.proofs.Common.{◌≡◌, sym, ap, subst, refl, ℕ}
+use Rattle.std.proofs.Common.{sym, subst}
 use Rattle.std.proofs.lemmas.Result.{on_ok_weaker}
 use Rattle.vault.specs.declared.store.Stop.{Stop}
-use Rattle.file_vault.specs.Folders.{Folder, HasFile}
+use Rattle.file_vault.specs.Folders.{HasFile}
 use Rattle.file_vault.specs.declared.held.Held.{Held}
 use Rattle.file_vault.specs.Twins.{IsHeld, lead_of, seen_as, shown}
 use Rattle.file_vault.proofs.Shown.{shown_elapses}

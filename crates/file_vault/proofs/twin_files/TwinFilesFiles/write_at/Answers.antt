@@ -1,13 +1,12 @@
-use Rattle.std.proofs.Common.{◌≡◌, sym, ap, subst, ℕ}
+use Rattle.std.proofs.Common.{sym, subst}
 use Rattle.std.proofs.lemmas.Result.{on_ok_weaker}
 use Rattle.vault.specs.declared.store.Stop.TheVariants.{Killed}
 use Rattle.vault.specs.Moments.{Elapses, Within}
-use Rattle.file_vault.specs.Folders.{Folder, Wrote, Mixed, wrote_at, mixed_at}
-use Rattle.file_vault.specs.declared.twin.Twin.TheVariants.{First}
+use Rattle.file_vault.specs.Folders.{wrote_at, mixed_at}
 use Rattle.file_vault.specs.declared.held.Held.{Held}
-use Rattle.file_vault.specs.Twins.{IsHeld, lead_of, seen_as, shown}
+use Rattle.file_vault.specs.Twins.{IsHeld, lead_of, shown}
 use Rattle.file_vault.proofs.Shown.{shown_elapses}
-use Rattle.file_vault.proofs.TwinCalls.{held_other, other_wrote, other_mixed, other_killed, other_within, ahead_wrote, lone_wrote, lone_mixed, lone_within, lone_killed}
+use Rattle.file_vault.proofs.TwinCalls.{held_other, other_wrote, other_mixed, other_killed, other_within, ahead_wrote, lone_within, lone_killed}
 use Rattle.file_vault.proofs.twin_files.TwinFilesFiles.write_at.Goals as goal
 
 pub returns-then-file-ne-JOURNAL-clause-stays : goal.returns-then-file-ne-JOURNAL-clause-stays
