@@ -13,3 +13,9 @@ pub mod Blocks
 pub mod Recovered
 pub mod Opened
 pub mod Boots
+pub mod Counted
+pub mod Shown
+pub mod PairCalls
+pub mod TwinCalls
+pub mod Copied
+pub mod Raised

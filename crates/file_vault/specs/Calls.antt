@@ -1,8 +1,8 @@
 -- What calls of files in memory leave: what later ones find, and what a stop may leave.
 use Rattle.std.specs.Prelude.{◌≡◌, ◌⊎◌, ◌≤◌, ◌+◌, ◌-◌, ◌==◌, ◌&&◌, nat_le, nat_lt, if◌then◌else◌, ℕ, Option, Some, None, List, [], ◌∷◌, length, take, slice_get, get_or}
 use mathlib.Core.Logic.{inl, inr}
-use Rattle.std.proofs.Common.{Vec, Global, arith, subst, sym}
-use Rattle.std.proofs.lemmas.List.{take_all}
+use Rattle.std.proofs.Common.{Vec, Global, arith, refl, subst, sym}
+use Rattle.std.proofs.lemmas.List.{take_all, get_or_past}
 use Rattle.std.proofs.lemmas.Option.{none-some}
 use Rattle.vault.specs.declared.store.Stop.{Stop}
 use Rattle.vault.specs.declared.store.Stop.TheVariants.{Killed, PowerLost}
@@ -14,6 +14,15 @@ use Rattle.file_vault.specs.Folders.{Folder, wrote_at, mixed_at}
 abbrev pub bytes_of : Option (Vec ℕ Global) → ℕ → ℕ
 bytes_of None k = 0
 bytes_of (Some v) k = get_or v.items k 0
+
+-- how many there are, and that no byte is past them
+abbrev pub length_of : Option (Vec ℕ Global) → ℕ
+length_of None = 0
+length_of (Some v) = length v.items
+
+pub none_past : (o : Option (Vec ℕ Global)) (k : ℕ) → length_of o ≤ k → bytes_of o k ≡ 0
+none_past None k past = refl
+none_past (Some v) k past = get_or_past v.items k 0 past
 
 -- what the files hold at first
 abbrev pub folder_of : List (Vec ℕ Global) → Folder

@@ -6,3 +6,4 @@ pub mod Vaults
 pub mod Openings
 pub mod Headers
 pub mod Recoveries
+pub mod Twins

@@ -1,5 +1,5 @@
 // Files that outlive the process, by number, with one clock for all of them.
-ghost use Rattle.std.specs.Prelude.{◌≡◌, ◌≤◌, ℕ, OnOk};
+ghost use Rattle.std.specs.Prelude.{◌≡◌, ◌≤◌, ℕ, OnOk, IfOk};
 ghost use Rattle.vault.specs.Moments.{Elapses, Within};
 ghost use Rattle.vault.specs.declared.store.Stop.{Stop};
 ghost use Rattle.vault.specs.declared.store.Stop.TheVariants.{Killed};
@@ -52,6 +52,15 @@ pub trait Files {
     fn read_at(&mut self, file: u8, at: u64, out: &mut [u8]) -> Result<(), FileFault>
         ensures stays { known self.old → known self.new }
         ensures bytes { known self.old → OnOk result (Reads (seen self.old file) at out.new) }
+        ensures seen { known self.old → seen self.new ≡ seen self.old }
+        ensures time { known self.old → (stop : Stop) → Elapses (moment self.old) (moment self.new) (left_since self.old stop) (left_since self.new stop)
+            (may_leave self.old stop) (may_leave self.new stop) }
+        ensures cause { known self.old → HasFault (faults self.old) (faults self.new) result };
+
+    /// Bytes of a file, past which it has zeros.
+    fn length(&mut self, file: u8) -> Result<u64, FileFault>
+        ensures stays { known self.old → known self.new }
+        ensures zeros { known self.old → IfOk result (λ length. (k : ℕ) → length ≤ k → seen self.old file k ≡ 0) }
         ensures seen { known self.old → seen self.new ≡ seen self.old }
         ensures time { known self.old → (stop : Stop) → Elapses (moment self.old) (moment self.new) (left_since self.old stop) (left_since self.new stop)
             (may_leave self.old stop) (may_leave self.new stop) }

@@ -1,7 +1,7 @@
 // Files in memory that keep their calls. A stop leaves all that the contract of files lets it leave.
-ghost use Rattle.std.specs.Prelude.{◌≡◌, ◌<◌, ◌≤◌, ◌+◌, ◌^◌, ◌++◌, [], ◌∷◌, ℕ, ⊤, length, OnOk, OnErr};
+ghost use Rattle.std.specs.Prelude.{◌≡◌, ◌<◌, ◌≤◌, ◌+◌, ◌^◌, ◌++◌, [], ◌∷◌, ℕ, ⊤, length, slice_get, OnOk, OnErr, IfSome};
 ghost use Rattle.file_vault.specs.Folders.{Reads};
-ghost use Rattle.file_vault.specs.Calls.{folder_of, seen_from, seen_after, leaves_at, LeftSince, left_now, only_left};
+ghost use Rattle.file_vault.specs.Calls.{folder_of, length_of, seen_from, seen_after, leaves_at, LeftSince, left_now, only_left};
 
 use crate::files::{FileFault, Files};
 use std::alloc::{AllocError, Global};
@@ -56,6 +56,16 @@ impl MemFiles {
         self.fuse.weak_alive = calls;
     }
 
+    /// Makes a file what it was at first in others.
+    pub fn take_file(&mut self, file: u8, others: &MemFiles) -> Result<(), AllocError> {
+        let file = file as usize;
+        if file < self.first.len() && file < others.first.len() {
+            let bytes = others.first[file].to_vec(self.alloc)?;
+            self.first[file] = bytes;
+        }
+        Ok(())
+    }
+
     /// How many calls were made.
     pub fn count(&self) -> usize {
         self.calls.len()
@@ -99,7 +109,7 @@ impl Fuse {
 }
 
 // One failure more.
-fn one_more(faults: u32) -> u32
+pub(crate) fn one_more(faults: u32) -> u32
     ensures later { faults ≤ result }
     ensures some { 0 < result }
 {
@@ -165,6 +175,44 @@ fn read(first: &[Vec<u8>], calls: &[FileCall], file: u8, at: u64, out: &mut [u8]
     }
 }
 
+// Bytes that a file had at first.
+fn first_length(first: &[Vec<u8>], file: u8) -> u64
+    ensures { result ≡ length_of (slice_get first.now file) }
+{
+    match first.get(file as usize) {
+        Some(bytes) => bytes.len() as u64,
+        None => 0,
+    }
+}
+
+// Where a file ends after one call more; none past what a number holds.
+fn end_after(call: &FileCall, file: u8, end: u64) -> Option<u64>
+    ensures { (f : ℕ → ℕ → ℕ) → ((k : ℕ) → end ≤ k → f file k ≡ 0) → IfSome result (λ end. (k : ℕ) → end ≤ k → seen_after call.now f file k ≡ 0) }
+{
+    match call {
+        FileCall::Write(to, from, bytes) => {
+            if *to != file {
+                return Some(end);
+            }
+            let past = from.checked_add(bytes.len() as u64)?;
+            Some(end.max(past))
+        }
+        FileCall::Cut(_, _, _) => Some(end),
+        FileCall::Sync(_) => Some(end),
+    }
+}
+
+// Where a file ends after these calls.
+fn end_of(first: &[Vec<u8>], calls: &[FileCall], file: u8) -> Option<u64>
+    ensures { IfSome result (λ end. (k : ℕ) → end ≤ k → seen_from (folder_of first.now) calls.now file k ≡ 0) }
+{
+    let mut end = first_length(first, file);
+    for call in calls {
+        end = end_after(call, file, end)?;
+    }
+    Some(end)
+}
+
 impl Files for MemFiles {
     ghost known = { λ m. ⊤ };
 
@@ -214,6 +262,16 @@ impl Files for MemFiles {
         }
         read(&self.first, &self.calls, file, at, out);
         Ok(())
+    }
+
+    fn length(&mut self, file: u8) -> Result<u64, FileFault> {
+        if !self.fuse.is_cut(file) {
+            if let Some(end) = end_of(&self.first, &self.calls, file) {
+                return Ok(end);
+            }
+        }
+        self.faults = one_more(self.faults);
+        Err(FileFault)
     }
 }
 

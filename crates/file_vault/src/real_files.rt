@@ -2,7 +2,7 @@
 // - A write is one `pwrite`. What it left out, as on a full disk, makes it fail.
 // - `sync` is `fdatasync`. After a failed write or sync of a file each later one fails, since a later `fdatasync` may return without
 //   an error although bytes of before were dropped.
-// - A read past the end of a file gives zeros.
+// - A read past the end of a file gives zeros. `length` is where it ends.
 // - A killed process leaves what `pwrite` took, and a loss of power leaves what `fdatasync` returned for. A byte is written whole.
 ghost use Rattle.std.specs.Prelude.{◌<◌, IfOk, length};
 
@@ -42,6 +42,13 @@ impl RealFiles {
         };
         self.held.push(held)?;
         Ok(())
+    }
+
+    /// Leaves out the file of a number: calls of it fail.
+    pub fn leave_out(&mut self, number: u8) {
+        if let Ok(spot) = self.spot(number) {
+            self.held.swap_remove(spot);
+        }
     }
 
     // Where the file of a number lies.
@@ -120,6 +127,14 @@ impl Files for RealFiles {
             Ok(())
         } else {
             Err(FileFault)
+        }
+    }
+
+    fn length(&mut self, file: u8) -> Result<u64, FileFault> {
+        let spot = self.spot(file)?;
+        match self.held[spot].file.metadata() {
+            Ok(data) => Ok(data.len()),
+            Err(_) => Err(FileFault),
         }
     }
 }

@@ -2,11 +2,13 @@
 use crate::disk_files::DiskFiles;
 use crate::folder::{Folder, Name};
 use crate::identity::{boot_of, new_identity};
-use crate::opened::{file_bytes, layout_of};
+use crate::opened::{file_bytes, header_of, layout_of};
 use crate::table::text_of;
 use crate::trouble::{Trouble, unwritten};
 use disk_shape::{Plan, plan_disk};
-use file_vault::{FileVault, Header, JOURNAL, Layout, RealFiles, write_header};
+use file_vault::{
+    FileVault, Header, JOURNAL, Layout, RealFiles, SECOND, Twin, TwinFiles, write_header,
+};
 use std::fs::{self, File, OpenOptions};
 use std::io;
 use std::io::Write;
@@ -45,8 +47,8 @@ fn make_zeros(
     }
 }
 
-// Writes the zeros, so that the system has room for all bytes of the file from the start.
-fn zeroed(file: &mut File, bytes: u64) -> io::Result<()> {
+/// Writes zeros, so that the system has room for all bytes of the file from the start.
+pub(crate) fn zeroed(file: &mut File, bytes: u64) -> io::Result<()> {
     let zeros = [0u8; 4096];
     for _piece in 0..bytes / 4096 {
         file.write_all(&zeros)?;
@@ -80,7 +82,14 @@ fn is_there(rt: &HostRuntime, folder: Folder<'_>, name: Name) -> Result<bool, Tr
 
 // Refuses a folder that has a file of a disk.
 fn look(rt: &HostRuntime, folder: Folder<'_>, drives: u8) -> Result<(), Trouble> {
-    for name in [Name::Table, Name::Fresh, Name::State, Name::Journal] {
+    for name in [
+        Name::Table,
+        Name::Fresh,
+        Name::State,
+        Name::OneJournal,
+        Name::Journal(Twin::First),
+        Name::Journal(Twin::Second),
+    ] {
         if is_there(rt, folder, name)? {
             return Err(Trouble::Exists(name));
         }
@@ -100,7 +109,7 @@ fn journal_room(layout: &Layout, drives: u8) -> u64 {
     (units.saturating_mul(u64::from(layout.unit_bytes)) / 2).min(MOST_ROOM)
 }
 
-// Makes the files of the drives, of the state and the journal.
+// Makes the files of the drives and the state, and both of the journal.
 fn make_files(
     rt: &HostRuntime,
     folder: Folder<'_>,
@@ -115,7 +124,10 @@ fn make_files(
     let bytes = file_bytes(layout, TABLE);
     files.put(TABLE, make_zeros(rt, folder, Name::State, bytes)?)?;
     let bytes = file_bytes(layout, JOURNAL).saturating_add(journal_room(layout, plan.drives));
-    files.put(JOURNAL, make_zeros(rt, folder, Name::Journal, bytes)?)?;
+    for twin in [Twin::First, Twin::Second] {
+        let file = make_zeros(rt, folder, Name::Journal(twin), bytes)?;
+        files.put(twin.number(), file)?;
+    }
     Ok(files)
 }
 
@@ -126,15 +138,9 @@ fn mark_files(
     identity: Uuid,
     drives: u8,
 ) -> Result<(), Trouble> {
-    for number in 0..JOURNAL + 1 {
+    for number in 0..SECOND + 1 {
         if number < drives || number >= TABLE {
-            let header = Header {
-                identity: identity.into_bytes(),
-                number,
-                unit_bytes: layout.size(number),
-                count: layout.count(number),
-            };
-            if write_header(files, &header).is_err() {
+            if write_header(files, &header_of(layout, number, identity.into_bytes())).is_err() {
                 return Err(Trouble::Unwritten(number));
             }
         }
@@ -192,7 +198,10 @@ pub(crate) fn create_disk(
         looks: false,
     };
     mark_files(&mut files, &layout, identity, drives)?;
-    if let Err((error, _files)) = FileVault::create(rt.alloc(), files, layout, &boot) {
+    let Ok(twins) = TwinFiles::open(files) else {
+        return Err(Trouble::NoJournal);
+    };
+    if let Err((error, _files)) = FileVault::create(rt.alloc(), twins, layout, &boot) {
         return Err(Trouble::Vault(error));
     }
     make_table(rt, folder, identity, &plan)?;

@@ -43,4 +43,8 @@ impl Files for DiskFiles {
     fn read_at(&mut self, file: u8, at: u64, out: &mut [u8]) -> Result<(), FileFault> {
         self.files.read_at(file, at, out)
     }
+
+    fn length(&mut self, file: u8) -> Result<u64, FileFault> {
+        self.files.length(file)
+    }
 }

@@ -1,4 +1,5 @@
 //! The files of a disk.
+use file_vault::Twin;
 use std::alloc::{AllocError, Global};
 use std::fs::File;
 use std::io;
@@ -14,8 +15,10 @@ pub(crate) enum Name {
     Fresh,
     /// Which drives are lost, and the boot in which the disk was last opened.
     State,
-    /// The journal.
-    Journal,
+    /// The journal of a disk that has one alone.
+    OneJournal,
+    /// A file of the journal.
+    Journal(Twin),
     /// The file of a drive.
     Drive(u8),
     /// The system's file with the boot's number.
@@ -49,7 +52,9 @@ impl<'a> Folder<'a> {
             Name::Table => format!(in alloc; "{folder}/table"),
             Name::Fresh => format!(in alloc; "{folder}/table.new"),
             Name::State => format!(in alloc; "{folder}/state"),
-            Name::Journal => format!(in alloc; "{folder}/journal"),
+            Name::OneJournal => format!(in alloc; "{folder}/journal"),
+            Name::Journal(Twin::First) => format!(in alloc; "{folder}/journal0"),
+            Name::Journal(Twin::Second) => format!(in alloc; "{folder}/journal1"),
             Name::Drive(drive) => format!(in alloc; "{folder}/drive{drive}"),
             Name::Boot | Name::Random => {
                 let path = name.system_path();

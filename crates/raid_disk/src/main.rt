@@ -5,6 +5,7 @@ mod create;
 mod disk_files;
 mod folder;
 mod identity;
+mod journals;
 mod opened;
 mod serve;
 mod size;

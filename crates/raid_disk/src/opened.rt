@@ -5,6 +5,7 @@ ghost use Rattle.extent_groups.specs.Groups.{Agree};
 use crate::disk_files::DiskFiles;
 use crate::folder::{Folder, Name};
 use crate::identity::boot_of;
+use crate::journals::{Journals, open_journals};
 use crate::table::{Table, table_in};
 use crate::trouble::{Trouble, unread};
 use array_recovery::{RecoveryFault, open_store};
@@ -12,7 +13,7 @@ use cached_drive::Saved;
 use disk_shape::{Plan, class_of, member_at};
 use extent_groups::{GroupRefusal, GroupTable, Member, Place, are_there};
 use extents::{DRIVES, ExtentTable};
-use file_vault::{FileVault, Header, JOURNAL, Layout, RealFiles, read_header};
+use file_vault::{FileVault, Header, Layout, RealFiles, TwinFiles, read_header};
 use history::{Chronicle, Opened};
 use journaled_store::JournaledStore;
 use std::alloc::{AllocError, Global};
@@ -22,7 +23,7 @@ use std::io::Read;
 use vault::TABLE;
 
 /// The vault of a disk.
-pub(crate) type DiskVault = FileVault<DiskFiles>;
+pub(crate) type DiskVault = FileVault<TwinFiles<DiskFiles>>;
 
 /// What a command does with a disk.
 #[derive(Clone, Copy, Debug, PartialEq, Eq)]
@@ -38,6 +39,8 @@ pub(crate) enum Use {
 pub(crate) struct Disk<N: Chronicle> {
     pub(crate) plan: Plan,
     pub(crate) store: JournaledStore<N, DiskVault>,
+    /// What was found of the journal's files.
+    pub(crate) journals: Journals,
     /// The table's file, which is locked as long as it is open.
     pub(crate) table: File,
 }
@@ -99,8 +102,8 @@ fn read_table(rt: &HostRuntime, file: &mut File) -> Result<Table, Trouble> {
     }
 }
 
-// Opens a file; none where there is no such file.
-fn open_file(
+/// Opens a file; none where there is no such file.
+pub(crate) fn open_file(
     rt: &HostRuntime,
     folder: Folder<'_>,
     name: Name,
@@ -140,7 +143,7 @@ fn test_length(file: &File, drive: u8, wants: u64) -> Result<(), Trouble> {
     }
 }
 
-// Opens the files of a disk. Says which drives have none.
+// Opens the files of a disk, but for the journal's. Says which drives have none.
 fn open_files(
     rt: &HostRuntime,
     folder: Folder<'_>,
@@ -151,7 +154,6 @@ fn open_files(
     let mut absent = [false; DRIVES];
     let mut files = RealFiles::new(rt.alloc());
     files.put(TABLE, open_needed(rt, folder, Name::State, usage)?)?;
-    files.put(JOURNAL, open_needed(rt, folder, Name::Journal, usage)?)?;
     for drive in 0..plan.drives {
         match open_file(rt, folder, Name::Drive(drive), usage)? {
             Some(file) => {
@@ -165,14 +167,14 @@ fn open_files(
     Ok((DiskFiles { files, looks }, absent))
 }
 
-// Whether a header is that of a file of this disk.
-fn is_right(header: &Header, layout: &Layout, number: u8, table: &Table) -> bool {
-    let has = header.identity;
-    let wants = table.identity;
-    has == wants
-        && header.number == number
-        && header.unit_bytes == layout.size(number)
-        && header.count == layout.count(number)
+/// What a file of a disk says of itself.
+pub(crate) fn header_of(layout: &Layout, number: u8, identity: [u8; 16]) -> Header {
+    Header {
+        identity,
+        number,
+        unit_bytes: layout.size(number),
+        count: layout.count(number),
+    }
 }
 
 // Tests that a file is what its name says.
@@ -185,18 +187,14 @@ fn test_header(
     let Ok(found) = read_header(files, number) else {
         return Err(Trouble::Unread(number));
     };
-    let is_right = match &found {
-        Some(header) => is_right(header, layout, number, table),
-        None => false,
-    };
-    if is_right {
+    if found == Some(header_of(layout, number, table.identity)) {
         Ok(())
     } else {
         Err(Trouble::Foreign(number))
     }
 }
 
-// Tests each file that is there.
+// Tests each file that is there, but for the journal's.
 fn test_headers(
     files: &mut DiskFiles,
     layout: &Layout,
@@ -208,8 +206,7 @@ fn test_headers(
             test_header(files, layout, drive, table)?;
         }
     }
-    test_header(files, layout, TABLE, table)?;
-    test_header(files, layout, JOURNAL, table)
+    test_header(files, layout, TABLE, table)
 }
 
 // The extents of a group.
@@ -288,7 +285,8 @@ pub(crate) fn open_disk<N: Chronicle>(
     let (groups, extents) = groups_of(alloc, &plan)?;
     let (mut files, absent) = open_files(rt, folder, &plan, &layout, usage)?;
     test_headers(&mut files, &layout, &absent, &table)?;
-    let vault = match FileVault::open(alloc, files, layout, &boot_of(rt)?) {
+    let (twins, journals) = open_journals(rt, folder, files, &layout, &table, usage)?;
+    let vault = match FileVault::open(alloc, twins, layout, &boot_of(rt)?) {
         Ok(vault) => vault,
         Err((error, _files)) => return Err(Trouble::Vault(error)),
     };
@@ -312,6 +310,7 @@ pub(crate) fn open_disk<N: Chronicle>(
         Ok(store) => Ok(Disk {
             plan,
             store,
+            journals,
             table: file,
         }),
         Err((fault, _vault)) => Err(trouble_of(fault)),

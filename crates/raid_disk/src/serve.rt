@@ -2,10 +2,12 @@
 ghost use Rattle.std.specs.Prelude.{◌≡◌};
 
 use crate::folder::{Folder, Name};
+use crate::journals::{Journals, State};
 use crate::opened::{Disk, Use, open_disk};
 use crate::trouble::Trouble;
 use byte_store::{ByteStore, StoreFault};
 use cached_drive::Saved;
+use file_vault::Twin;
 use history::{Chronicle, Opened};
 use nbd_serve::{End, serve};
 use std::io;
@@ -26,6 +28,26 @@ fn name_missing<N: Chronicle>(
         if array.is_lost(drive) {
             let path = folder.path(rt.alloc(), Name::Drive(drive))?;
             eprintln!(rt; "raid_disk: {path} is missing or was lost: the disk goes on without it")?;
+        }
+    }
+    Ok(())
+}
+
+// Names the files of the journal that are missing, older or fail, on standard error.
+fn name_journals(rt: &HostRuntime, folder: Folder<'_>, journals: &Journals) -> io::Result<()> {
+    for twin in [Twin::First, Twin::Second] {
+        let path = folder.path(rt.alloc(), Name::Journal(twin))?;
+        match journals.state(twin) {
+            State::Present => {}
+            State::Missing => eprintln!(rt;
+                "raid_disk: {path} was missing: the other file of the journal was copied to it if it could be made"
+            )?,
+            State::Older => eprintln!(rt;
+                "raid_disk: {path} was older than the other file of the journal, which was copied to it"
+            )?,
+            State::Failed => eprintln!(rt;
+                "raid_disk: {path} can't be read or written: the other file of the journal goes on without it"
+            )?,
         }
     }
     Ok(())
@@ -77,6 +99,7 @@ fn serve_opened<N: Chronicle>(
     let _ = disk.store.settle();
     // Nothing is left to do where standard error can't be written.
     let _ = name_missing(rt, folder, &disk);
+    let _ = name_journals(rt, folder, &disk.journals);
     let lost = lost_count(&disk);
     let Ok(mut reader) = BufReader::with_capacity(rt.alloc(), READ_AHEAD, rt.stdin()) else {
         return Err(Trouble::Memory);

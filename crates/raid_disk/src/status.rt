@@ -6,6 +6,7 @@ use crate::opened::{Disk, Use, open_disk};
 use crate::trouble::Trouble;
 use cached_drive::{CachedDrive, Saved};
 use extent_groups::{Class, GROUPS, SLOTS};
+use file_vault::Twin;
 use history::{Chronicle, Opened};
 use std::io;
 use std::marker::Brand;
@@ -74,6 +75,10 @@ fn print<N: Chronicle>(rt: &HostRuntime, disk: &Disk<N>) -> io::Result<()> {
         };
         println!(rt; "drive{drive} {state}")?;
     }
+    for (name, twin) in [("journal0", Twin::First), ("journal1", Twin::Second)] {
+        let state = disk.journals.state(twin).word();
+        println!(rt; "{name} {state}")?;
+    }
     for (name, class) in [("mirrored", Class::Mirrored), ("parity", Class::Parity)] {
         let level = level_of(array, class);
         let Level {
@@ -105,13 +110,14 @@ fn show_opened<N: Chronicle>(
     match print(rt, &disk) {
         Ok(()) => {
             let missing = missing_in(disk.store.world().array());
-            Ok(if missing > 0 { 1 } else { 0 })
+            let whole = missing == 0 && disk.journals.are_present();
+            Ok(if whole { 0 } else { 1 })
         }
         Err(error) => Err(Trouble::Output(error)),
     }
 }
 
-/// Prints a disk's sizes, drives and levels. The status is 1 where a drive is missing.
+/// Prints a disk's sizes, drives and levels. The status is 1 where a drive or a file of the journal is missing, older or fails.
 pub(crate) fn show(rt: &HostRuntime, folder: Folder<'_>) -> Result<u8, Trouble> {
     let opened = Opened::new(rt.alloc())?;
     show_opened::<Brand>(rt, folder, opened)

@@ -1,7 +1,7 @@
 //! Why the program ends early.
 use crate::folder::{Folder, Name};
 use disk_shape::ShapeFault;
-use file_vault::JOURNAL;
+use file_vault::{JOURNAL, SECOND, Twin};
 use nbd_serve::End;
 use std::alloc::{AllocError, AllocFailed};
 use std::io;
@@ -40,6 +40,10 @@ pub(crate) enum Trouble {
     Foreign(u8),
     /// This file isn't there, and nothing can be opened without it.
     Needed(Name),
+    /// The table is of a disk with one journal.
+    OneJournal,
+    /// Neither file of the journal can be read and written, or the newer one can't.
+    NoJournal,
     /// This file of the system's has no number.
     NoNumber(Name),
     /// A file failed while the journal was read.
@@ -92,6 +96,12 @@ impl Trouble {
             Trouble::Shape(fault) => report_shape(rt, fault),
             Trouble::NoDisk => eprintln!(rt; "raid_disk: {at} has no disk: there is no {at}/table"),
             Trouble::NoTable => eprintln!(rt; "raid_disk: {at}/table isn't the table of a disk"),
+            Trouble::OneJournal => eprintln!(rt;
+                "raid_disk: {at} is a disk with one journal, of an earlier version: copy its bytes to a new disk with the program that made it"
+            ),
+            Trouble::NoJournal => eprintln!(rt;
+                "raid_disk: neither {at}/journal0 nor {at}/journal1 can be read and written, or the newer one can't: without it nothing can be read"
+            ),
             Trouble::Busy => eprintln!(rt; "raid_disk: {at}: another process has the disk"),
             Trouble::Words(error) => eprintln!(rt;
                 "raid_disk: the command line can't be read: {error}"
@@ -169,8 +179,8 @@ impl Trouble {
                 eprintln!(rt; "raid_disk: {path} can't be read: without the file the drive is lost")
             }
             Trouble::Vault(_) => {
-                let path = folder.path(rt.alloc(), Name::Journal)?;
-                eprintln!(rt; "raid_disk: {path} can't be read or written")
+                let path = folder.path(rt.alloc(), Name::Folder)?;
+                eprintln!(rt; "raid_disk: {path}: the journal can't be read or written")
             }
             _ => Ok(()),
         }
@@ -181,7 +191,8 @@ impl Trouble {
 fn name_of(number: u8) -> Name {
     match number {
         TABLE => Name::State,
-        JOURNAL => Name::Journal,
+        JOURNAL => Name::Journal(Twin::First),
+        SECOND => Name::Journal(Twin::Second),
         drive => Name::Drive(drive),
     }
 }

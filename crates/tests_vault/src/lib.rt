@@ -5,3 +5,5 @@
 mod story;
 #[cfg(test)]
 mod tests;
+#[cfg(test)]
+mod twins;

@@ -1,6 +1,6 @@
 //! A run of a vault over three drives, and the units that are there after each of its batches.
 use extent_groups::Place;
-use file_vault::{FileVault, Layout, MemFiles};
+use file_vault::{FileVault, Files, Layout, MemFiles};
 use std::alloc::{AllocError, Global};
 use std::test::Fail;
 use vault::{Batch, TABLE, Vault, VaultError, add, flush, settle};
@@ -28,9 +28,9 @@ pub(crate) fn layout() -> Layout {
 }
 
 /// Files without bytes.
-pub(crate) fn empty_files(alloc: Global) -> Result<MemFiles, Fail> {
+pub(crate) fn empty_files(alloc: Global, count: usize) -> Result<MemFiles, Fail> {
     let mut first = Vec::new(alloc);
-    for _ in 0..18 {
+    for _ in 0..count {
         first.push(Vec::new(alloc))?;
     }
     Ok(MemFiles::new(alloc, first))
@@ -101,9 +101,9 @@ pub(crate) fn units_after(alloc: Global, batches: usize) -> Result<Units, Fail> 
 }
 
 /// Reads all units.
-pub(crate) fn read_units(
+pub(crate) fn read_units<F: Files + Drop>(
     alloc: Global,
-    vault: &mut FileVault<MemFiles>,
+    vault: &mut FileVault<F>,
 ) -> Result<Units, VaultError> {
     let mut bytes = Vec::new(alloc);
     for number in 0..9 {
@@ -126,9 +126,9 @@ pub(crate) struct Reached {
 }
 
 /// Adds all batches. Flushes after batches 1, 2 and 5, and settles after 3.
-pub(crate) fn run(
+pub(crate) fn run<F: Files + Drop>(
     alloc: Global,
-    vault: &mut FileVault<MemFiles>,
+    vault: &mut FileVault<F>,
     reached: &mut Reached,
 ) -> Result<(), VaultError> {
     let mut batch = Batch::new(alloc);
@@ -178,7 +178,11 @@ pub(crate) fn recover(alloc: Global, files: MemFiles, boot: u8) -> Recovered {
     }
 }
 
-fn settled(alloc: Global, vault: &mut FileVault<MemFiles>) -> Result<Units, VaultError> {
+/// Settles, and reads all units.
+pub(crate) fn settled<F: Files + Drop>(
+    alloc: Global,
+    vault: &mut FileVault<F>,
+) -> Result<Units, VaultError> {
     let mut room = Batch::new(alloc);
     settle(vault, &mut room, &[false; 16])?;
     read_units(alloc, vault)

@@ -18,7 +18,7 @@ fn made(rt: &impl Abort, alloc: Global, files: MemFiles) -> FileVault<MemFiles> 
 
 // The files after a run that is stopped after so many calls, and how far it came.
 fn stopped(rt: &impl Abort, alloc: Global, calls: u32) -> Result<(MemFiles, Reached, bool), Fail> {
-    let mut files = made(rt, alloc, empty_files(alloc)?).into_files();
+    let mut files = made(rt, alloc, empty_files(alloc, 18)?).into_files();
     files.fail_after(calls);
     let mut reached = Reached {
         begun: 0,
@@ -33,8 +33,8 @@ fn stopped(rt: &impl Abort, alloc: Global, calls: u32) -> Result<(MemFiles, Reac
     Ok((vault.into_files(), reached, done))
 }
 
-// How many first batches these units are of after.
-fn batches_in(alloc: Global, bytes: &[u8], reached: Reached) -> Result<Option<usize>, Fail> {
+/// How many first batches these units are of after.
+pub(crate) fn batches_in(alloc: Global, bytes: &[u8], reached: Reached) -> Result<Option<usize>, Fail> {
     for count in 0..BATCHES + 1 {
         if count < reached.flushed || count > reached.begun {
             continue;
@@ -50,7 +50,7 @@ fn batches_in(alloc: Global, bytes: &[u8], reached: Reached) -> Result<Option<us
 #[test]
 fn a_run_that_isnt_stopped_leaves_all(rt: HostRuntime) -> Result<(), Fail> {
     let alloc = rt.alloc();
-    let mut vault = made(&rt, alloc, empty_files(alloc)?);
+    let mut vault = made(&rt, alloc, empty_files(alloc, 18)?);
     let mut reached = Reached {
         begun: 0,
         added: 0,
@@ -76,8 +76,8 @@ struct Ends {
     choice: u64,
 }
 
-// The boot after a stop.
-fn boot_after(boot: u8, stop: Stop) -> u8 {
+/// The boot after a stop.
+pub(crate) fn boot_after(boot: u8, stop: Stop) -> u8 {
     match stop {
         Stop::Killed => boot,
         Stop::PowerLost => boot.wrapping_add(1),
@@ -155,7 +155,7 @@ fn a_recovery_may_be_stopped_in_another_way(rt: HostRuntime) -> Result<(), Fail>
 #[test]
 fn a_drive_that_fails_is_named_and_left_out(rt: HostRuntime) -> Result<(), Fail> {
     let alloc = rt.alloc();
-    let mut files = made(&rt, alloc, empty_files(alloc)?).into_files();
+    let mut files = made(&rt, alloc, empty_files(alloc, 18)?).into_files();
     files.fail_file_after(1, 1);
     let Ok(mut vault) = FileVault::open(alloc, files, layout(), &[1; 16]) else {
         panic!(rt; "not opened");
@@ -187,7 +187,7 @@ fn a_drive_that_fails_is_named_and_left_out(rt: HostRuntime) -> Result<(), Fail>
 #[test]
 fn a_misfit_is_refused(rt: HostRuntime) -> Result<(), Fail> {
     let alloc = rt.alloc();
-    let mut vault = made(&rt, alloc, empty_files(alloc)?);
+    let mut vault = made(&rt, alloc, empty_files(alloc, 18)?);
     let mut batch = Batch::new(alloc);
     batch.push(
         extent_groups::Place {
