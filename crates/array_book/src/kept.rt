@@ -126,7 +126,8 @@ pub(crate) fn place_in<D: Drive, N: Naming + Sizes>(
     let slot = claim.slot();
     match place_at_once(&mut kept.array, alloc, claim, what, block) {
         Ok(done) => {
-            kept.planner.note(&kept.array, done.emitted.record());
+            let committed = done.emitted.record();
+            kept.planner.note(&kept.array, committed);
             kept.keeper
                 .note::<(u16, What, u32), Places>(history, me, &(slot, what, block));
             kept.keeper
