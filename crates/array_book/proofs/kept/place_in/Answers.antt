@@ -68,7 +68,7 @@ notes : (g : given.Over) (c : After-note-in-Ok-2 g) → c.in-Ok.done.emitted.blo
     → IsNoted c.place_at_once.new.array.parts.groups c.kept.inside.planner.ages c.note.new.self.ages c.in-Ok.done.emitted
 notes g c =
     subst (λ (r : Record). r.block < length c.kept.inside.planner.ages.order → IsNoted c.place_at_once.new.array.parts.groups c.kept.inside.planner.ages c.note.new.self.ages r)
-    c.record.ensures c.note.ensures.noted
+    c.record-committed.ensures c.note.ensures.noted
 
 pub invariant_of-kept : goal.invariant_of-kept
 invariant_of-kept g c =
