@@ -322,4 +322,3 @@ puts_go F M keys s block what idle none history case = record {
   idle = put_idle F M what s block idle case;
   sound = (keys, history);
 }
-

@@ -167,7 +167,11 @@ fn check_stops(rt: &impl Abort, alloc: Global, stop: Stop, losses: u32) -> Resul
         let (files, reached, _, done) = ran(alloc, files);
         for lost in JOURNALS {
             for loss in 0..losses {
-                let after = if loss == 0 { 0 } else { calls % 9 + 9 * (loss - 1) };
+                let after = if loss == 0 {
+                    0
+                } else {
+                    calls % 9 + 9 * (loss - 1)
+                };
                 check_lost(rt, alloc, &files, stop, (lost, after), loss as u64, reached)?;
             }
         }
