@@ -34,7 +34,11 @@ fn stopped(rt: &impl Abort, alloc: Global, calls: u32) -> Result<(MemFiles, Reac
 }
 
 /// How many first batches these units are of after.
-pub(crate) fn batches_in(alloc: Global, bytes: &[u8], reached: Reached) -> Result<Option<usize>, Fail> {
+pub(crate) fn batches_in(
+    alloc: Global,
+    bytes: &[u8],
+    reached: Reached,
+) -> Result<Option<usize>, Fail> {
     for count in 0..BATCHES + 1 {
         if count < reached.flushed || count > reached.begun {
             continue;
