@@ -9,7 +9,7 @@ use Rattle.file_vault.specs.declared.held.Held.{Held}
 use Rattle.file_vault.specs.declared.held.Held.TheVariants.{Both, Only, Neither}
 use Rattle.file_vault.specs.declared.twin.Twin.{Twin}
 use Rattle.file_vault.specs.declared.twin.Twin.TheVariants.{First, Second}
-use Rattle.file_vault.specs.Twins.{file_of, other, count_in, Counts, behind_of, seen_as, Shows, shown, AreAlike, CopiedOver, copied_at, IsOnly, IsKept, IsBoth, newer_of, lead_of}
+use Rattle.file_vault.specs.Twins.{file_of, other, count_in, Counts, behind_of, seen_as, Shows, shown, AreAlike, CopiedOver, copied_at, IsOnly, IsKept, IsBoth, HasCount, IsRaised, newer_of, lead_of}
 use Rattle.file_vault.proofs.Puts.{below_or}
 use Rattle.file_vault.proofs.Shown.{behind_eq, count_same, shows_as, seen_same, which_file, with_other}
 use Rattle.file_vault.proofs.PairCalls.{inside_or}
@@ -245,3 +245,23 @@ newer_second s first second one two low = ap (λ (t : Bool). if t then Second el
 
 pub newer_first : (s : Folder) (first second : ℕ) → first ≡ count_in (s 17) → second ≡ count_in (s 18) → second ≤ first → newer_of s ≡ First
 newer_first s first second one two low = ap (λ (t : Bool). if t then Second else First) (le-ltb (count_in (s 17)) (count_in (s 18)) (omega (arith, one, two, low)))
+
+-- the counts are raised
+pub alone_raised : (twin : Twin) (n : ℕ) (s : Folder) (held : Held) → IsOnly twin held → HasCount n held → count_in (s (file_of twin)) < n → IsRaised s held
+alone_raised twin n s (Both count) only has low = absurd only
+alone_raised twin n s (Only one count) only has low = subst (λ (t : Twin). count_in (s (file_of t)) < count) (sym only) (omega (arith, has, low))
+alone_raised twin n s Neither only has low = tt
+
+pub both_raised : (lead : Twin) (count next : ℕ) (s : Folder) → next ≡ count + 1 → count ≡ count_in (s (file_of lead)) → count_in (s (file_of (other lead))) ≤ count → IsRaised s (Both next)
+both_raised First count next s up is low = (omega (arith, up, is), omega (arith, up, low))
+both_raised Second count next s up is low = (omega (arith, up, low), omega (arith, up, is))
+
+pub raised_as : (s t : Folder) (held : Held) → count_in (t 17) ≡ count_in (s 17) → count_in (t 18) ≡ count_in (s 18) → IsRaised t held → IsRaised s held
+raised_as s t (Both count) one two raised = let low = raised.0 in let more = raised.1 in (omega (arith, low, one), omega (arith, more, two))
+raised_as s t (Only First count) one two raised = omega (arith, raised, one)
+raised_as s t (Only Second count) one two raised = omega (arith, raised, two)
+raised_as s t Neither one two raised = tt
+
+pub raised_copied : (lead : Twin) (s t : Folder) (held : Held) → CopiedOver lead s s t → IsRaised t held → IsRaised s held
+raised_copied First s t held copied raised = let same = copied_count First s s t copied in raised_as s t held same.0 same.1 raised
+raised_copied Second s t held copied raised = let same = copied_count Second s s t copied in raised_as s t held same.1 same.0 raised

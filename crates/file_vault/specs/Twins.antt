@@ -1,6 +1,6 @@
 -- A journal that lies in two files, 17 and 18: which of them counts, and what both show. The first block of each has a count, which
 -- is raised by one at each opening, and by three where the journal goes on without the other.
-use Rattle.std.specs.Prelude.{◌≡◌, ◌≢◌, ◌⊎◌, ◌==◌, ◌≤◌, ◌+◌, nat_lt, not, if◌then◌else◌, Bool, true, false, ℕ, suc}
+use Rattle.std.specs.Prelude.{◌≡◌, ◌≢◌, ◌⊎◌, ◌==◌, ◌<◌, ◌≤◌, ◌+◌, nat_lt, not, if◌then◌else◌, Bool, true, false, ℕ, suc}
 use Rattle.vault.specs.declared.store.Stop.{Stop}
 use Rattle.vault.specs.Coding.{number}
 use Rattle.vault.specs.Moments.{Elapses}
@@ -152,6 +152,18 @@ IsBoth Neither = ⊥
 -- the one whose count is higher, of two as high the first
 abbrev pub newer_of : Folder → Twin
 newer_of f = if nat_lt (count_in (f 17)) (count_in (f 18)) then Second else First
+
+-- one that is left alone has this count
+abbrev pub HasCount : ℕ → Held → Type 0
+HasCount n (Both count) = ⊥
+HasCount n (Only twin count) = count ≡ n
+HasCount n Neither = Unit {0}
+
+-- the count of each that is left is higher than it was, and where both are left than either was
+abbrev pub IsRaised : Folder → Held → Type 0
+IsRaised f (Both count) = (count_in (f 17) < count) × (count_in (f 18) < count)
+IsRaised f (Only twin count) = count_in (f (file_of twin)) < count
+IsRaised f Neither = Unit {0}
 
 -- what is found: of two files what both may show, of one what it shows
 abbrev pub IsFoundIn : Found → Folder → Folder → Type 0

@@ -1,12 +1,12 @@
 // The two files of a journal: which of them are written, and that one which fails is left out.
-ghost use Rattle.std.specs.Prelude.{◌≡◌, ◌≤◌, true};
+ghost use Rattle.std.specs.Prelude.{◌+◌, ◌≡◌, ◌≤◌, true};
 ghost use Rattle.vault.specs.Moments.{Elapses, Within};
 ghost use Rattle.vault.specs.declared.store.Stop.{Stop};
 ghost use Rattle.vault.specs.declared.store.Stop.TheVariants.{Killed};
 ghost use Rattle.file_vault.specs.Folders.{Folder, HasFile, Wrote, Mixed, Reads, wrote_at, mixed_at};
 ghost use Rattle.file_vault.specs.Headers.{SameBehind};
 ghost use Rattle.file_vault.specs.declared.twin.Twin.TheVariants.{First};
-ghost use Rattle.file_vault.specs.Twins.{lead_of, file_of, seen_as, shown, IsHeld, IsKept, IsOnly, HasSucceeded, AreEven, AreAlike, MayLead, SameBoth, ShownElapses};
+ghost use Rattle.file_vault.specs.Twins.{lead_of, file_of, seen_as, shown, IsHeld, IsKept, IsOnly, HasCount, HasSucceeded, AreEven, AreAlike, MayLead, SameBoth, ShownElapses};
 
 use crate::files::Files;
 use crate::layout::JOURNAL;
@@ -31,6 +31,7 @@ pub(crate) fn go_alone<F: Files>(files: &mut F, twin: Twin, count: u64) -> Held
     ensures stays { F.known files.old → F.known files.new }
     ensures later { F.known files.old → F.faults files.old ≤ F.faults files.new }
     ensures only { IsOnly twin result }
+    ensures raised { HasCount (count + 3) result }
     ensures held { F.known files.old → MayLead F.may_leave files.old twin count → IsHeld F.seen F.may_leave files.new result }
     ensures behind { F.known files.old → SameBehind (file_of twin) (F.seen files.old) (F.seen files.new) }
     ensures left { F.known files.old → (stop : Stop) (g : Folder) → F.may_leave files.new stop g

@@ -4,7 +4,7 @@ ghost use Rattle.std.specs.Prelude.{◌≡◌, ◌≤◌, ◌+◌, ◌<◌, ◌^
 ghost use Rattle.vault.specs.Moments.{Elapses};
 ghost use Rattle.vault.specs.declared.store.Stop.{Stop};
 ghost use Rattle.file_vault.specs.Folders.{HasFile};
-ghost use Rattle.file_vault.specs.Twins.{file_of, other, count_in, lead_of, seen_as, shown, Shows, IsHeld, IsKept, IsBoth, newer_of, IsOlder, IsFoundIn, AreAlike, AreSettled, CopiedOver, copied_at, ShownElapses};
+ghost use Rattle.file_vault.specs.Twins.{file_of, other, count_in, lead_of, seen_as, shown, Shows, IsHeld, IsKept, IsBoth, IsRaised, newer_of, IsOlder, IsFoundIn, AreAlike, AreSettled, CopiedOver, copied_at, ShownElapses};
 
 use crate::files::{FileFault, Files};
 use crate::held::{Held, go_alone};
@@ -163,6 +163,9 @@ fn raise<F: Files>(files: &mut F, lead: Twin, count: u64) -> Held
     ensures held { F.known files.old → AreSettled F.seen F.may_leave files.old → AreAlike (F.seen files.old)
         → count ≡ count_in (F.seen files.old (file_of lead)) → count_in (F.seen files.old (file_of (other lead))) ≤ count
         → IsHeld F.seen F.may_leave files.new result }
+    ensures raised { F.known files.old
+        → count ≡ count_in (F.seen files.old (file_of lead)) → count_in (F.seen files.old (file_of (other lead))) ≤ count
+        → IsRaised (F.seen files.old) result }
     ensures seen { F.known files.old → AreAlike (F.seen files.old)
         → seen_as (lead_of result) (F.seen files.new) ≡ seen_as lead (F.seen files.old) }
     ensures time { F.known files.old → AreSettled F.seen F.may_leave files.old → AreAlike (F.seen files.old)
@@ -195,6 +198,9 @@ fn pair<F: Files>(files: &mut F, lead: Twin, count: u64, least: u64) -> Held
     ensures seen { F.known files.old
         → count ≡ count_in (F.seen files.old (file_of lead)) → least ≡ count_in (F.seen files.old (file_of (other lead))) → least ≤ count
         → IsKept result → Shows (F.seen files.old) (seen_as (lead_of result) (F.seen files.new)) }
+    ensures raised { F.known files.old
+        → count ≡ count_in (F.seen files.old (file_of lead)) → least ≡ count_in (F.seen files.old (file_of (other lead))) → least ≤ count
+        → IsRaised (F.seen files.old) result }
     ensures newest { F.known files.old → IsBoth result → seen_as (lead_of result) (F.seen files.new) ≡ seen_as lead (F.seen files.old) }
     ensures time { F.known files.old → AreSettled F.seen F.may_leave files.old
         → count ≡ count_in (F.seen files.old (file_of lead)) → least ≡ count_in (F.seen files.old (file_of (other lead))) → least ≤ count
@@ -220,6 +226,7 @@ pub(crate) fn join<F: Files>(files: &mut F) -> (Found, Held)
     ensures held { F.known files.old → IsOlder F.may_leave files.old result.0 → IsHeld F.seen F.may_leave files.new result.1 }
     ensures seen { F.known files.old → IsKept result.1
         → IsFoundIn result.0 (F.seen files.old) (seen_as (lead_of result.1) (F.seen files.new)) }
+    ensures raised { F.known files.old → IsRaised (F.seen files.old) result.1 }
     ensures newest { F.known files.old → IsBoth result.1
         → seen_as (lead_of result.1) (F.seen files.new) ≡ seen_as (newer_of (F.seen files.old)) (F.seen files.old) }
     ensures time { F.known files.old → IsOlder F.may_leave files.old result.0

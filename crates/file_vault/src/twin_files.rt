@@ -2,7 +2,7 @@
 ghost use Rattle.std.specs.Prelude.{◌+◌, ◌≡◌, OnOk, IfOk, IsOk, MatchResult};
 ghost use Rattle.vault.specs.declared.store.Stop.{Stop};
 ghost use Rattle.file_vault.specs.Folders.{HasFault};
-ghost use Rattle.file_vault.specs.Twins.{seen_as, lead_of, shown, IsHeld, IsKept, IsBoth, newer_of, IsOlder, IsFoundIn, ShownElapses};
+ghost use Rattle.file_vault.specs.Twins.{seen_as, lead_of, shown, IsHeld, IsKept, IsBoth, IsRaised, newer_of, IsOlder, IsFoundIn, ShownElapses};
 
 use crate::files::{FileFault, Files};
 use crate::held::{Held, read_both, sync_both, write_both};
@@ -22,7 +22,7 @@ pub struct TwinFiles<F: Files + Drop> {
 }
 
 impl<F: Files + Drop> TwinFiles<F> {
-    ghost use Rattle.file_vault.specs.Twins.{seen_as, lead_of, shown, IsHeld, IsBoth, newer_of, IsOlder, IsFoundIn, ShownElapses};
+    ghost use Rattle.file_vault.specs.Twins.{seen_as, lead_of, shown, IsHeld, IsBoth, IsRaised, newer_of, IsOlder, IsFoundIn, ShownElapses};
 
     /// Files that a stop may have left. A file of the journal that can't be read or synced is left out, and can't be taken for the
     /// other's equal later. An error says which could be read, and hands the files back.
@@ -33,6 +33,9 @@ impl<F: Files + Drop> TwinFiles<F> {
         ensures seen { F.known files → IfOk result (λ t. IsFoundIn t.found (F.seen files) (seen_as (lead_of t.held) (F.seen t.files))) }
         ensures newest { F.known files → IfOk result (λ t. IsBoth t.held
             → seen_as (lead_of t.held) (F.seen t.files) ≡ seen_as (newer_of (F.seen files)) (F.seen files)) }
+
+        // A file of before that comes back isn't as new.
+        ensures raised { F.known files → IfOk result (λ t. IsRaised (F.seen files) t.held) }
 
         // A stop at any moment of it leaves what it left before.
         ensures time { F.known files

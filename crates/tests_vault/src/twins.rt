@@ -159,6 +159,19 @@ fn check_lost(
     Ok(())
 }
 
+// After how many calls of it a file is lost: none for loss 0.
+fn calls_before(calls: u32, loss: u32) -> u32 {
+    match loss.checked_sub(1) {
+        Some(more) => (calls % 9).saturating_add(more.saturating_mul(9)),
+        None => 0,
+    }
+}
+
+// The other file of the journal.
+fn other_of(file: u8) -> u8 {
+    if file == 17 { 18 } else { 17 }
+}
+
 // Stops a run at each call, and loses a file of the journal at some call of the opening.
 fn check_stops(rt: &impl Abort, alloc: Global, stop: Stop, losses: u32) -> Result<(), Fail> {
     for calls in 0..300 {
@@ -167,11 +180,15 @@ fn check_stops(rt: &impl Abort, alloc: Global, stop: Stop, losses: u32) -> Resul
         let (files, reached, _, done) = ran(alloc, files);
         for lost in JOURNALS {
             for loss in 0..losses {
+<<<<<<< HEAD
                 let after = if loss == 0 {
                     0
                 } else {
                     calls % 9 + 9 * (loss - 1)
                 };
+=======
+                let after = calls_before(calls, loss);
+>>>>>>> 36540fa6e3fc6831f8a99bc1d5cd64208d56c22d
                 check_lost(rt, alloc, &files, stop, (lost, after), loss as u64, reached)?;
             }
         }
@@ -206,7 +223,7 @@ fn an_older_file_of_the_journal_is_written_over(rt: HostRuntime) -> Result<(), F
             let (count, after) = found_in(&rt, alloc, left, boot, reached)?;
             assert!(rt; count == BATCHES);
             let mut left = after.left(stop, 4)?;
-            left.fail_file_after(35 - older, 0);
+            left.fail_file_after(other_of(older), 0);
             let (count, _) = found_in(&rt, alloc, left, boot, reached)?;
             assert!(rt; count == BATCHES);
         }

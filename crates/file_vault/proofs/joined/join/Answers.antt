@@ -1,11 +1,11 @@
-use Rattle.std.proofs.Common.{◌≡◌, ◌≤◌, sym, ◌∙◌, ap, subst, arith}
+use Rattle.std.proofs.Common.{◌+◌, ◌≡◌, ◌≤◌, sym, ◌∙◌, ap, subst, arith}
 use Rattle.vault.specs.declared.store.Stop.{Stop}
 use Rattle.file_vault.specs.Folders.{Folder, HasFile}
 use Rattle.file_vault.specs.declared.twin.Twin.TheVariants.{First, Second}
-use Rattle.file_vault.specs.Twins.{count_in, shown, Shows, seen_as, lead_of}
+use Rattle.file_vault.specs.Twins.{IsRaised, count_in, shown, Shows, seen_as, lead_of}
 use Rattle.file_vault.proofs.Puts.{both_elapse}
 use Rattle.file_vault.proofs.Shown.{shown_elapses}
-use Rattle.file_vault.proofs.Copied.{some_at, alone_found, alone_may, both_are, only_both, newer_second, newer_first}
+use Rattle.file_vault.proofs.Copied.{some_at, alone_found, alone_may, both_are, only_both, newer_second, newer_first, alone_raised}
 use Rattle.file_vault.proofs.joined.join.Goals as goal
 
 pub returns-then-first-second-clause-held : goal.returns-then-first-second-clause-held
@@ -204,3 +204,45 @@ returns-in-Some-None-clause-newest g c = λ known both. only_both First c.go_alo
 
 pub returns-in-None-Some-clause-newest : goal.returns-in-None-Some-clause-newest
 returns-in-None-Some-clause-newest g c = λ known both. only_both Second c.go_alone-in-None-Some.result c.go_alone-in-None-Some.ensures.only both
+
+pub returns-then-first-second-clause-raised : goal.returns-then-first-second-clause-raised
+returns-then-first-second-clause-raised g c = λ known.
+    let k1 = c.admit-first.ensures.stays known in
+    let k2 = c.admit-second.ensures.stays k1 in
+    let same1 = c.admit-first.ensures.seen known in
+    let same2 = c.admit-second.ensures.seen k1 in
+    let one = some_at c.admit-first.result c.in-Some-Some.first (λ n. n ≡ count_in (g.F.Files.seen c.args.files.now 17)) (c.admit-first.ensures.count known) c.in-Some-Some.is-0 in
+    let one2 : c.in-Some-Some.first ≡ count_in (g.F.Files.seen c.admit-second.new.files 17) = one ∙ sym (ap (λ (f : Folder). count_in (f 17)) (same2 ∙ same1)) in
+    let two = some_at c.admit-second.result c.in-Some-Some.second (λ n. n ≡ count_in (g.F.Files.seen c.admit-first.new.files 18)) (c.admit-second.ensures.count k1) c.in-Some-Some.is-1 in
+    let two2 : c.in-Some-Some.second ≡ count_in (g.F.Files.seen c.admit-second.new.files 18) = two ∙ sym (ap (λ (f : Folder). count_in (f 18)) same2) in
+    subst (λ (f : Folder). IsRaised f c.pair.result) (same2 ∙ same1) (c.pair.ensures.raised k2 two2 one2 (omega (arith, c.if-first-second.true)))
+
+pub returns-else-first-second-clause-raised : goal.returns-else-first-second-clause-raised
+returns-else-first-second-clause-raised g c = λ known.
+    let k1 = c.admit-first.ensures.stays known in
+    let k2 = c.admit-second.ensures.stays k1 in
+    let same1 = c.admit-first.ensures.seen known in
+    let same2 = c.admit-second.ensures.seen k1 in
+    let one = some_at c.admit-first.result c.in-Some-Some.first (λ n. n ≡ count_in (g.F.Files.seen c.args.files.now 17)) (c.admit-first.ensures.count known) c.in-Some-Some.is-0 in
+    let one2 : c.in-Some-Some.first ≡ count_in (g.F.Files.seen c.admit-second.new.files 17) = one ∙ sym (ap (λ (f : Folder). count_in (f 17)) (same2 ∙ same1)) in
+    let two = some_at c.admit-second.result c.in-Some-Some.second (λ n. n ≡ count_in (g.F.Files.seen c.admit-first.new.files 18)) (c.admit-second.ensures.count k1) c.in-Some-Some.is-1 in
+    let two2 : c.in-Some-Some.second ≡ count_in (g.F.Files.seen c.admit-second.new.files 18) = two ∙ sym (ap (λ (f : Folder). count_in (f 18)) same2) in
+    subst (λ (f : Folder). IsRaised f c.pair-else-first-second.result) (same2 ∙ same1) (c.pair-else-first-second.ensures.raised k2 one2 two2 (omega (arith, c.if-first-second.false)))
+
+pub returns-in-Some-None-clause-raised : goal.returns-in-Some-None-clause-raised
+returns-in-Some-None-clause-raised g c = λ known.
+    let k1 = c.admit-first.ensures.stays known in
+    let k2 = c.admit-second.ensures.stays k1 in
+    let same1 = c.admit-first.ensures.seen known in
+    let same2 = c.admit-second.ensures.seen k1 in
+    let is = some_at c.admit-first.result c.in-Some-None.first (λ n. n ≡ count_in (g.F.Files.seen c.args.files.now 17)) (c.admit-first.ensures.count known) c.in-Some-None.is-0 in
+    alone_raised First (c.in-Some-None.first + 3) (g.F.Files.seen c.args.files.now) c.go_alone.result c.go_alone.ensures.only c.go_alone.ensures.raised (omega (arith, is))
+
+pub returns-in-None-Some-clause-raised : goal.returns-in-None-Some-clause-raised
+returns-in-None-Some-clause-raised g c = λ known.
+    let k1 = c.admit-first.ensures.stays known in
+    let k2 = c.admit-second.ensures.stays k1 in
+    let same1 = c.admit-first.ensures.seen known in
+    let same2 = c.admit-second.ensures.seen k1 in
+    let is = some_at c.admit-second.result c.in-None-Some.second (λ n. n ≡ count_in (g.F.Files.seen c.admit-first.new.files 18)) (c.admit-second.ensures.count k1) c.in-None-Some.is-1 ∙ ap (λ (f : Folder). count_in (f 18)) same1 in
+    alone_raised Second (c.in-None-Some.second + 3) (g.F.Files.seen c.args.files.now) c.go_alone-in-None-Some.result c.go_alone-in-None-Some.ensures.only c.go_alone-in-None-Some.ensures.raised (omega (arith, is))

@@ -1,11 +1,11 @@
-use Rattle.std.proofs.Common.{◌≡◌, ◌≤◌, suc, sym, ◌∙◌, subst, arith}
+use Rattle.std.proofs.Common.{◌<◌, ◌+◌, ◌≡◌, ◌≤◌, suc, sym, ◌∙◌, subst, arith}
 use Rattle.vault.specs.declared.store.Stop.{Stop}
 use Rattle.file_vault.specs.Folders.{Folder}
 use Rattle.file_vault.specs.declared.twin.Twin.{Twin}
 use Rattle.file_vault.specs.Twins.{file_of, other, count_in, Counts, shown}
 use Rattle.file_vault.proofs.Puts.{both_elapse}
 use Rattle.file_vault.proofs.Shown.{shown_elapses}
-use Rattle.file_vault.proofs.Copied.{copied_within, copied_count, settled_copied, settled_lead, settled_counts, copied_may, lead_leads, mate_leads, alone_shows, pair_shows, copied_seen, only_both}
+use Rattle.file_vault.proofs.Copied.{copied_within, copied_count, settled_copied, settled_lead, settled_counts, copied_may, lead_leads, mate_leads, alone_shows, pair_shows, copied_seen, only_both, alone_raised, raised_copied}
 use Rattle.file_vault.proofs.joined.pair.Goals as goal
 
 pub returns-in-Ok-clause-held : goal.returns-in-Ok-clause-held
@@ -117,3 +117,17 @@ returns-in-Err-Mate-clause-newest g c = λ known both. only_both c.args.lead c.g
 
 pub returns-then-count-saturating_add-clause-newest : goal.returns-then-count-saturating_add-clause-newest
 returns-then-count-saturating_add-clause-newest g c = λ known both. only_both c.other.result c.go_alone-then-count-saturating_add.result c.go_alone-then-count-saturating_add.ensures.only both
+
+pub returns-in-Ok-clause-raised : goal.returns-in-Ok-clause-raised
+returns-in-Ok-clause-raised g c = λ known is small low.
+    let copied = c.copy_over.ensures.seen known in
+    let same = copied_count c.args.lead (g.F.Files.seen c.args.files.now) (g.F.Files.seen c.args.files.now) (g.F.Files.seen c.copy_over.new.files) copied in
+    raised_copied c.args.lead (g.F.Files.seen c.args.files.now) (g.F.Files.seen c.copy_over.new.files) c.raise.result copied (c.raise.ensures.raised (c.copy_over.ensures.stays known) (is ∙ sym same.0) (let mate = same.1 in omega (arith, mate, small, low)))
+
+pub returns-in-Err-Mate-clause-raised : goal.returns-in-Err-Mate-clause-raised
+returns-in-Err-Mate-clause-raised g c = λ known is small low. alone_raised c.args.lead (c.args.count + 3) (g.F.Files.seen c.args.files.now) c.go_alone.result c.go_alone.ensures.only c.go_alone.ensures.raised (omega (arith, is))
+
+pub returns-then-count-saturating_add-clause-raised : goal.returns-then-count-saturating_add-clause-raised
+returns-then-count-saturating_add-clause-raised g c = λ known is small low.
+    alone_raised c.other.result (c.args.least + 3) (g.F.Files.seen c.args.files.now) c.go_alone-then-count-saturating_add.result c.go_alone-then-count-saturating_add.ensures.only c.go_alone-then-count-saturating_add.ensures.raised
+    (subst (λ (t : Twin). count_in (g.F.Files.seen c.args.files.now (file_of t)) < c.args.least + 3) (sym c.other.ensures) (omega (arith, small)))

@@ -1,11 +1,11 @@
-use Rattle.std.proofs.Common.{◌≡◌, ◌≤◌, ◌+◌, suc, sym, ◌∙◌, ap, subst, arith}
+use Rattle.std.proofs.Common.{◌<◌, ◌≡◌, ◌≤◌, ◌+◌, suc, sym, ◌∙◌, ap, subst, arith}
 use Rattle.vault.specs.declared.store.Stop.{Stop}
 use Rattle.file_vault.specs.declared.twin.Twin.{Twin}
 use Rattle.file_vault.specs.Folders.{Folder}
 use Rattle.file_vault.specs.Twins.{file_of, other, count_in, Counts, shown}
 use Rattle.file_vault.proofs.Puts.{both_elapse}
 use Rattle.file_vault.proofs.Shown.{shown_elapses}
-use Rattle.file_vault.proofs.Copied.{not_err}
+use Rattle.file_vault.proofs.Copied.{not_err, alone_raised, both_raised}
 use Rattle.file_vault.proofs.Raised.{settled_counted, mate_stage, lead_stage, mate_made, lead_made, stage_shown, lead_may, mate_may, even_of, both_by, both_more, alike_on}
 use Rattle.file_vault.proofs.joined.raise.Goals as goal
 
@@ -157,3 +157,15 @@ returns-clause-time g c = λ known settled alike is low stop.
     let t2 = both_elapse _ _ _ _ _ _ _ _ _ _ _ t1 (shown_elapses _ _ _ _ _ _ (λ h. shown (g.F.Files.may_leave c.put_count.new.files stop) h) (c.put_count-2.ensures.time k1 stop) (stage_shown c.args.lead c.args.lead (g.F.Files.seen c.args.files.now 17) c.args.count c.args.count c.args.count c.args.count c.in-Some.next c.number-2.result (g.F.Files.may_leave c.put_count.new.files stop) c.number-2.ensures (omega arith) (d1 stop))) (λ h d. d) (λ h there. t1.ends h there) in
     let t3 = both_elapse _ _ _ _ _ _ _ _ _ _ _ t2 (shown_elapses _ _ _ _ _ _ (λ h. shown (g.F.Files.may_leave c.put_count-2.new.files stop) h) (c.put_count-3.ensures.time k2 stop) (stage_shown c.args.lead (other c.args.lead) (g.F.Files.seen c.args.files.now 17) c.in-Some.next c.in-Some.next c.args.count c.args.count c.in-Some.next c.number-3.result (g.F.Files.may_leave c.put_count-2.new.files stop) n3 (omega (arith, up)) (d2 stop))) (λ h d. d) (λ h there. t2.ends h there) in
     t3
+
+pub returns-then-is_err-clause-raised : goal.returns-then-is_err-clause-raised
+returns-then-is_err-clause-raised g c = λ known is low. alone_raised c.args.lead (c.args.count + 3) (g.F.Files.seen c.args.files.now) c.go_alone.result c.go_alone.ensures.only c.go_alone.ensures.raised (omega (arith, is))
+
+pub returns-then-is_err-2-clause-raised : goal.returns-then-is_err-2-clause-raised
+returns-then-is_err-2-clause-raised g c = λ known is low. alone_raised c.other-mate.result (c.args.count + 3) (g.F.Files.seen c.args.files.now) c.go_alone-then-is_err-2.result c.go_alone-then-is_err-2.ensures.only c.go_alone-then-is_err-2.ensures.raised (subst (λ (t : Twin). count_in (g.F.Files.seen c.args.files.now (file_of t)) < c.args.count + 3) (sym c.other-mate.ensures) (omega (arith, low)))
+
+pub returns-then-is_err-3-clause-raised : goal.returns-then-is_err-3-clause-raised
+returns-then-is_err-3-clause-raised g c = λ known is low. alone_raised c.args.lead (c.in-Some.next + 3) (g.F.Files.seen c.args.files.now) c.go_alone-then-is_err-3.result c.go_alone-then-is_err-3.ensures.only c.go_alone-then-is_err-3.ensures.raised (omega (arith, is, c.in-Some.ensures))
+
+pub returns-clause-raised : goal.returns-clause-raised
+returns-clause-raised g c = λ known is low. both_raised c.args.lead c.args.count c.in-Some.next (g.F.Files.seen c.args.files.now) (omega (arith, c.in-Some.ensures)) is low
