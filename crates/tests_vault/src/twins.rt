@@ -180,15 +180,7 @@ fn check_stops(rt: &impl Abort, alloc: Global, stop: Stop, losses: u32) -> Resul
         let (files, reached, _, done) = ran(alloc, files);
         for lost in JOURNALS {
             for loss in 0..losses {
-<<<<<<< HEAD
-                let after = if loss == 0 {
-                    0
-                } else {
-                    calls % 9 + 9 * (loss - 1)
-                };
-=======
                 let after = calls_before(calls, loss);
->>>>>>> 36540fa6e3fc6831f8a99bc1d5cd64208d56c22d
                 check_lost(rt, alloc, &files, stop, (lost, after), loss as u64, reached)?;
             }
         }
