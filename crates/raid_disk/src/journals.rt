@@ -158,7 +158,7 @@ fn compare(files: &mut DiskFiles, journals: &mut Journals, usage: Use) {
     } else {
         Twin::Second
     };
-    if first.abs_diff(second) > 1 {
+    if first != second {
         journals.set(lower, State::Older);
     }
     // A disk that is only looked at has no file made equal: the newer one is read alone.
