@@ -6,7 +6,7 @@ examples:
 
 help:
 	@echo "make         builds raid_bench without proof and answers the examples: 2 to 3 minutes"
-	@echo "make lib     builds the library for C without proof, as crates/behkuna/out/quick/libbehkuna.a: 1 to 2 minutes"
+	@echo "make lib     builds the library for C without proof, as crates/raid_c/out/quick/libraid_c.a: 1 to 2 minutes"
 	@echo "make build   proves and optimises raid_bench, and answers the examples: 20 to 40 minutes"
 	@echo "make test    the gate: all proofs, must-fail edits, tests and cases: about 2 hours, estimated"
 	@echo "make faces   a script's drives kept in files, one left out, and all recovered: a second after make test"

@@ -15,7 +15,7 @@ sys.path.insert(0, str(HERE.parent))
 from scratch import add_program, lay_out, lines_of_crates, prove  # noqa: E402
 
 PROGRAM = "stops_bench"
-STANDS_ON = "single_writes step_core array_parts extents"
+STANDS_ON = "crash_points step_core unit_store extents"
 ROUNDS = 1_000
 WORKS = ["begun", "copies", "commits", "plans", "runs"]
 
@@ -41,7 +41,7 @@ def instructions(program, work, folder):
 
 def main():
     folder = pathlib.Path(sys.argv[1] if len(sys.argv) > 1 else tempfile.mkdtemp(prefix="stops_bench_"))
-    lay_out(folder, crates_below("single_writes"))
+    lay_out(folder, crates_below("crash_points"))
     add_program(folder, HERE, PROGRAM, STANDS_ON)
     program = prove(folder, PROGRAM)
     took = {work: instructions(program, work, folder) for work in WORKS}

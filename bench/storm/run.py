@@ -11,7 +11,7 @@ HERE = pathlib.Path(__file__).resolve().parent
 sys.path.insert(0, str(HERE.parent))
 from scratch import compare  # noqa: E402
 
-BELOW = "array_book background cleaner migrator step_core disk_array slot_tables array_parts flat_machine extent_groups extents map_words slot_words map_join"
+BELOW = "array_book tiered_array cleaner migrator step_core disk_array slot_tables unit_store flat_machine extent_groups extents map_words slot_words map_join"
 CRATES = ["storm", "mirrored_store", "parity_store", *BELOW.split()]
 WORKS = [f"{workers} {payload}" for payload in (8, 4096) for workers in (1, 2, 4, 8)]
 

@@ -5,32 +5,32 @@ use Rattle.map_join.specs.Record.{record_at}
 use Rattle.extents.proofs.Failures.{counts_same, steady_same}
 use Rattle.flat_machine.specs.declared.refusal.Refusal.{Refusal}
 use Rattle.flat_machine.specs.declared.refusal.Refusal.TheVariants.{Memory, NoGroup, WrongClass, InUse, NoTicket, Outrun, VersionSpent, HopsSpent, Unwritten, Gone, Ahead, LogFull}
-use Rattle.flat_machine.specs.Flat.{Flat, Content, Holder, Worker, Ticket, Block, Waiting, Fresh, Moved, IsKept, IsNewest, with_pair, without_pair, turned}
+use Rattle.flat_machine.specs.Flat.{Flat, Content, Holder, Worker, Ticket, Block, Waiting, Fresh, Moved, IsArrayHeld, IsNewest, with_pair, without_pair, turned}
 use Rattle.flat_machine.specs.Steps as say
-use Rattle.flat_machine.specs.Cases.{Case, Leaves, ClaimCase, ReleaseCase, FillCase, CopyCase, CommitCase, CommitWith, place_passed, IsBehind, IsWanted}
-use Rattle.flat_machine.specs.History.{IsHistory, IsStep}
+use Rattle.flat_machine.specs.Cases.{Case, Leaves, ClaimCase, ReleaseCase, FillCase, CopyCase, CommitCase, CommitWith, place_passed, IsNotAhead, IsAllocating}
+use Rattle.flat_machine.specs.History.{IsHistory, IsValidStep}
 use Rattle.flat_machine.specs.Learning.{UnlearnedCase}
 use Rattle.flat_machine.proofs.Keeps.{step_keeps}
 use Rattle.map_join.specs.Maps.{IsMapOf}
-use Rattle.background.proofs.Emitting.{alike_put}
+use Rattle.tiered_array.proofs.Emitting.{alike_put}
 use Rattle.flat_machine.proofs.Claims.{release_keeps, without_worker}
-use Rattle.flat_machine.proofs.Newest.{newest_told, newest_unique}
+use Rattle.flat_machine.proofs.Newest.{newest_reported, newest_unique}
 use Rattle.slot_tables.specs.Changes.{MayRefuse, IsPlaceOf}
 use Rattle.slot_tables.specs.Represents.{ShowsArray}
 use Rattle.slot_tables.specs.Views.{ArrayView, key_at}
 use Rattle.slot_tables.proofs.Hands.{hands_move}
 use Rattle.slot_tables.proofs.OneMore.{holds_one_more}
 use Rattle.step_core.specs.Claimed.{with_claim}
-use Rattle.step_core.specs.Placing.{Put, Fresh as Anew, Again, PutTells, put_step, put_answer}
+use Rattle.step_core.specs.Placing.{Put, Fresh as Afresh, Again, PutReports, put_step, put_answer}
 use Rattle.step_core.specs.Refused.{IsRefused}
-use Rattle.step_core.specs.Told.{Lesson}
+use Rattle.step_core.specs.Reported.{Lesson}
 use Rattle.history.specs.declared.view.Entry.{Entry}
 use Rattle.history.specs.Entries.{entry, Carried, Course, Extends}
-use Rattle.array_book.specs.Acts.{Act, Steps, Leads, IsSound, Follows, IsIdle, AreIdle, IsRun, IsTraced, IsLed, put_act, placed_act, unplaced_act, committed_act, place_of, refused_commit, discard_act, read_act, refused_read}
+use Rattle.array_book.specs.Acts.{Act, Steps, Leads, HasHistory, Replays, IsIdle, AreIdle, IsRun, IsTraced, IsLed, put_act, placed_act, unplaced_act, committed_act, claim_slot, refused_commit, discard_act, read_act, refused_read}
 use Rattle.array_book.specs.Outcomes.{Noted}
 use Rattle.array_book.specs.Kept as book
 use Rattle.array_book.specs.Kept.{KeptView}
-use Rattle.array_book.proofs.Shown.{DiscardTells, LearnTells}
+use Rattle.array_book.proofs.Shown.{DiscardReports, LearnReports}
 use Rattle.array_book.proofs.Idling.{turned_now, IsBut, claimed_but, released_idle, ticketed_idle, passed_but, committed_idle, is_free}
 
 pub leaves_self : (F : Flat) → Leaves F F
@@ -44,7 +44,7 @@ pub record Goes (F : Flat) (act : Act) : Type 0 where
   pub flat : Flat
   pub leads : Leads F act flat
   pub idle : IsIdle flat
-  pub sound : IsSound flat
+  pub sound : HasHistory flat
 
 -- a state that the array shows, which an act leads to, and which is idle
 pub record GoesOn (F : Flat) (act : Act) (b : ArrayView) : Type 0 where
@@ -56,7 +56,7 @@ pub record GoesOn (F : Flat) (act : Act) (b : ArrayView) : Type 0 where
 abbrev goes_of : (F : Flat) (act : Act) (b : ArrayView) → GoesOn F act b → Goes F act
 goes_of F act b on = record { flat = on.flat; leads = on.leads; idle = on.idle; sound = (key_at b, on.shows.history) }
 
-follows_more : (F G H : Flat) (log : List (Entry Act)) (n : ℕ) (act : Act) → Follows F log G → Leads G act H → IsSound H → Follows F (log ++ entry n act ∷ []) H
+follows_more : (F G H : Flat) (log : List (Entry Act)) (n : ℕ) (act : Act) → Replays F log G → Leads G act H → HasHistory H → Replays F (log ++ entry n act ∷ []) H
 follows_more F G H [] n act r leads sound = (H, subst (λ (x : Flat). Leads x act H) r leads, sound, refl)
 follows_more F G H (e ∷ es) n act r leads sound = (r.0, r.1, r.2, follows_more r.0 G H es n act r.3 leads sound)
 
@@ -117,7 +117,7 @@ shows_released a F s is = record {
   tables = hands_move a F (without_pair F.held s (Worker 0)) (without_worker F 0 s) is.tables;
 }
 
-pub claims : (F : Flat) (s : ℕ) → IsIdle F → (IsKept F s → ⊥) → ClaimCase F 0 s (say.Claimed s) (with_claim F s 0)
+pub claims : (F : Flat) (s : ℕ) → IsIdle F → (IsArrayHeld F s → ⊥) → ClaimCase F 0 s (say.Claimed s) (with_claim F s 0)
 claims F s idle none = (refl, is_free F s idle none, leaves_self (with_claim F s 0))
 
 releases : (F : Flat) (s : ℕ) → F.held s (Worker 0) ≡ true → ReleaseCase F 0 s (say.Released s) (released F s)
@@ -146,11 +146,11 @@ copy_leaves F G w s b (Gone t) c = c.1
 copy_leaves F G w s b _ c = absurd c
 
 put_leaves : (F G : Flat) (what : Put) (w s b : ℕ) (q : Refusal) → Case F (put_step what w s b) (say.Refused q) G → Leaves F G
-put_leaves F G (Anew x) w s b q c = fill_leaves F G w s x q c
+put_leaves F G (Afresh x) w s b q c = fill_leaves F G w s x q c
 put_leaves F G Again w s b q c = copy_leaves F G w s b q c
 
 put_held : (F G : Flat) (what : Put) (w s b : ℕ) → Case F (put_step what w s b) (put_answer what s) G → G.held ≡ turned F.held s (Worker w) (Ticket w)
-put_held F G (Anew x) w s b c = ap (λ (z : Flat). z.held) c.3.same
+put_held F G (Afresh x) w s b c = ap (λ (z : Flat). z.held) c.3.same
 put_held F G Again w s b c = ap (λ (z : Flat). z.held) c.1.6.same
 
 -- a claimed slot whose step was refused is released
@@ -160,7 +160,7 @@ back_idle F G s idle l = released_idle G.held s (subst (λ (h : ℕ → Holder �
 back_held : (F G : Flat) (s : ℕ) → Leaves (with_claim F s 0) G → G.held s (Worker 0) ≡ true
 back_held F G s l = ap (λ (h : ℕ → Holder → Bool). h s (Worker 0)) (held_of (with_claim F s 0) G l) ∙ holds_one_more F s 0
 
-pub refused_put_goes : (q : Refusal) (b : ArrayView) (F : Flat) (s : ℕ) (what : Put) (block : ℕ) → IsIdle F → (IsKept F s → ⊥) → q ≢ Memory
+pub refused_put_goes : (q : Refusal) (b : ArrayView) (F : Flat) (s : ℕ) (what : Put) (block : ℕ) → IsIdle F → (IsArrayHeld F s → ⊥) → q ≢ Memory
     → MayRefuse q (Unit {0}) ((G : Flat) × Case (with_claim F s 0) (put_step what 0 s block) (say.Refused q) G × ShowsArray b G) → GoesOn F (unplaced_act what s block q) b
 refused_put_goes Memory b F s what block idle none other may = absurd (other refl)
 refused_put_goes q b F s what block idle none other may =
@@ -177,41 +177,41 @@ pub put_idle : (F G : Flat) (what : Put) (s block : ℕ) → IsIdle F → Case (
 put_idle F G what s block idle case =
     subst AreIdle (sym (put_held (with_claim F s 0) G what 0 s block case)) (ticketed_idle (with_pair F.held s (Worker 0)) s (claimed_but F.held s idle))
 
-pub put_goes : {C : Type 0} (r : Result ℕ (Refusal × C)) (b : ArrayView) (F : Flat) (s : ℕ) (what : Put) (block : ℕ) → IsIdle F → (IsKept F s → ⊥)
-    → IfErr r (λ e. e.0 ≢ Memory) → PutTells r (with_claim F s 0) 0 what s block b → GoesOn F (put_act what s block r) b
-put_goes (Ok t) b F s what block idle none other tells = record {
-  flat = tells.0;
-  leads = (with_claim F s 0, claims F s idle none, (tells.0, tells.1, refl));
-  idle = put_idle F tells.0 what s block idle tells.1;
-  shows = tells.2;
+pub put_goes : {C : Type 0} (r : Result ℕ (Refusal × C)) (b : ArrayView) (F : Flat) (s : ℕ) (what : Put) (block : ℕ) → IsIdle F → (IsArrayHeld F s → ⊥)
+    → IfErr r (λ e. e.0 ≢ Memory) → PutReports r (with_claim F s 0) 0 what s block b → GoesOn F (put_act what s block r) b
+put_goes (Ok t) b F s what block idle none other reports = record {
+  flat = reports.0;
+  leads = (with_claim F s 0, claims F s idle none, (reports.0, reports.1, refl));
+  idle = put_idle F reports.0 what s block idle reports.1;
+  shows = reports.2;
 }
-put_goes (Err e) b F s what block idle none other tells = refused_put_goes e.0 b F s what block idle none other tells
+put_goes (Err e) b F s what block idle none other reports = refused_put_goes e.0 b F s what block idle none other reports
 
 -- the ticket's worker is worker 0
 pub ticket_zero : (F : Flat) (s w : ℕ) → IsIdle F → (F.tickets s ≢ None → F.held s (Ticket w) ≡ true) → F.tickets s ≢ None → F.held s (Ticket 0) ≡ true
 ticket_zero F s w idle held some = subst (λ (n : ℕ). F.held s (Ticket n) ≡ true) (idle.tickets s w (held some)) (held some)
 
 pub discard_goes : {C : Type 0} (E D : Refusal × ℕ → Type 0) (r : Result C (Refusal × ℕ)) (a b : ArrayView) (F : Flat) (s : ℕ) → ShowsArray a F → IsIdle F
-    → IfErr r (λ e. E e × D e × (b ≡ a)) → DiscardTells r F 0 b s → GoesOn F (discard_act s r) b
-discard_goes E D (Ok t) a b F s shows idle err tells =
-    let held : tells.0.held ≡ turned F.held s (Ticket 0) (Worker 0) = ap (λ (z : Flat). z.held) tells.1.2.same in
+    → IfErr r (λ e. E e × D e × (b ≡ a)) → DiscardReports r F 0 b s → GoesOn F (discard_act s r) b
+discard_goes E D (Ok t) a b F s shows idle err reports =
+    let held : reports.0.held ≡ turned F.held s (Ticket 0) (Worker 0) = ap (λ (z : Flat). z.held) reports.1.2.same in
     record {
-      flat = released tells.0 s;
+      flat = released reports.0 s;
       leads = (
-        tells.0,
-        tells.1,
+        reports.0,
+        reports.1,
         (
-          released tells.0 s,
-          releases tells.0 s (ap (λ (h : ℕ → Holder → Bool). h s (Worker 0)) held ∙ turned_now F.held s (Ticket 0) (Worker 0)),
+          released reports.0 s,
+          releases reports.0 s (ap (λ (h : ℕ → Holder → Bool). h s (Worker 0)) held ∙ turned_now F.held s (Ticket 0) (Worker 0)),
           refl,
         ),
       );
-      idle = released_idle tells.0.held s (subst (λ (h : ℕ → Holder → Bool). IsBut h s) (sym held) (passed_but F.held s (Ticket 0) idle));
-      shows = shows_released b tells.0 s tells.2;
+      idle = released_idle reports.0.held s (subst (λ (h : ℕ → Holder → Bool). IsBut h s) (sym held) (passed_but F.held s (Ticket 0) idle));
+      shows = shows_released b reports.0 s reports.2;
     }
-discard_goes E D (Err e) a b F s shows idle err tells = record {
+discard_goes E D (Err e) a b F s shows idle err reports = record {
   flat = F;
-  leads = (F, tells, refl);
+  leads = (F, reports, refl);
   idle = idle;
   shows = subst (λ (v : ArrayView). ShowsArray v F) (sym err.2) shows;
 }
@@ -222,7 +222,7 @@ unlearned_leaves F G asked (Gone t) c = c.3
 unlearned_leaves F G asked _ c = absurd c
 
 refused_read_goes : (q : Refusal) (a b : ArrayView) (F : Flat) (asked : Record) → ShowsArray a F → IsIdle F → IsRefused a b q
-    → MayRefuse q (IsBehind F asked) ((G : Flat) × UnlearnedCase F asked q G × ShowsArray b G) → GoesOn F (refused_read asked q) b
+    → MayRefuse q (IsNotAhead F asked) ((G : Flat) × UnlearnedCase F asked q G × ShowsArray b G) → GoesOn F (refused_read asked q) b
 refused_read_goes Memory a b F asked shows idle is may = stays a b F shows idle is
 refused_read_goes q a b F asked shows idle is may = record {
   flat = may.0;
@@ -231,15 +231,15 @@ refused_read_goes q a b F asked shows idle is may = record {
   shows = may.2;
 }
 
-pub read_goes : (r : Result Lesson Refusal) (a b : ArrayView) (F : Flat) (asked : Record) → ShowsArray a F → IsIdle F → IfErr r (IsRefused a b) → LearnTells r F asked b
+pub read_goes : (r : Result Lesson Refusal) (a b : ArrayView) (F : Flat) (asked : Record) → ShowsArray a F → IsIdle F → IfErr r (IsRefused a b) → LearnReports r F asked b
     → GoesOn F (read_act asked r) b
-read_goes (Ok l) a b F asked shows idle err tells = record {
-  flat = tells.0;
-  leads = tells.1;
-  idle = subst AreIdle (sym (held_of F tells.0 tells.1.4)) idle;
-  shows = tells.2;
+read_goes (Ok l) a b F asked shows idle err reports = record {
+  flat = reports.0;
+  leads = reports.1;
+  idle = subst AreIdle (sym (held_of F reports.0 reports.1.4)) idle;
+  shows = reports.2;
 }
-read_goes (Err q) a b F asked shows idle err tells = refused_read_goes q a b F asked shows idle err tells
+read_goes (Err q) a b F asked shows idle err reports = refused_read_goes q a b F asked shows idle err reports
 
 refused_with : (F G : Flat) (w s b : ℕ) (found : Option Record) (t : Option Waiting) (q : Refusal) → CommitWith F w s b found t (say.Refused q) G → Leaves F G
 refused_with F G w s b found (Some (Fresh x)) VersionSpent c = c.1
@@ -255,7 +255,7 @@ commit_leaves F G w s b NoTicket c = c.1
 commit_leaves F G w s b q c = refused_with F G w s b c.2.0 (F.tickets s) q c.2.2
 
 pub refused_commit_goes : (q : Refusal) (a b : ArrayView) (F : Flat) (s block : ℕ) → ShowsArray a F → IsIdle F → IsRefused a b q
-    → MayRefuse q (IsWanted F (say.Commit 0 s block)) ((G : Flat) × CommitCase F 0 s block (say.Refused q) G × ShowsArray b G) → GoesOn F (refused_commit s block q) b
+    → MayRefuse q (IsAllocating F (say.Commit 0 s block)) ((G : Flat) × CommitCase F 0 s block (say.Refused q) G × ShowsArray b G) → GoesOn F (refused_commit s block q) b
 refused_commit_goes Memory a b F s block shows idle is may = stays a b F shows idle is
 refused_commit_goes q a b F s block shows idle is may = record {
   flat = may.0;
@@ -272,7 +272,7 @@ commit_held F G s b found None r c = absurd c
 
 commit_back : {C : Type 0} (names : C → ℕ) (F G : Flat) (b : ArrayView) (s block : ℕ) (r : Record) (old : Option C) (found : Option Record) → IsIdle F → CommitCase F 0 s block (say.Committed r) G
     → ShowsArray b G → IsPlaceOf names old found → G.held ≡ place_passed (turned F.held s (Ticket 0) (Block block)) 0 block found
-    → GoesOn F (committed_act s block r (place_of names old)) b
+    → GoesOn F (committed_act s block r (claim_slot names old)) b
 commit_back names F G b s block r None None idle case shows of held = record {
   flat = G;
   leads = (G, case, refl);
@@ -294,27 +294,27 @@ commit_back names F G b s block r (Some claim) None idle case shows of held = ab
 
 pub commits_go : {C : Type 0} (names : C → ℕ) (keys : ℕ → ℕ) (b : ArrayView) (F : Flat) (s block : ℕ) (r : Record) (old : Option C) → IsHistory F keys → IsIdle F
     → IsPlaceOf names old (record_at block (keys block)) → (G : Flat) × CommitCase F 0 s block (say.Committed r) G × ShowsArray b G
-    → GoesOn F (committed_act s block r (place_of names old)) b
-commits_go names keys b F s block r old history idle of told =
-    let found = told.1.2.0 in
-    let newest : IsNewest F.emitted block (record_at block (keys block)) = newest_told F.emitted keys block history.records history.map in
-    let same : found ≡ record_at block (keys block) = newest_unique F.emitted block history.records found (record_at block (keys block)) told.1.2.1 newest in
-    commit_back names F told.0 b s block r old found idle told.1 told.2 (subst (λ (o : Option Record). IsPlaceOf names old o) (sym same) of)
-    (commit_held F told.0 s block found (F.tickets s) r told.1.2.2)
+    → GoesOn F (committed_act s block r (claim_slot names old)) b
+commits_go names keys b F s block r old history idle of reported =
+    let found = reported.1.2.0 in
+    let newest : IsNewest F.emitted block (record_at block (keys block)) = newest_reported F.emitted keys block history.records history.map in
+    let same : found ≡ record_at block (keys block) = newest_unique F.emitted block history.records found (record_at block (keys block)) reported.1.2.1 newest in
+    commit_back names F reported.0 b s block r old found idle reported.1 reported.2 (subst (λ (o : Option Record). IsPlaceOf names old o) (sym same) of)
+    (commit_held F reported.0 s block found (F.tickets s) r reported.1.2.2)
 
 pub commit_goes : {C : Type 0} (names : C → ℕ) (a b : ArrayView) (F : Flat) (s block : ℕ) (r : Record) (old : Option C) → ShowsArray a F → IsIdle F
     → IsPlaceOf names old (record_at block (key_at a block)) → (G : Flat) × CommitCase F 0 s block (say.Committed r) G × ShowsArray b G
-    → GoesOn F (committed_act s block r (place_of names old)) b
-commit_goes names a b F s block r old shows idle of told = commits_go names (key_at a) b F s block r old shows.history idle of told
+    → GoesOn F (committed_act s block r (claim_slot names old)) b
+commit_goes names a b F s block r old shows idle of reported = commits_go names (key_at a) b F s block r old shows.history idle of reported
 
 -- a put and its commit in one write: first the state between, which no array shows
-pub put_sound : (F G : Flat) (keys : ℕ → ℕ) (what : Put) (w s block : ℕ) → IsHistory F keys → IsStep F.groups (put_step what w s block)
+pub put_sound : (F G : Flat) (keys : ℕ → ℕ) (what : Put) (w s block : ℕ) → IsHistory F keys → IsValidStep F.groups (put_step what w s block)
     → Case F (put_step what w s block) (put_answer what s) G → IsHistory G keys
 put_sound F G keys what w s block history fits case =
     step_keeps F G keys keys (put_step what w s block) (put_answer what s) history fits case
     (subst (λ (rs : List Record). IsMapOf rs keys) (sym (alike_put F G what w s block case).emitted) history.map)
 
-abbrev pub puts_go : (F M : Flat) (keys : ℕ → ℕ) (s block : ℕ) (what : Put) → IsIdle F → (IsKept F s → ⊥) → IsHistory M keys
+abbrev pub puts_go : (F M : Flat) (keys : ℕ → ℕ) (s block : ℕ) (what : Put) → IsIdle F → (IsArrayHeld F s → ⊥) → IsHistory M keys
     → Case (with_claim F s 0) (put_step what 0 s block) (put_answer what s) M → Goes F (placed_act what s block)
 puts_go F M keys s block what idle none history case = record {
   flat = M;

@@ -60,9 +60,9 @@ inside_idled groups keys s held ticket is (Ticket w) of has =
 inside_idled groups keys s held ticket is (Block b) of has = is.inside (Block b) of has
 inside_idled groups keys s held ticket is (Shut g) of has = is.inside (Shut g) of has
 
-idled_stands : (groups : Groups) (keys : ℕ → ℕ) (s : ℕ) (held : Holder → Bool) (ticket : Option Waiting) → HoldersStand groups keys s held ticket
+idled_matches : (groups : Groups) (keys : ℕ → ℕ) (s : ℕ) (held : Holder → Bool) (ticket : Option Waiting) → HoldersStand groups keys s held ticket
     → HoldersStand groups keys s (idled_held held ticket) ticket
-idled_stands groups keys s held ticket is = record {
+idled_matches groups keys s held ticket is = record {
   once = once_idled groups keys s held ticket is;
   inside = inside_idled groups keys s held ticket is;
   waits = λ c e. (0, ap is_some e);
@@ -80,7 +80,7 @@ idled_idle F = record {
 shows_idled : (a : ArrayView) (F : Flat) → ShowsArray a F → ShowsArray a (idled F)
 shows_idled a F is = record {
   history = history_as F (key_at a) is.history is.history.limits.least is.history.limits.most is.history.groups
-      (λ t. idled_stands F.groups (key_at a) t (F.held t) (F.tickets t) (is.history.holders t)) is.history.units (λ b has. (refl, has));
+      (λ t. idled_matches F.groups (key_at a) t (F.held t) (F.tickets t) (is.history.holders t)) is.history.units (λ b has. (refl, has));
   units = is.units;
   tables = record {
     groups = is.tables.groups;

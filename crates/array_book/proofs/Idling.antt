@@ -1,7 +1,7 @@
 -- Who holds slots after a step of worker 0, where no worker had a claim and all tickets were its own.
 use Rattle.std.proofs.Common.{◌≡◌, ◌⊎◌, ℕ, Bool, true, false, true≢false, not, ◌&&◌, ◌||◌, refl, sym, ap, ◌∙◌, subst, inl, inr, ⊎_elim}
 use Rattle.std.proofs.lemmas.Bool.{cases_eq}
-use Rattle.flat_machine.specs.Flat.{Flat, Holder, Worker, Ticket, Block, Shut, for_ticket, for_block, for_shut, IsFree, IsKept, same_holder, with_pair, without_pair, turned}
+use Rattle.flat_machine.specs.Flat.{Flat, Holder, Worker, Ticket, Block, Shut, for_ticket, for_block, for_shut, IsUnheld, IsArrayHeld, same_holder, with_pair, without_pair, turned}
 use Rattle.flat_machine.proofs.Pairs.{with_here, with_else, without_here, without_else, turned_here, itself, one_holder}
 use Rattle.array_book.specs.Acts.{AreIdle, IsIdle}
 
@@ -144,7 +144,7 @@ committed_idle held s b idle = record {
 }
 
 -- where the array keeps nothing of a slot, nobody holds it
-pub is_free : (F : Flat) (s : ℕ) → IsIdle F → (IsKept F s → ⊥) → IsFree F s
+pub is_free : (F : Flat) (s : ℕ) → IsIdle F → (IsArrayHeld F s → ⊥) → IsUnheld F s
 is_free F s idle none k = go k (F.held s k) refl
   where
     go : (j : Holder) (b : Bool) → F.held s j ≡ b → F.held s j ≡ false

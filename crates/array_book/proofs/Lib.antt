@@ -3,6 +3,7 @@ pub mod Halves
 pub mod Shown
 pub mod Telling
 pub mod Planning
+pub mod Running
 pub mod Fresh
 pub mod Answering
 pub mod Named

@@ -26,11 +26,11 @@ given_up v m w slot t block p q refused same at gave = record {
 }
 
 -- a put whose commit was refused
-pub put_err : {D E : Type 0} (of : D → Record) (why : E → Refusal) (r : Result D E) (told : WorkFault) (v u w : Carried Act) (what : Put) (s block : ℕ)
-    → MatchResult r (λ d. ⊥) (λ e. told ≡ fault_of (why e)) → w ≡ u → HasPut of why v what s block r u → HasFailed v what s block told w
-put_err of why (Ok d) told v u w what s block is same put = absurd is
-put_err of why (Err e) told v u w what s block is same put = record {
+pub put_err : {D E : Type 0} (of : D → Record) (why : E → Refusal) (r : Result D E) (reported : WorkFault) (v u w : Carried Act) (what : Put) (s block : ℕ)
+    → MatchResult r (λ d. ⊥) (λ e. reported ≡ fault_of (why e)) → w ≡ u → HasPut of why v what s block r u → HasFailed v what s block reported w
+put_err of why (Ok d) reported v u w what s block is same put = absurd is
+put_err of why (Err e) reported v u w what s block is same put = record {
   why = why e;
-  told_is = is;
+  reported_is = is;
   noted = inr (subst (λ (z : Carried Act). HasLeft v what s block (why e) z) (sym same) put);
 }

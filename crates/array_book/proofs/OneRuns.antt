@@ -18,12 +18,12 @@ use Rattle.flat_machine.proofs.Writes.{last_here, last_else}
 use Rattle.step_core.proofs.Worlds.{refused_leaves}
 use Rattle.slot_tables.specs.Views.{ArrayView, key_at}
 use Rattle.history.specs.declared.view.Entry.{Entry}
-use Rattle.array_book.specs.Acts.{Act, Opens, Steps, Learns, Fails, Leads, IsSound, Follows, IsEndOf}
-use Rattle.array_book.specs.OneRun.{AreStepsOf, AreStepsIn, record_in, committed_in, fresh_of, content_of, waiting_in, contents_of, waits_after, holds_after, holds_in, IsUnchanged, IsOneRun}
+use Rattle.array_book.specs.Acts.{Act, Opens, Steps, Learns, Fails, Leads, HasHistory, Replays, IsEndOf}
+use Rattle.array_book.specs.OneRun.{AreStepsOf, AreStepsIn, committed_record, committed_in, fresh_of, written_content, waiting_in, contents_of, waits_after, holds_after, holds_in, HasSameContents, IsOneRun}
 
 -- what a step with its answer does to the records, to what waits, and to what blocks hold
-record Tells (F : Flat) (step : FlatStep) (answer : FlatAnswer) (G : Flat) : Type 0 where
-  records : G.emitted ≡ F.emitted ++ record_in answer
+record Reports (F : Flat) (step : FlatStep) (answer : FlatAnswer) (G : Flat) : Type 0 where
+  records : G.emitted ≡ F.emitted ++ committed_record answer
   waits : waiting_in G ≡ waits_after step answer (waiting_in F)
   holds : contents_of G ≡ holds_after step answer (waiting_in F) (contents_of F)
 
@@ -45,27 +45,27 @@ put_again {X} f s = λ i t. at t (t == s) refl i
 
 -- a write more is what its block holds
 write_holds : (ws : List Write) (b v : ℕ) (x : Content)
-    → (λ d. content_of (last_write (ws ++ record { block = b; version = v; content = x } ∷ []) d)) ≡ put (λ d. content_of (last_write ws d)) b (Some x)
+    → (λ d. written_content (last_write (ws ++ record { block = b; version = v; content = x } ∷ []) d)) ≡ put (λ d. written_content (last_write ws d)) b (Some x)
 write_holds ws b v x = λ i d. at d (d == b) refl i
   where
     new : Write
     new = record { block = b; version = v; content = x }
 
-    at : (d : ℕ) (c : Bool) → (d == b) ≡ c → content_of (last_write (ws ++ new ∷ []) d) ≡ (if c then Some x else content_of (last_write ws d))
-    at d true e = ap (λ n. content_of (last_write (ws ++ new ∷ []) n)) (equal_back d b e) ∙ ap content_of (last_here ws new)
-    at d false e = ap content_of (last_else ws new d (λ same. true≢false (sym (equal d b same) ∙ e)))
+    at : (d : ℕ) (c : Bool) → (d == b) ≡ c → written_content (last_write (ws ++ new ∷ []) d) ≡ (if c then Some x else written_content (last_write ws d))
+    at d true e = ap (λ n. written_content (last_write (ws ++ new ∷ []) n)) (equal_back d b e) ∙ ap written_content (last_here ws new)
+    at d false e = ap written_content (last_else ws new d (λ same. true≢false (sym (equal d b same) ∙ e)))
 
 abbrev waits_at : (ℕ → Option Waiting) → ℕ → Option Content
 waits_at tickets s = fresh_of (tickets s)
 
 abbrev written_at : List Write → ℕ → Option Content
-written_at ws b = content_of (last_write ws b)
+written_at ws b = written_content (last_write ws b)
 
 -- a step that leaves the log, what waits, and what was written
-tells : (F X G : Flat) (step : FlatStep) (answer : FlatAnswer) → Leaves X G → X.emitted ≡ F.emitted → X.tickets ≡ F.tickets → X.writes ≡ F.writes
-    → record_in answer ≡ [] → waits_after step answer (waiting_in F) ≡ waiting_in F → holds_after step answer (waiting_in F) (contents_of F) ≡ contents_of F
-    → Tells F step answer G
-tells F X G step answer l emitted tickets writes none waits holds = record {
+reports : (F X G : Flat) (step : FlatStep) (answer : FlatAnswer) → Leaves X G → X.emitted ≡ F.emitted → X.tickets ≡ F.tickets → X.writes ≡ F.writes
+    → committed_record answer ≡ [] → waits_after step answer (waiting_in F) ≡ waiting_in F → holds_after step answer (waiting_in F) (contents_of F) ≡ contents_of F
+    → Reports F step answer G
+reports F X G step answer l emitted tickets writes none waits holds = record {
   records = ap (λ (z : Flat). z.emitted) l.same ∙ emitted ∙ sym (append-nil F.emitted) ∙ ap (λ rs. F.emitted ++ rs) (sym none);
   waits = ap waiting_in l.same ∙ ap waits_at tickets ∙ sym waits;
   holds = ap contents_of l.same ∙ ap written_at writes ∙ sym holds;
@@ -87,10 +87,10 @@ abbrev IsNoRefusal : FlatAnswer → Type 0
 IsNoRefusal (Refused r) = ⊥
 IsNoRefusal _ = Unit {0}
 
-commit_tells : (F G : Flat) (w s b : ℕ) (found : Option Record) (t : Option Waiting) (answer : FlatAnswer) → IsNoRefusal answer → F.tickets s ≡ t → CommitWith F w s b found t answer G
-    → Tells F (Commit w s b) answer G
-commit_tells F G w s b found t (Refused r) none at c = absurd none
-commit_tells F G w s b found (Some (Fresh x)) (Committed r) none at c =
+commit_reports : (F G : Flat) (w s b : ℕ) (found : Option Record) (t : Option Waiting) (answer : FlatAnswer) → IsNoRefusal answer → F.tickets s ≡ t → CommitWith F w s b found t answer G
+    → Reports F (Commit w s b) answer G
+commit_reports F G w s b found t (Refused r) none at c = absurd none
+commit_reports F G w s b found (Some (Fresh x)) (Committed r) none at c =
     let is : waiting_in F s ≡ Some x = ap fresh_of at in
     record {
       records = ap (λ (z : Flat). z.emitted) c.4.same;
@@ -98,7 +98,7 @@ commit_tells F G w s b found (Some (Fresh x)) (Committed r) none at c =
       holds = ap contents_of c.4.same ∙ write_holds F.writes b _ x
           ∙ ap (λ o. put (contents_of F) b (or_else o (contents_of F b))) (sym is);
     }
-commit_tells F G w s b found (Some (Moved d v h x)) (Committed r) none at c =
+commit_reports F G w s b found (Some (Moved d v h x)) (Committed r) none at c =
     let is : waiting_in F s ≡ None = ap fresh_of at in
     record {
       records = ap (λ (z : Flat). z.emitted) c.4.same;
@@ -106,50 +106,50 @@ commit_tells F G w s b found (Some (Moved d v h x)) (Committed r) none at c =
       holds = ap contents_of c.4.same ∙ sym (put_again (contents_of F) b)
           ∙ ap (λ o. put (contents_of F) b (or_else o (contents_of F b))) (sym is);
     }
-commit_tells F G w s b found None _ none at c = absurd c
-commit_tells F G w s b found (Some (Fresh x)) _ none at c = absurd c
-commit_tells F G w s b found (Some (Moved d v h x)) _ none at c = absurd c
+commit_reports F G w s b found None _ none at c = absurd c
+commit_reports F G w s b found (Some (Fresh x)) _ none at c = absurd c
+commit_reports F G w s b found (Some (Moved d v h x)) _ none at c = absurd c
 
-step_tells : (F G : Flat) (step : FlatStep) (answer : FlatAnswer) → Case F step answer G → Tells F step answer G
-step_tells F G (Claim w s) (Claimed t) case = tells F _ G (Claim w s) (Claimed t) case.2 refl refl refl refl refl refl
-step_tells F G (Claim w s) (Taken t) case = tells F F G (Claim w s) (Taken t) case.2 refl refl refl refl refl refl
-step_tells F G (Release w s) (Released t) case = tells F _ G (Release w s) (Released t) case.2 refl refl refl refl refl refl
-step_tells F G (Release w s) (NotHeld t) case = tells F F G (Release w s) (NotHeld t) case.2 refl refl refl refl refl refl
-step_tells F G (Fill w s x) (NotHeld t) case = tells F F G (Fill w s x) (NotHeld t) case.2 refl refl refl refl refl refl
-step_tells F G (Fill w s x) (Filled t) case = record {
+step_reports : (F G : Flat) (step : FlatStep) (answer : FlatAnswer) → Case F step answer G → Reports F step answer G
+step_reports F G (Claim w s) (Claimed t) case = reports F _ G (Claim w s) (Claimed t) case.2 refl refl refl refl refl refl
+step_reports F G (Claim w s) (Taken t) case = reports F F G (Claim w s) (Taken t) case.2 refl refl refl refl refl refl
+step_reports F G (Release w s) (Released t) case = reports F _ G (Release w s) (Released t) case.2 refl refl refl refl refl refl
+step_reports F G (Release w s) (NotHeld t) case = reports F F G (Release w s) (NotHeld t) case.2 refl refl refl refl refl refl
+step_reports F G (Fill w s x) (NotHeld t) case = reports F F G (Fill w s x) (NotHeld t) case.2 refl refl refl refl refl refl
+step_reports F G (Fill w s x) (Filled t) case = record {
   records = ap (λ (z : Flat). z.emitted) case.3.same ∙ sym (append-nil F.emitted);
   waits = ap waiting_in case.3.same ∙ put_through fresh_of F.tickets s (Some (Fresh x));
   holds = ap contents_of case.3.same;
 }
-step_tells F G (Copy w s b) (NotHeld t) case = tells F F G (Copy w s b) (NotHeld t) case.2 refl refl refl refl refl refl
-step_tells F G (Copy w s b) (Copied t) case = record {
+step_reports F G (Copy w s b) (NotHeld t) case = reports F F G (Copy w s b) (NotHeld t) case.2 refl refl refl refl refl refl
+step_reports F G (Copy w s b) (Copied t) case = record {
   records = ap (λ (z : Flat). z.emitted) case.1.6.same ∙ sym (append-nil F.emitted);
   waits = ap waiting_in case.1.6.same ∙ put_through fresh_of F.tickets s _;
   holds = ap contents_of case.1.6.same;
 }
-step_tells F G (Discard w s) (Discarded t) case = record {
+step_reports F G (Discard w s) (Discarded t) case = record {
   records = ap (λ (z : Flat). z.emitted) case.2.same ∙ sym (append-nil F.emitted);
   waits = ap waiting_in case.2.same ∙ put_through fresh_of F.tickets s None;
   holds = ap contents_of case.2.same;
 }
-step_tells F G (Read b) (Found found) case = tells F F G (Read b) (Found found) case.2 refl refl refl refl refl refl
-step_tells F G (ReadAt r) (FoundAt seen) case = tells F F G (ReadAt r) (FoundAt seen) case.3 refl refl refl refl refl refl
-step_tells F G (Make class members) (MadeGroup g) case = tells F _ G (Make class members) (MadeGroup g) case.2 refl refl refl refl refl refl
-step_tells F G (Unmake w g) (UnmadeGroup h) case = tells F _ G (Unmake w g) (UnmadeGroup h) case.3 refl refl refl refl refl refl
-step_tells F G (MoveExtent g k to) MovedExtent case = tells F _ G (MoveExtent g k to) MovedExtent case.3 refl refl refl refl refl refl
-step_tells F G AddDrive (AddedDrive d) case = tells F _ G AddDrive (AddedDrive d) (same_leaves _ G case.2) refl refl refl refl refl refl
-step_tells F G (Lose d) (LostDrive e) case = tells F _ G (Lose d) (LostDrive e) case.2 refl refl refl refl refl refl
-step_tells F G step (Refused r) case =
-    tells F F G step (Refused r) (refused_leaves F G step r case) refl refl refl refl (refused_waits step r (waiting_in F)) (refused_holds step r (waiting_in F) (contents_of F))
-step_tells F G (Commit w s b) answer case = commit_tells F G w s b case.2.0 (F.tickets s) answer tt refl case.2.2
-step_tells F G _ _ case = absurd case
+step_reports F G (Read b) (Found found) case = reports F F G (Read b) (Found found) case.2 refl refl refl refl refl refl
+step_reports F G (ReadAt r) (FoundAt seen) case = reports F F G (ReadAt r) (FoundAt seen) case.3 refl refl refl refl refl refl
+step_reports F G (Make class members) (MadeGroup g) case = reports F _ G (Make class members) (MadeGroup g) case.2 refl refl refl refl refl refl
+step_reports F G (Unmake w g) (UnmadeGroup h) case = reports F _ G (Unmake w g) (UnmadeGroup h) case.3 refl refl refl refl refl refl
+step_reports F G (MoveExtent g k to) MovedExtent case = reports F _ G (MoveExtent g k to) MovedExtent case.3 refl refl refl refl refl refl
+step_reports F G AddDrive (AddedDrive d) case = reports F _ G AddDrive (AddedDrive d) (same_leaves _ G case.2) refl refl refl refl refl refl
+step_reports F G (Lose d) (LostDrive e) case = reports F _ G (Lose d) (LostDrive e) case.2 refl refl refl refl refl refl
+step_reports F G step (Refused r) case =
+    reports F F G step (Refused r) (refused_leaves F G step r case) refl refl refl refl (refused_waits step r (waiting_in F)) (refused_holds step r (waiting_in F) (contents_of F))
+step_reports F G (Commit w s b) answer case = commit_reports F G w s b case.2.0 (F.tickets s) answer tt refl case.2.2
+step_reports F G _ _ case = absurd case
 
 -- the log of a run's last state is that of its first, and then the records that it committed
 run_records : (F G : Flat) (steps : List FlatStep) (answers : List FlatAnswer) → Runs F steps answers G → G.emitted ≡ F.emitted ++ committed_in answers
 run_records F G [] [] run = ap (λ (z : Flat). z.emitted) run ∙ sym (append-nil F.emitted)
 run_records F G (step ∷ steps) (answer ∷ answers) run =
-    let one = step_tells F run.0 step answer run.1 in
-    run_records run.0 G steps answers run.2 ∙ ap (λ rs. rs ++ committed_in answers) one.records ∙ append_assoc F.emitted (record_in answer) (committed_in answers)
+    let one = step_reports F run.0 step answer run.1 in
+    run_records run.0 G steps answers run.2 ∙ ap (λ rs. rs ++ committed_in answers) one.records ∙ append_assoc F.emitted (committed_record answer) (committed_in answers)
 run_records F G [] (answer ∷ answers) run = absurd run
 run_records F G (step ∷ steps) [] run = absurd run
 
@@ -157,7 +157,7 @@ run_records F G (step ∷ steps) [] run = absurd run
 run_holds : (F G : Flat) (steps : List FlatStep) (answers : List FlatAnswer) → Runs F steps answers G → contents_of G ≡ holds_in steps answers (waiting_in F) (contents_of F)
 run_holds F G [] [] run = ap contents_of run
 run_holds F G (step ∷ steps) (answer ∷ answers) run =
-    let one = step_tells F run.0 step answer run.1 in
+    let one = step_reports F run.0 step answer run.1 in
     run_holds run.0 G steps answers run.2 ∙ ap (λ f. holds_in steps answers f (contents_of run.0)) one.waits
     ∙ ap (λ h. holds_in steps answers (waits_after step answer (waiting_in F)) h) one.holds
 run_holds F G [] (answer ∷ answers) run = absurd run
@@ -184,17 +184,17 @@ newest_version : (F : Flat) (keys : ℕ → ℕ) (n : Record) (w : Write) → Is
 newest_version F keys n w is newest last = let e = last_version_is F keys n.block (Some n) w is newest last in omega arith
 
 -- what was learned is one step at the record's place, or that and one of its block
-learned_run : (F G : Flat) (asked told : Record) (x : Content) (seen : Seen) → IsSound F → LearnedCase F asked told x G → IsSeen (F.units asked.place) asked seen → IsLearned F asked seen told x
-    → HasRun (AreStepsOf (Learns asked told x)) F G
-learned_run F G asked told x (Data y) sound case at is = record {
+learned_run : (F G : Flat) (asked reported : Record) (x : Content) (seen : Seen) → HasHistory F → LearnedCase F asked reported x G → IsSeen (F.units asked.place) asked seen → IsLearned F asked seen reported x
+    → HasRun (AreStepsOf (Learns asked reported x)) F G
+learned_run F G asked reported x (Data y) sound case at is = record {
   steps = ReadAt asked ∷ [];
   answers = FoundAt (Data x) ∷ [];
   are = inl (refl, refl);
   run = (G, (case.0, subst (λ (r : Record). IsGoneIn G r.place → ⊥) is.0 case.3, subst (λ (z : Content). IsSeen (F.units asked.place) asked (Data z)) (sym is.1) at, case.4), refl);
 }
-learned_run F G asked told x (Stale found) sound case at is = record {
+learned_run F G asked reported x (Stale found) sound case at is = record {
   steps = ReadAt asked ∷ Read asked.block ∷ [];
-  answers = FoundAt (Stale found) ∷ Found (found_in told.version x) ∷ [];
+  answers = FoundAt (Stale found) ∷ Found (found_in reported.version x) ∷ [];
   are = inr (found, refl, refl);
   run = (F, (case.0, case.1, at, itself F), (G, (answer, there, case.4), refl));
 }
@@ -205,18 +205,18 @@ learned_run F G asked told x (Stale found) sound case at is = record {
     w : Write
     w = is.1.0
 
-    version : told.version ≡ w.version
+    version : reported.version ≡ w.version
     version =
-        let e : told.block ≡ asked.block = is.0.1 in
-        newest_version F keys told w sound.1 (subst (λ n. IsNewest F.emitted n (Some told)) (sym e) is.0) (ap (λ n. last_write F.writes n) e ∙ is.1.1)
+        let e : reported.block ≡ asked.block = is.0.1 in
+        newest_version F keys reported w sound.1 (subst (λ n. IsNewest F.emitted n (Some reported)) (sym e) is.0) (ap (λ n. last_write F.writes n) e ∙ is.1.1)
 
-    answer : found_in told.version x ≡ found_of (last_write F.writes asked.block)
+    answer : found_in reported.version x ≡ found_of (last_write F.writes asked.block)
     answer = ap (λ n. found_in n x) version ∙ ap (λ (z : Content). found_in w.version z) is.1.2 ∙ ap found_of (sym is.1.1)
 
     there : (r : Record) → IsNewest F.emitted asked.block (Some r) → IsGoneIn G r.place → ⊥
     there r newest gone =
-        let same : Some r ≡ Some told = newest_unique F.emitted asked.block sound.1.records (Some r) (Some told) newest is.0 in
-        case.3 (subst (λ (z : Record). IsGoneIn G z.place) (same_Some r told same) gone)
+        let same : Some r ≡ Some reported = newest_unique F.emitted asked.block sound.1.records (Some r) (Some reported) newest is.0 in
+        case.3 (subst (λ (z : Record). IsGoneIn G z.place) (same_Some r reported same) gone)
 
 -- and so is a read that learned nothing
 unlearned_run : (F G : Flat) (asked : Record) (q : Refusal) → UnlearnedCase F asked q G → HasRun (AreStepsOf (Fails asked q)) F G
@@ -239,13 +239,13 @@ unlearned_run F G asked (Gone t) case = gone case.2
         }
 unlearned_run F G asked _ case = absurd case
 
-leads_run : (F G : Flat) (act : Act) → IsSound F → Leads F act G → HasRun (AreStepsOf act) F G
+leads_run : (F G : Flat) (act : Act) → HasHistory F → Leads F act G → HasRun (AreStepsOf act) F G
 leads_run F G (Opens array) sound leads = absurd leads
 leads_run F G (Steps steps answers) sound leads = record { steps = steps; answers = answers; are = (refl, refl); run = leads }
-leads_run F G (Learns asked told x) sound leads = learned_run F G asked told x leads.2.0 sound leads leads.2.1 leads.2.2
+leads_run F G (Learns asked reported x) sound leads = learned_run F G asked reported x leads.2.0 sound leads leads.2.1 leads.2.2
 leads_run F G (Fails asked q) sound leads = unlearned_run F G asked q leads
 
-follows_run : (F G : Flat) (log : List (Entry Act)) → IsSound F → Follows F log G → HasRun (AreStepsIn log) F G
+follows_run : (F G : Flat) (log : List (Entry Act)) → HasHistory F → Replays F log G → HasRun (AreStepsIn log) F G
 follows_run F G [] sound follows = record { steps = []; answers = []; are = (refl, refl); run = follows }
 follows_run F G (e ∷ es) sound follows =
     let one = leads_run F follows.0 e.what sound follows.1 in
@@ -261,7 +261,7 @@ follows_run F G (e ∷ es) sound follows =
 pub one_run : (log : List (Entry Act)) (array : ArrayView) → IsEndOf log array → IsOneRun log array
 one_run log array ends =
     let is = ends.traced.run in
-    let sound : IsSound is.opening = (key_at is.array, is.shows.history) in
+    let sound : HasHistory is.opening = (key_at is.array, is.shows.history) in
     let whole = follows_run is.opening ends.flat is.rest sound is.follows in
     let records = run_records is.opening ends.flat whole.steps whole.answers whole.run in
     let first : is.opening.emitted ++ committed_in whole.answers ≡ is.array.log ++ committed_in whole.answers = ap (λ rs. rs ++ committed_in whole.answers) is.shows.tables.log in
@@ -284,17 +284,17 @@ one_run log array ends =
       contents = λ b. ap (λ (f : ℕ → Option Content). f b) holds;
     }
 
-unchanged : (F G : Flat) → Leaves F G → IsUnchanged F G
+unchanged : (F G : Flat) → Leaves F G → HasSameContents F G
 unchanged F G l = record {
   records = ap (λ (z : Flat). z.emitted) l.same;
-  contents = λ b. ap (λ (z : Flat). content_of (last_write z.writes b)) l.same;
+  contents = λ b. ap (λ (z : Flat). written_content (last_write z.writes b)) l.same;
 }
 
 -- a read changes nothing, whether it learns or not
-pub learned_unchanged : (F G : Flat) (asked told : Record) (x : Content) → LearnedCase F asked told x G → IsUnchanged F G
-learned_unchanged F G asked told x case = unchanged F G case.4
+pub learned_unchanged : (F G : Flat) (asked reported : Record) (x : Content) → LearnedCase F asked reported x G → HasSameContents F G
+learned_unchanged F G asked reported x case = unchanged F G case.4
 
-pub unlearned_unchanged : (F G : Flat) (asked : Record) (q : Refusal) → UnlearnedCase F asked q G → IsUnchanged F G
+pub unlearned_unchanged : (F G : Flat) (asked : Record) (q : Refusal) → UnlearnedCase F asked q G → HasSameContents F G
 unlearned_unchanged F G asked (Ahead found) case = unchanged F G case.2
 unlearned_unchanged F G asked (Gone t) case = unchanged F G case.3
 unlearned_unchanged F G asked _ case = absurd case

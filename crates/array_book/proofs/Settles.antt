@@ -18,11 +18,11 @@ settled_ok (Err e) even odd xs ys M N K same m n one other = tt
 -- and where it isn't, each map of all that was taken differs from it at that block first
 pub settled_err : (r : Result (Unit {0}) SettleFault) (even odd : ℕ) (xs ys : List Record) (M N K : ℕ → ℕ) → IfErr r (IsDiffering (join M N) K) → IsMapOf xs M → IsMapOf ys N
     → even ≡ whole → odd ≡ whole → IfErr r (IsUnsettled even odd (xs ++ ys) K)
-settled_err (Ok u) even odd xs ys M N K told m n one other = tt
-settled_err (Err (NotWhole share)) even odd xs ys M N K told m n one other = absurd told
-settled_err (Err Memory) even odd xs ys M N K told m n one other = (one, other)
-settled_err (Err (Differs block)) even odd xs ys M N K told m n one other = (
+settled_err (Ok u) even odd xs ys M N K reported m n one other = tt
+settled_err (Err (NotWhole share)) even odd xs ys M N K reported m n one other = absurd reported
+settled_err (Err Memory) even odd xs ys M N K reported m n one other = (one, other)
+settled_err (Err (Differs block)) even odd xs ys M N K reported m n one other = (
   one,
   other,
-  λ L is. subst (λ (f : ℕ → ℕ). IsLowestDifference f K block) (same_map (xs ++ ys) (join M N) L (together xs ys M N (join M N) (λ b. refl) m n) is) told,
+  λ L is. subst (λ (f : ℕ → ℕ). IsLowestDifference f K block) (same_map (xs ++ ys) (join M N) L (together xs ys M N (join M N) (λ b. refl) m n) is) reported,
 )

@@ -13,7 +13,7 @@ use Rattle.flat_machine.specs.Learning.{LearnedCase, UnlearnedCase}
 use Rattle.slot_tables.specs.Represents.{ShowsArray}
 use Rattle.slot_tables.specs.Views.{ArrayView}
 use Rattle.step_core.specs.Placing.{Put, put_step, put_answer}
-use Rattle.step_core.specs.Told.{Lesson}
+use Rattle.step_core.specs.Reported.{Lesson}
 use Rattle.disk_array.specs.declared.commit.Done.{Done}
 use Rattle.history.specs.declared.view.Entry.{Entry}
 use Rattle.history.specs.Entries.{entry, Course}
@@ -29,7 +29,7 @@ pub data Act : Type 0 where
 abbrev pub Leads : Flat → Act → Flat → Type 0
 Leads F (Opens array) G = ⊥
 Leads F (Steps steps answers) G = Runs F steps answers G
-Leads F (Learns asked told content) G = LearnedCase F asked told content G
+Leads F (Learns asked reported content) G = LearnedCase F asked reported content G
 Leads F (Fails asked q) G = UnlearnedCase F asked q G
 
 -- no step
@@ -53,12 +53,12 @@ committed_act s b r None = Steps (Commit 0 s b ∷ []) (Committed r ∷ [])
 committed_act s b r (Some old) = Steps (Commit 0 s b ∷ Release 0 old ∷ []) (Committed r ∷ Released old ∷ [])
 
 -- the slot of a claim, if there is one
-abbrev pub place_of : {C : Type 0} → (C → ℕ) → Option C → Option ℕ
-place_of names None = None
-place_of names (Some claim) = Some (names claim)
+abbrev pub claim_slot : {C : Type 0} → (C → ℕ) → Option C → Option ℕ
+claim_slot names None = None
+claim_slot names (Some claim) = Some (names claim)
 
 abbrev pub commit_act : {C : Type 0} → (C → ℕ) → ℕ → ℕ → Done C → Act
-commit_act names s b done = committed_act s b done.emitted (place_of names done.old)
+commit_act names s b done = committed_act s b done.emitted (claim_slot names done.old)
 
 -- a refused commit; out of memory takes no step
 abbrev pub refused_commit : ℕ → ℕ → Refusal → Act
@@ -82,17 +82,17 @@ refused_read asked Memory = idle
 refused_read asked q = Fails asked q
 
 abbrev pub read_act : Record → Result Lesson Refusal → Act
-read_act asked (Ok l) = Learns asked l.told l.content
+read_act asked (Ok l) = Learns asked l.reported l.content
 read_act asked (Err q) = refused_read asked q
 
 -- a state of which all holds that is true of every state of the flat machine
-abbrev pub IsSound : Flat → Type 0
-IsSound F = (keys : ℕ → ℕ) × IsHistory F keys
+abbrev pub HasHistory : Flat → Type 0
+HasHistory F = (keys : ℕ → ℕ) × IsHistory F keys
 
 -- the entries of a history, one after the other, lead from one state to another, through sound states
-abbrev pub Follows : Flat → List (Entry Act) → Flat → Type 0
-Follows F [] G = G ≡ F
-Follows F (e ∷ es) G = (M : Flat) × Leads F e.what M × IsSound M × Follows M es G
+abbrev pub Replays : Flat → List (Entry Act) → Flat → Type 0
+Replays F [] G = G ≡ F
+Replays F (e ∷ es) G = (M : Flat) × Leads F e.what M × HasHistory M × Replays M es G
 
 -- no worker has a claim, and all tickets are worker 0's
 pub record AreIdle (held : ℕ → Holder → Bool) : Type 0 where
@@ -111,7 +111,7 @@ pub record IsRun (log : List (Entry Act)) (F : Flat) : Type 0 where
   pub opening : Flat
   pub shows : ShowsArray array opening
   pub idle : IsIdle opening
-  pub follows : Follows opening rest F
+  pub follows : Replays opening rest F
 
 -- the history leads somewhere
 abbrev pub IsCourse : List (Entry Act) → Type 0

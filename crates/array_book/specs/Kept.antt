@@ -3,14 +3,14 @@ use Rattle.std.specs.Prelude.{◌≡◌, ℕ, ◌<◌, length}
 use Rattle.map_join.specs.declared.records.Record.{Record}
 use Rattle.map_join.specs.Maps.{IsMapOf, IsSame}
 use Rattle.map_join.specs.Record.{record_of}
-use Rattle.array_parts.specs.Views.{IsLost}
+use Rattle.unit_store.specs.Views.{IsLost}
 use Rattle.flat_machine.specs.Flat.{Flat}
 use Rattle.flat_machine.specs.Scanned.{IsScanned}
 use Rattle.slot_tables.specs.Views.{ArrayView, key_at}
 use Rattle.slot_tables.specs.Represents.{ShowsArray}
-use Rattle.background.specs.Marking.{AreMarked, IsNoted}
-use Rattle.background.specs.declared.planner.Planner.{Planner}
-use Rattle.step_core.specs.Headline.{bytes_of}
+use Rattle.tiered_array.specs.Marking.{AreMarked, IsCommitNoted}
+use Rattle.tiered_array.specs.declared.planner.Planner.{Planner}
+use Rattle.step_core.specs.Headline.{slot_bytes}
 
 -- the array, and what its plans go by
 pub record KeptView : Type 0 where
@@ -35,8 +35,8 @@ AreHere a = (b : ℕ) → 0 < key_at a b → IsLost a.parts (record_of b (key_at
 -- what follows of the array: its map is that of its log, and where no newest place is gone it is the one that the headers hold
 pub record Agrees (a : ArrayView) : Type 0 where
   pub map : IsMapOf a.log (key_at a)
-  pub headers : AreHere a → IsScanned (bytes_of a.parts) (key_at a)
-  pub scanned : AreHere a → (M : ℕ → ℕ) → IsScanned (bytes_of a.parts) M → IsSame M (key_at a)
+  pub headers : AreHere a → IsScanned (slot_bytes a.parts) (key_at a)
+  pub scanned : AreHere a → (M : ℕ → ℕ) → IsScanned (slot_bytes a.parts) M → IsSame M (key_at a)
 
 -- the array is another, and nothing else changed
 abbrev pub OnlyArray : KeptView → KeptView → Type 0
@@ -44,4 +44,4 @@ OnlyArray before after = after.planner ≡ before.planner
 
 -- the commit of a record is noted: by the order of last writes, and by its block's mark
 abbrev pub HasNoted : KeptView → KeptView → Record → Type 0
-HasNoted before after r = IsNoted after.array.parts.groups before.planner.ages after.planner.ages r
+HasNoted before after r = IsCommitNoted after.array.parts.groups before.planner.ages after.planner.ages r

@@ -20,7 +20,7 @@ AreReads asked first second steps answers = ((steps ≡ ReadAt asked ∷ []) × 
 abbrev pub AreStepsOf : Act → List FlatStep → List FlatAnswer → Type 0
 AreStepsOf (Opens array) steps answers = ⊥
 AreStepsOf (Steps own given) steps answers = (steps ≡ own) × (answers ≡ given)
-AreStepsOf (Learns asked told content) steps answers = AreReads asked (FoundAt (Data content)) (Found (found_in told.version content)) steps answers
+AreStepsOf (Learns asked reported content) steps answers = AreReads asked (FoundAt (Data content)) (Found (found_in reported.version content)) steps answers
 AreStepsOf (Fails asked q) steps answers = AreReads asked (Refused q) (Refused q) steps answers
 
 -- the steps of a history's entries, one entry after the other
@@ -30,29 +30,29 @@ AreStepsIn (e ∷ es) steps answers = (own later : List FlatStep) × (given retu
     × (steps ≡ own ++ later) × (answers ≡ given ++ returned)
 
 -- the record that an answer reports as committed, and those of a list of answers, in their order
-abbrev pub record_in : FlatAnswer → List Record
-record_in (Committed r) = r ∷ []
-record_in _ = []
+abbrev pub committed_record : FlatAnswer → List Record
+committed_record (Committed r) = r ∷ []
+committed_record _ = []
 
 abbrev pub committed_in : List FlatAnswer → List Record
 committed_in [] = []
-committed_in (answer ∷ answers) = record_in answer ++ committed_in answers
+committed_in (answer ∷ answers) = committed_record answer ++ committed_in answers
 
 -- the fresh content that waits, if one does; and the content of a write, if there is one
 abbrev pub fresh_of : Option Waiting → Option Content
 fresh_of (Some (Fresh x)) = Some x
 fresh_of _ = None
 
-abbrev pub content_of : Option Write → Option Content
-content_of None = None
-content_of (Some w) = Some w.content
+abbrev pub written_content : Option Write → Option Content
+written_content None = None
+written_content (Some w) = Some w.content
 
 -- the fresh content that waits at each slot, and what each block holds: the content of its last write
 abbrev pub waiting_in : Flat → ℕ → Option Content
 waiting_in F s = fresh_of (F.tickets s)
 
 abbrev pub contents_of : Flat → ℕ → Option Content
-contents_of F b = content_of (last_write F.writes b)
+contents_of F b = written_content (last_write F.writes b)
 
 -- what waits after a step: what a fill brought, until its slot is committed or given up
 abbrev pub waits_after : FlatStep → FlatAnswer → (ℕ → Option Content) → ℕ → Option Content
@@ -74,7 +74,7 @@ holds_in (step ∷ steps) (answer ∷ answers) waits holds = holds_in steps answ
 holds_in _ _ waits holds = holds
 
 -- no record is emitted, and each block holds what it held
-pub record IsUnchanged (F G : Flat) : Type 0 where
+pub record HasSameContents (F G : Flat) : Type 0 where
   pub records : G.emitted ≡ F.emitted
   pub contents : (b : ℕ) → contents_of G b ≡ contents_of F b
 

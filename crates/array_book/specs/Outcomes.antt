@@ -9,7 +9,7 @@ use Rattle.flat_machine.specs.declared.refusal.Refusal.TheVariants as refusal
 use Rattle.flat_machine.specs.Flat.{Flat}
 use Rattle.slot_tables.specs.Represents.{ShowsArray}
 use Rattle.step_core.specs.Placing.{Put, Fresh, Again}
-use Rattle.step_core.specs.Told.{Lesson}
+use Rattle.step_core.specs.Reported.{Lesson}
 use Rattle.history.specs.Entries.{Carried, Extends}
 use Rattle.array_book.specs.Acts.{Act, Learns, IsCourse, placed_act, unplaced_act, committed_act, refused_commit, discarded_act, undiscarded_act, refused_read}
 use Rattle.array_book.specs.declared.fault.WorkFault.{WorkFault}
@@ -67,9 +67,9 @@ abbrev pub HasPut : {D E : Type 0} → (D → Record) → (E → Refusal) → Ca
 HasPut of why v what slot block (Ok d) w = HasPlaced v what slot block (of d) w
 HasPut of why v what slot block (Err e) w = HasLeft v what slot block (why e) w
 
-abbrev pub HasTried : {D E : Type 0} → (D → Record) → (E → Refusal) → Carried Act → Put → ℕ → ℕ → Result (Result D E) E → Carried Act → Type 0
-HasTried of why v what slot block (Ok ended) w = HasPut of why v what slot block ended w
-HasTried of why v what slot block (Err e) w = Noted v (unplaced_act what slot block (why e)) w
+abbrev pub HasTriedPut : {D E : Type 0} → (D → Record) → (E → Refusal) → Carried Act → Put → ℕ → ℕ → Result (Result D E) E → Carried Act → Type 0
+HasTriedPut of why v what slot block (Ok ended) w = HasPut of why v what slot block ended w
+HasTriedPut of why v what slot block (Err e) w = Noted v (unplaced_act what slot block (why e)) w
 
 -- the fault that a worker's call returns for a refusal
 abbrev pub fault_of : Refusal → WorkFault
@@ -77,19 +77,19 @@ fault_of refusal.Memory = fault.Memory
 fault_of q = fault.Core q
 
 -- nothing was committed, for a reason that the fault tells: the put was refused, or the commit
-pub record HasFailed (v : Carried Act) (what : Put) (slot block : ℕ) (told : WorkFault) (w : Carried Act) : Type 0 where
+pub record HasFailed (v : Carried Act) (what : Put) (slot block : ℕ) (reported : WorkFault) (w : Carried Act) : Type 0 where
   pub why : Refusal
-  pub told_is : told ≡ fault_of why
+  pub reported_is : reported ≡ fault_of why
   pub noted : Noted v (unplaced_act what slot block why) w ⊎ HasLeft v what slot block why w
 
 -- a write that returned this record put what it was given into one slot and committed that very slot; one that failed had no
 -- slot, or gave it back
 abbrev pub HasWritten : Carried Act → Put → ℕ → Result Record WorkFault → Carried Act → Type 0
 HasWritten v what block (Ok r) w = (slot : ℕ) × HasPlaced v what slot block r w
-HasWritten v what block (Err told) w = ((told ≡ fault.NoRoom) × (w ≡ v)) ⊎ ((slot : ℕ) × HasFailed v what slot block told w)
+HasWritten v what block (Err reported) w = ((reported ≡ fault.NoRoom) × (w ≡ v)) ⊎ ((slot : ℕ) × HasFailed v what slot block reported w)
 
 -- a state of the lock's value, for an array of these sizes, and a flat state that its array shows
-pub record State (blocks payload : ℕ) : Type 0 where
+pub record LockState (blocks payload : ℕ) : Type 0 where
   pub view : KeptView
   pub kept : IsKept blocks payload view
   pub flat : Flat
@@ -97,18 +97,18 @@ pub record State (blocks payload : ℕ) : Type 0 where
 
 -- a plan was made, or there was nothing to plan
 pub record WasPlanned (blocks payload : ℕ) (mirrors : List ℕ) (low : ℕ) (plan : Option Plan) : Type 0 where
-  pub state : State blocks payload
+  pub state : LockState blocks payload
   pub planned : MatchOption plan (IsDone mirrors low state.view) (IsPlanned mirrors low state.view)
 
 -- a slot is the plan's, or one that came next when another could not be claimed
 abbrev pub IsTried : ℕ → ℕ → Plan → ℕ → Type 0
 IsTried blocks payload plan slot = (plan.slot ≡ Some slot)
-    ⊎ ((state : State blocks payload) × (before : ℕ) × IsNext state.view plan before (Some slot))
+    ⊎ ((state : LockState blocks payload) × (before : ℕ) × IsNext state.view plan before (Some slot))
 
 -- the plan had no slot, or none came next when the last one could not be claimed
 abbrev pub HadNoRoom : ℕ → ℕ → Plan → Type 0
 HadNoRoom blocks payload plan = (plan.slot ≡ None)
-    ⊎ ((state : State blocks payload) × (last : ℕ) × IsTried blocks payload plan last × IsNext state.view plan last None)
+    ⊎ ((state : LockState blocks payload) × (last : ℕ) × IsTried blocks payload plan last × IsNext state.view plan last None)
 
 -- a block and a slot that a plan chose
 pub record WasChosen (blocks payload : ℕ) (mirrors : List ℕ) (low : ℕ) (plan : Plan) (slot : ℕ) : Type 0 where
@@ -125,8 +125,8 @@ HasMoved blocks payload mirrors low v (Ok (Moved r)) w =
     (plan : Plan) × (slot : ℕ) × WasChosen blocks payload mirrors low plan slot × HasPlaced v Again slot plan.block r w
 HasMoved blocks payload mirrors low v (Ok (Outrun newer)) w =
     (plan : Plan) × (slot : ℕ) × WasChosen blocks payload mirrors low plan slot × HasFailed v Again slot plan.block (fault.Core (refusal.Outrun newer)) w
-HasMoved blocks payload mirrors low v (Err told) w =
-    (plan : Plan) × (slot : ℕ) × WasChosen blocks payload mirrors low plan slot × HasFailed v Again slot plan.block told w
+HasMoved blocks payload mirrors low v (Err reported) w =
+    (plan : Plan) × (slot : ℕ) × WasChosen blocks payload mirrors low plan slot × HasFailed v Again slot plan.block reported w
 
 -- a read that returned this lesson of the block: one step of the Taker found a written record of that block, the lesson is what was
 -- learned of it, and where the lesson has another record a second step took that
@@ -136,20 +136,20 @@ pub record HasRead (v : Carried Act) (before : View) (block : ℕ) (lesson : Les
   pub of : found.block ≡ block
   pub written : 0 < found.version
   pub asked : HasAsked before block (key_of found) between
-  pub learned : Noted v (Learns found lesson.told lesson.content) w
-  pub learnt : Learnt lesson.told found between after
+  pub learned : Noted v (Learns found lesson.reported lesson.content) w
+  pub learnt : Learnt lesson.reported found between after
 
 -- a read that failed: one step of the Taker found a record of the block, of which nothing was learned
-pub record HasNotRead (v : Carried Act) (before : View) (block : ℕ) (told : WorkFault) (after : View) (w : Carried Act) : Type 0 where
+pub record HasNotRead (v : Carried Act) (before : View) (block : ℕ) (reported : WorkFault) (after : View) (w : Carried Act) : Type 0 where
   pub found : Record
   pub of : found.block ≡ block
   pub asked : HasAsked before block (key_of found) after
   pub why : Refusal
-  pub told_is : told ≡ fault_of why
+  pub reported_is : reported ≡ fault_of why
   pub noted : Noted v (refused_read found why) w
 
 -- what a read of a block added: a lesson; where no record of the block was known, nothing; or a failed read
-abbrev pub HasLooked : Carried Act → View → ℕ → Result (Option Lesson) WorkFault → View → Carried Act → Type 0
-HasLooked v before block (Ok (Some lesson)) after w = HasRead v before block lesson after w
-HasLooked v before block (Ok None) after w = HasAsked before block 0 after × (w ≡ v)
-HasLooked v before block (Err told) after w = HasNotRead v before block told after w
+abbrev pub HasReadBlock : Carried Act → View → ℕ → Result (Option Lesson) WorkFault → View → Carried Act → Type 0
+HasReadBlock v before block (Ok (Some lesson)) after w = HasRead v before block lesson after w
+HasReadBlock v before block (Ok None) after w = HasAsked before block 0 after × (w ≡ v)
+HasReadBlock v before block (Err reported) after w = HasNotRead v before block reported after w

@@ -2,7 +2,7 @@
 use Rattle.std.specs.Prelude.{◌≡◌, ◌⊎◌, ℕ, ◌+◌, ◌/◌, ◌%◌, ◌<◌, ◌==◌, if◌then◌else◌, Option, Some, None, Bool, true, false, List, length, count_by}
 use Rattle.slot_tables.specs.Views.{kept_at, is_kept}
 use Rattle.cleaner.specs.declared.moves.Move.{Move}
-use Rattle.background.specs.Planning.{IsOldestMirrored, IsNextAppend, IsPlugOf, IsCleanOf}
+use Rattle.tiered_array.specs.Planning.{IsOldestMirrored, IsNextAppend, IsPlugOf, IsCleanOf}
 use Rattle.array_book.specs.declared.plan.Plan.{Plan}
 use Rattle.array_book.specs.Kept.{KeptView}
 
@@ -12,8 +12,8 @@ turn_of None slot = 128 + slot
 turn_of (Some group) slot = if group == (slot / 128) then slot % 128 else 128 + slot
 
 -- fewer than `low` of these slots are free: those that the array holds, plus `low`, are more than all of them
-abbrev pub WantsDemotion : KeptView → List ℕ → ℕ → Type 0
-WantsDemotion k mirrors low = length mirrors < count_by (λ slot. is_kept (kept_at k.array slot)) mirrors + low
+abbrev pub NeedsDemotion : KeptView → List ℕ → ℕ → Type 0
+NeedsDemotion k mirrors low = length mirrors < count_by (λ slot. is_kept (kept_at k.array slot)) mirrors + low
 
 -- the plan moves the block in a mirrored group that was written longest ago to where the log goes on
 pub record IsDemotion (k : KeptView) (plan : Plan) : Type 0 where
@@ -32,7 +32,7 @@ pub record IsMoveBy (move : Move) (after : Bool) (plan : Plan) : Type 0 where
 
 -- no demotion is due: there are enough free slots, or no block is in a mirrored group
 abbrev pub NoDemotion : KeptView → List ℕ → ℕ → Type 0
-NoDemotion k mirrors low = WantsDemotion k mirrors low → IsOldestMirrored k.array k.planner None
+NoDemotion k mirrors low = NeedsDemotion k mirrors low → IsOldestMirrored k.array k.planner None
 
 -- a plug, which leaves the log's end where it is, or a clean, after whose slot the log goes on
 abbrev pub IsRegrouped : KeptView → Plan → Type 0
@@ -41,7 +41,7 @@ IsRegrouped k plan =
 
 -- a demotion where one is due, also where there is no slot for it, and else a plug or a clean
 abbrev pub IsPlanned : List ℕ → ℕ → KeptView → Plan → Type 0
-IsPlanned mirrors low k plan = (WantsDemotion k mirrors low × IsDemotion k plan) ⊎ (NoDemotion k mirrors low × IsRegrouped k plan)
+IsPlanned mirrors low k plan = (NeedsDemotion k mirrors low × IsDemotion k plan) ⊎ (NoDemotion k mirrors low × IsRegrouped k plan)
 
 -- no demotion is due, and there is no plug and no clean
 pub record IsDone (mirrors : List ℕ) (low : ℕ) (k : KeptView) : Type 0 where

@@ -21,18 +21,18 @@ shares_of (v ∷ vs) = v.share + shares_of vs
 -- the share of the even controller isn't the whole, or else that of the odd one. Differs: both are, and this is the lowest block of
 -- which the map of all that was taken isn't the array's. Memory: both are.
 abbrev pub IsUnsettled : ℕ → ℕ → List Record → (ℕ → ℕ) → SettleFault → Type 0
-IsUnsettled even odd taken keys (NotWhole told) = ((even ≢ whole) × (told ≡ even)) ⊎ ((even ≡ whole) × (odd ≢ whole) × (told ≡ odd))
+IsUnsettled even odd taken keys (NotWhole reported) = ((even ≢ whole) × (reported ≡ even)) ⊎ ((even ≡ whole) × (odd ≢ whole) × (reported ≡ odd))
 IsUnsettled even odd taken keys (Differs block) = (even ≡ whole) × (odd ≡ whole) × ((M : ℕ → ℕ) → IsMapOf taken M → IsLowestDifference M keys block)
 IsUnsettled even odd taken keys Memory = (even ≡ whole) × (odd ≡ whole)
 
 -- why the words of one controller aren't closed
 abbrev pub IsUnclosed : ℕ → SettleFault → Type 0
-IsUnclosed share (NotWhole told) = (share ≢ whole) × (told ≡ share)
+IsUnclosed share (NotWhole reported) = (share ≢ whole) × (reported ≡ share)
 IsUnclosed share (Differs block) = ⊥
 IsUnclosed share Memory = share ≡ whole
 
 -- why a map isn't found to be the array's: this is the lowest block of which they differ, or out of memory
 abbrev pub IsDiffering : (ℕ → ℕ) → (ℕ → ℕ) → SettleFault → Type 0
-IsDiffering M keys (NotWhole told) = ⊥
+IsDiffering M keys (NotWhole reported) = ⊥
 IsDiffering M keys (Differs block) = IsLowestDifference M keys block
 IsDiffering M keys Memory = Unit {0}

@@ -4,7 +4,7 @@ use Rattle.map_join.specs.declared.records.Record.{Record}
 use Rattle.map_join.specs.Record.{key_of}
 use Rattle.map_words.specs.declared.view.Found.{Found}
 use Rattle.map_words.specs.declared.view.View.{View}
-use Rattle.map_words.specs.Answers.{HasTaken, HasFound, IsNewest}
+use Rattle.map_words.specs.Answers.{HasTaken, HasFound, IsUpperBound}
 use Rattle.array_book.specs.declared.controller.Controller.{Controller}
 use Rattle.array_book.specs.declared.controller.Controller.TheVariants.{Even, Odd}
 use Rattle.array_book.specs.declared.worker.Migration.{Migration}
@@ -46,13 +46,13 @@ Knows taker r = Contains taker.taken r ⊎ ((f : Found) × Contains taker.found 
 
 -- what a read of a block returns, given the view of the Taker before and after: a record of that block that the Taker knows
 -- afterwards, and that isn't below any that it knew
-abbrev pub IsTold : View → ℕ → View → Record → Type 0
-IsTold before block after r = (r.block ≡ block) × Knows after r × IsNewest before block (key_of r)
+abbrev pub IsReadRecord : View → ℕ → View → Record → Type 0
+IsReadRecord before block after r = (r.block ≡ block) × Knows after r × IsUpperBound before block (key_of r)
 
 -- one step more, which found this key at the block; it isn't below any that the Taker knew
 abbrev pub HasAsked : View → ℕ → ℕ → View → Type 0
-HasAsked before block key after = IsNewest before block key × HasFound before block key after
+HasAsked before block key after = IsUpperBound before block key × HasFound before block key after
 
 -- the returned record is the one that was found, and nothing was taken; or it is another, and was taken
 abbrev pub Learnt : Record → Record → View → View → Type 0
-Learnt told found before after = ((told ≡ found) × (after ≡ before)) ⊎ ((told ≢ found) × Took told before after)
+Learnt reported found before after = ((reported ≡ found) × (after ≡ before)) ⊎ ((reported ≢ found) × Took reported before after)

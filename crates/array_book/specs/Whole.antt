@@ -2,7 +2,7 @@
 use Rattle.std.specs.Prelude.{◌≡◌, ◌≢◌, ℕ, ◌==◌, ◌<◌, List, [], ◌∷◌, Bool, true, false, Option, Some, None, IfNone}
 use Rattle.std.specs.List.{list_any}
 use Rattle.history.specs.declared.view.Entry.{Entry}
-use Rattle.history.specs.Entries.{Carried, Course, IsWhole}
+use Rattle.history.specs.Entries.{Carried, Course, IsCoherent}
 use Rattle.slot_tables.specs.Views.{ArrayView, key_at}
 use Rattle.step_core.specs.Headline.{ReadsThrough}
 use Rattle.array_book.specs.Acts.{Act, IsEndOf}
@@ -11,7 +11,7 @@ use Rattle.array_book.specs.OneRun.{IsOneRun}
 -- the history agrees with each of these hands
 abbrev pub AreWhole : Course Act → List (Carried Act) → Type 0
 AreWhole keeper [] = Unit {0}
-AreWhole keeper (hand ∷ hands) = IsWhole keeper hand × AreWhole keeper hands
+AreWhole keeper (hand ∷ hands) = IsCoherent keeper hand × AreWhole keeper hands
 
 -- The array is at the end of one run of the flat machine, from a state that the array of its beginning shows, and its map is the map
 -- of the records of that run. Its drives have at the newest place of each block, unless that slot is gone, the content of the block's

@@ -3,14 +3,13 @@ ghost use Rattle.std.specs.Prelude.{◌≡◌, ◌⊎◌, IfOk, IfErr};
 ghost use Rattle.array_book.specs.Acts.{IsEndOf};
 ghost use Rattle.map_words.specs.Places.{blocks_of};
 ghost use Rattle.map_words.specs.Steps.{given_half as share_given, kept_half as share_kept};
-ghost use Rattle.slot_words.specs.Places.{slots_of};
+ghost use Rattle.slot_words.specs.Places.{table_slots};
 ghost use Rattle.slot_words.specs.Steps.{given_half as right_given, kept_half as right_kept};
 
 use crate::claim::{Claim, Sizes};
 use crate::deed::Deed;
 use crate::ended::Ended;
 use crate::kept::Kept;
-use background::Planner;
 use extents::Drive;
 use history::{Hand, History, Keeper};
 use map_words::MapWords;
@@ -19,6 +18,7 @@ use slot_words::SlotWords;
 use std::alloc::Global;
 use std::sync::Mutex;
 use step_core::Array;
+use tiered_array::Planner;
 
 /// What a Book is made of: the array, its slot words, the maps of two controllers, and the history with its keeper.
 pub type BookParts<D, N, A, B> = (
@@ -44,7 +44,7 @@ pub struct Book<
     pub(crate) mirrors: Vec<u16>,
     pub(crate) blocks: u32,
     pub(crate) payload: u32,
-    pub(crate) ghost slots: { slots_of N.table ≡ 65536 },
+    pub(crate) ghost slots: { table_slots N.table ≡ 65536 },
     pub(crate) ghost many: { blocks ≡ N.blocks },
     pub(crate) ghost size: { payload ≡ N.payload },
     pub(crate) ghost here: { blocks_of A.table ≡ blocks },
@@ -67,7 +67,7 @@ impl<D: Drive, N: slot_words::Naming + Sizes, A: map_words::Naming, B: map_words
         history: (History<N, Deed>, Keeper<N, Deed>),
     ) -> Result<Book<D, N, A, B>, BookParts<D, N, A, B>>
         requires course { IsEndOf history.1.log array }
-        requires slots { slots_of N.table ≡ 65536 }
+        requires slots { table_slots N.table ≡ 65536 }
         requires blocks { array.parts.groups.blocks ≡ N.blocks }
         requires payload { array.parts.groups.payload ≡ N.payload }
         requires even { blocks_of A.table ≡ N.blocks }

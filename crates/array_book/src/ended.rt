@@ -3,7 +3,7 @@ ghost use Rattle.std.specs.Prelude.{◌≡◌, ◌==◌, ◌+◌, ◌++◌, ◌�
 ghost use Rattle.std.specs.List.{list_any};
 ghost use Rattle.array_book.specs.Settling.{taken_by, shares_of};
 ghost use Rattle.array_book.specs.Passes.{joined};
-ghost use Rattle.history.specs.Entries.{IsWhole};
+ghost use Rattle.history.specs.Entries.{IsCoherent};
 ghost use Rattle.array_book.specs.Whole.{AreWhole, IsLowestMissing};
 
 use crate::claim::Sizes;
@@ -51,7 +51,7 @@ pub fn join_all<N: slot_words::Naming + Sizes, A: map_words::Naming, B: map_word
     ensures shares { (first.new.even.share ≡ first.old.even.share + shares_of (map (λ e. e.even) rest.items))
         × (first.new.odd.share ≡ first.old.odd.share + shares_of (map (λ e. e.odd) rest.items)) }
     ensures keeper { keeper.new ≡ keeper.old }
-    ensures first { IsWhole keeper.old first.old.hand }
+    ensures first { IsCoherent keeper.old first.old.hand }
     ensures whole { AreWhole keeper.old (map (λ e. e.hand) rest.items) }
 {
     for other in rest {

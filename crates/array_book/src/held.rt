@@ -5,7 +5,7 @@ ghost use Rattle.migrator.specs.Slots.{end_at};
 ghost use Rattle.step_core.specs.Placing.{Fresh, Again, IsGivenFor, IsWhatFor, block_for, content_of, put_for};
 ghost use Rattle.array_book.specs.Acts.{placed_act, unplaced_act, refused_commit};
 ghost use Rattle.array_book.specs.Kept.{HasNoted};
-ghost use Rattle.array_book.specs.Outcomes.{Noted, HasCommitted, GaveUp, HasEnded, HasTried};
+ghost use Rattle.array_book.specs.Outcomes.{Noted, HasCommitted, GaveUp, HasEnded, HasTriedPut};
 
 use crate::claim::{Claim, Sizes};
 use crate::deed::Deed;
@@ -124,7 +124,7 @@ pub(crate) fn put_in<D: Drive, N: Naming + Sizes>(
     requires block { block < N.blocks }
     requires given { IsGivenFor N.payload given }
     ensures ok { IfOk result (λ ended. IfOk ended (λ done. (done.emitted.block ≡ block) × (0 < done.emitted.version) × (done.emitted.hop ≡ 0))) }
-    ensures called { HasTried (λ done. done.emitted) (λ e. e.refusal) me.old (Fresh (content_of given.entry)) claim.0.slot block result me.new }
+    ensures called { HasTriedPut (λ done. done.emitted) (λ e. e.refusal) me.old (Fresh (content_of given.entry)) claim.0.slot block result me.new }
 {
     let what = What::Fresh(given);
     let claim = match kept::place_in(kept, history, me, words, alloc, claim, what, block) {
@@ -153,7 +153,7 @@ pub(crate) fn move_in<D: Drive, N: Naming + Sizes>(
 ) -> Result<Result<Done<Claim<N>>, Refused<N>>, Refused<N>>
     requires { plan.now.block < N.blocks }
     ensures ok { IfOk result (λ ended. IfOk ended (λ done. (done.emitted.block ≡ plan.now.block) × (0 < done.emitted.version))) }
-    ensures called { HasTried (λ done. done.emitted) (λ e. e.refusal) me.old Again claim.0.slot plan.now.block result me.new }
+    ensures called { HasTriedPut (λ done. done.emitted) (λ e. e.refusal) me.old Again claim.0.slot plan.now.block result me.new }
 {
     let what = What::CopyOf(plan.block);
     let claim = match kept::place_in(kept, history, me, words, alloc, claim, what, plan.block) {

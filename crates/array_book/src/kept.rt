@@ -3,7 +3,7 @@ ghost use Rattle.std.specs.Prelude.{◌≡◌, ◌≢◌, ◌⊎◌, ℕ, ◌<�
 ghost use Rattle.map_join.specs.Record.{key_of, record_at};
 ghost use Rattle.flat_machine.specs.Steps as say;
 ghost use Rattle.flat_machine.specs.Flat.{Flat, Payload, Trim, Worker, Ticket as ticket_of};
-ghost use Rattle.flat_machine.specs.Cases.{FillCase, FillPasses, CopyCase, CopyPasses, CommitCase, DiscardCase, IsWanted, IsBehind};
+ghost use Rattle.flat_machine.specs.Cases.{FillCase, FillPasses, CopyCase, CopyPasses, CommitCase, DiscardCase, IsAllocating, IsNotAhead};
 ghost use Rattle.flat_machine.specs.Learning.{LearnedCase, UnlearnedCase};
 ghost use Rattle.flat_machine.specs.declared.refusal.Refusal.TheVariants as refusal;
 ghost use Rattle.map_join.specs.declared.records.Record.{Record};
@@ -12,14 +12,13 @@ ghost use Rattle.slot_tables.specs.Views.{key_at};
 ghost use Rattle.slot_tables.specs.Represents.{ShowsArray};
 ghost use Rattle.migrator.specs.Slots.{end_at};
 ghost use Rattle.step_core.specs.Refused.{IsRefused};
-ghost use Rattle.step_core.specs.Placing.{Fresh, Again, IsWhatFor, IsWhatOf, PutTells, block_for, put_for};
+ghost use Rattle.step_core.specs.Placing.{Fresh, Again, IsWhatFor, IsWhatOf, PutReports, block_for, put_for};
 ghost use Rattle.array_book.specs.Acts.{put_act, unplaced_act, refused_commit, discard_act, read_act};
 ghost use Rattle.array_book.specs.Kept.{IsKept, Agrees, HasNoted, OnlyArray};
 ghost use Rattle.array_book.specs.Outcomes.{Noted, HasCommitted, HasHop, HasPlaced};
 
 use crate::claim::{Claim, Sizes};
 use crate::deed::{CommitFails, Commits, Deed, Discards, Places, PutFails, Puts, Reads};
-use background::Planner;
 use extents::Drive;
 use flat_machine::Refusal;
 use history::{Hand, History, Keeper};
@@ -28,6 +27,7 @@ use slot_words::{Naming, SlotWords};
 use std::alloc::{AllocError, Global};
 use std::marker::Model;
 use step_core::{Array, Done, Given, Hold, Reading, Ticket, What, place_at_once, put};
+use tiered_array::Planner;
 
 /// An array, what its plans go by, and the keeper of the history that led to it.
 pub struct Kept<D: Drive, N: Naming + Sizes> {
@@ -57,7 +57,7 @@ impl<D: Drive, N: Naming + Sizes> Kept<D, N> {
 
     /// What is true whenever the lock is free, as a law: the call does nothing. The array shows some flat state; its map is that of
     /// its log; and where no newest place is gone it is the map of the headers.
-    pub fn stands(&self)
+    pub fn matches(&self)
         ensures kept { IsKept N.blocks N.payload self.now }
         ensures shows { (F : Flat) × ShowsArray self.now.array F }
         ensures sizes { (self.now.array.parts.groups.blocks ≡ N.blocks) × (self.now.array.parts.groups.payload ≡ N.payload) }
@@ -83,7 +83,7 @@ pub fn put_in<D: Drive, N: Naming + Sizes>(
     ensures rest { OnlyArray kept.old kept.new }
     ensures called { Noted me.old (put_act (put_for what.entry) claim.0.slot (block_for what.entry) result) me.new }
     ensures flat { (F : Flat) (w : ℕ) → ShowsArray kept.old.array F → F.held claim.0.slot (Worker w) ≡ true
-        → PutTells result F w (put_for what.entry) claim.0.slot (block_for what.entry) kept.new.array }
+        → PutReports result F w (put_for what.entry) claim.0.slot (block_for what.entry) kept.new.array }
 {
     let mut claim = claim;
     kept.array.apart_from(words, &mut claim);
@@ -248,7 +248,7 @@ pub fn commit_in<D: Drive, N: Naming + Sizes>(
         → MatchResult result
         (λ done. (G : Flat) × CommitCase F w ticket block (say.Committed done.emitted) G × ShowsArray kept.new.array G)
         (λ e. MayRefuse e.0
-        (IsWanted F (say.Commit w ticket block))
+        (IsAllocating F (say.Commit w ticket block))
         ((G : Flat) × CommitCase F w ticket block (say.Refused e.0) G × ShowsArray kept.new.array G)) }
 {
     let slot = ticket.slot();
@@ -333,16 +333,16 @@ pub fn read_in<D: Drive, N: Naming + Sizes>(
 ) -> Result<Reading, Refusal>
     requires block { «asked».block < N.blocks }
     requires room { IfOk room (λ payload. length payload.items ≡ N.payload) }
-    ensures told { IfOk result (λ reading. (reading.told.block ≡ «asked».block) × (key_of «asked» ≤ key_of reading.told)) }
-    ensures written { IfOk result (λ reading. 0 < «asked».version → 0 < reading.told.version) }
+    ensures reported { IfOk result (λ reading. (reading.reported.block ≡ «asked».block) × (key_of «asked» ≤ key_of reading.reported)) }
+    ensures written { IfOk result (λ reading. 0 < «asked».version → 0 < reading.reported.version) }
     ensures err { IfErr result (IsRefused kept.old.array kept.new.array) }
     ensures memory { IsErrOf result refusal.Memory → IsErr room }
     ensures rest { OnlyArray kept.old kept.new }
     ensures called { Noted me.old (read_act «asked» result) me.new }
     ensures flat { (F : Flat) → ShowsArray kept.old.array F → MatchResult result
-        (λ reading. (G : Flat) × LearnedCase F «asked» reading.told reading.content G × ShowsArray kept.new.array G)
+        (λ reading. (G : Flat) × LearnedCase F «asked» reading.reported reading.content G × ShowsArray kept.new.array G)
         (λ refusal. MayRefuse refusal
-        (IsBehind F «asked»)
+        (IsNotAhead F «asked»)
         ((G : Flat) × UnlearnedCase F «asked» refusal G × ShowsArray kept.new.array G)) }
 {
     let read = kept.array.read_or_learn_into(asked, room);

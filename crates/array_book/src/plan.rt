@@ -1,17 +1,17 @@
 // What a worker moves next, and into which slot.
 ghost use Rattle.std.specs.Prelude.{◌≡◌, ◌↔◌, ◌<◌, MatchOption, IsTrue, true, false, Some, None};
-ghost use Rattle.background.specs.Planning.{IsOldestMirrored, IsNextAppend, IsPlugOf, IsCleanOf};
-ghost use Rattle.array_book.specs.Planned.{IsPlanned, IsDone, IsMoveBy, IsNext, IsRegrouped, WantsDemotion, NoDemotion, turn_of};
-ghost use Rattle.array_book.specs.Outcomes.{State, WasPlanned};
+ghost use Rattle.tiered_array.specs.Planning.{IsOldestMirrored, IsNextAppend, IsPlugOf, IsCleanOf};
+ghost use Rattle.array_book.specs.Planned.{IsPlanned, IsDone, IsMoveBy, IsNext, IsRegrouped, NeedsDemotion, NoDemotion, turn_of};
+ghost use Rattle.array_book.specs.Outcomes.{LockState, WasPlanned};
 
 use crate::claim::Sizes;
 use crate::kept::Kept;
-use background::Any;
 use cleaner::Move;
 use extent_groups::SLOTS;
 use extents::Drive;
 use migrator::Free;
 use slot_words::Naming;
+use tiered_array::Any;
 
 // A block that is to be moved.
 #[derive(Drop)]
@@ -34,10 +34,10 @@ pub(crate) fn slot_after<D: Drive, N: Naming + Sizes>(
     slot: u16,
 ) -> Option<u16>
     ensures next { IsNext kept.now plan.now slot result }
-    ensures seen { (state : State N.blocks N.payload) × IsNext state.view plan.now slot result }
+    ensures seen { (state : LockState N.blocks N.payload) × IsNext state.view plan.now slot result }
     ensures later { MatchOption result (Unit {0}) (λ next. turn_of plan.now.group slot < turn_of plan.now.group next) }
 {
-    kept.stands();
+    kept.matches();
     if !plan.demotes {
         return None;
     }
@@ -85,7 +85,7 @@ pub(crate) fn plan_in<D: Drive, N: Naming + Sizes>(
     ensures seen { WasPlanned N.blocks N.payload mirrors.now low result }
     ensures same { kept.new ≡ kept.old }
 {
-    kept.stands();
+    kept.matches();
     match due_demotion(kept, mirrors, low) {
         Some(block) => Some(demotion(kept, block)),
         None => regrouped(kept),
@@ -100,10 +100,10 @@ fn due_demotion<D: Drive, N: Naming + Sizes>(
 ) -> Option<u32>
     ensures block { MatchOption result (Unit {0}) (λ block. block < N.blocks) }
     ensures due { MatchOption result (NoDemotion kept.old mirrors.now low)
-        (λ block. WantsDemotion kept.old mirrors.now low × IsOldestMirrored kept.old.array kept.old.planner (Some block)) }
+        (λ block. NeedsDemotion kept.old mirrors.now low × IsOldestMirrored kept.old.array kept.old.planner (Some block)) }
     ensures same { kept.new ≡ kept.old }
 {
-    if wants_demotion(kept, mirrors, low) {
+    if needs_demotion(kept, mirrors, low) {
         kept.planner.oldest_mirrored(&kept.array)
     } else {
         None
@@ -154,8 +154,8 @@ fn moved(plan: Move, appends: bool) -> Plan
 }
 
 // Whether fewer than `low` of these slots are free. The rest aren't looked at once the array holds too many.
-fn wants_demotion<D: Drive, N: Naming + Sizes>(kept: &Kept<D, N>, mirrors: &[u16], low: u32) -> bool
-    ensures { IsTrue result ↔ WantsDemotion kept.now mirrors.now low }
+fn needs_demotion<D: Drive, N: Naming + Sizes>(kept: &Kept<D, N>, mirrors: &[u16], low: u32) -> bool
+    ensures { IsTrue result ↔ NeedsDemotion kept.now mirrors.now low }
 {
     let Some(mut spare) = mirrors.len().checked_sub(low as usize) else {
         return true;

@@ -1,32 +1,38 @@
 // Workers in threads of their own.
-ghost use Rattle.std.specs.Prelude.{◌≡◌};
-ghost use Rattle.std.specs.Thread.{IsSend};
+ghost use Rattle.std.specs.Prelude.{◌≡◌, ℕ, map, OnOk, Ok};
+ghost use Rattle.std.specs.List.{All};
+ghost use Rattle.history.specs.Entries.{Carried};
+ghost use Rattle.array_book.specs.Acts.{Act};
 ghost use Rattle.array_book.specs.Numbers.{run_number};
-ghost use Rattle.array_book.specs.Running.{lowest_of};
+ghost use Rattle.array_book.specs.Running.{AreDone, lowest_of};
 
 use crate::claim::Sizes;
 use crate::fault::WorkFault;
 use crate::worker::Worker;
 use extents::Drive;
-use std::alloc::{AllocFailed, Global};
+use std::alloc::Global;
 use std::sync::Wait;
 use std::thread;
-use std::thread::{JoinHandle, Scope, Threads};
+use std::thread::Threads;
 
 /// What each worker does.
 pub trait Job<D: Drive, N: slot_words::Naming + Sizes, A: map_words::Naming, B: map_words::Naming> {
+    // What the job of a worker with this number leaves of its hand.
+    ghost leaves: { Self → ℕ → Carried Act → Carried Act → Type 0 };
+
     fn work<R: Wait>(
         &self,
         rt: &R,
         alloc: Global,
         worker: &mut Worker<'_, D, N, A, B>,
-    ) -> Result<(), WorkFault>;
+    ) -> Result<(), WorkFault>
+        ensures { OnOk result (leaves self.now worker.old.number worker.old.hand worker.new.hand) };
 }
 
 /// Why not all work was done.
 #[derive(Clone, Copy, Debug, PartialEq, Eq)]
 pub enum RunFault {
-    /// Also where a thread could not be started.
+    /// Out of memory for what the workers have, before any job.
     Memory,
     /// The lowest number of a worker whose job failed, and the fault.
     Job(u8, WorkFault),
@@ -44,7 +50,7 @@ impl RunFault {
     }
 }
 
-/// Starts one thread for each worker, and joins all.
+/// Runs each worker in a thread of its own, or after another one where no thread can be made, until all jobs have ended.
 pub fn run_workers<
     D: Drive + Send,
     N: slot_words::Naming + Sizes + Send + Sync,
@@ -52,67 +58,30 @@ pub fn run_workers<
     B: map_words::Naming + Send + Sync,
     J: Job<D, N, A, B> + Sync,
     R: Threads + Wait + Sync,
->(rt: &R, alloc: Global, workers: &mut [Worker<'_, D, N, A, B>], job: &J) -> Result<(), RunFault> {
-    let each = workers.iter_mut();
-    thread::scope(
-        thread::scope_env(),
-        rt,
-        move |scope| -> Result<(), RunFault>
-            requires { IsSend D.row × IsSend N.row × IsSend A.row × IsSend B.row }
-        {
-            let mut handles = Vec::new(alloc);
-            let mut started = Ok(());
-            let task = (rt, alloc, job);
-            for worker in each {
-                let number = worker.number();
-                let Some(handle) = start(scope, task, worker) else {
-                    started = Err(RunFault::Memory);
-                    break;
-                };
-                if let Err(AllocFailed { value }) = handles.push((number, handle)) {
-                    let _ = value.1.join(rt);
-                    started = Err(RunFault::Memory);
-                    break;
-                }
-            }
-            join_all(rt, handles, started)
-        },
-    )
-}
-
-// Starts a worker in a thread of its own.
-fn start<
-    's,
-    'b: 's,
-    E,
-    D: Drive + Send + 's,
-    N: slot_words::Naming + Sizes + Send + Sync + 's,
-    A: map_words::Naming + Send + Sync + 's,
-    B: map_words::Naming + Send + Sync + 's,
-    J: Job<D, N, A, B> + Sync + 's,
-    R: Wait + Sync + 's,
->(
-    scope: &Scope<'s, E>,
-    task: (&'s R, Global, &'s J),
-    worker: &'s mut Worker<'b, D, N, A, B>,
-) -> Option<JoinHandle<Result<(), WorkFault>>> {
-    let (rt, alloc, job) = task;
-    match scope.spawn(move || job.work(rt, alloc, worker)) {
-        Ok(handle) => Some(handle),
-        Err(_) => None,
+>(rt: &R, alloc: Global, workers: &mut [Worker<'_, D, N, A, B>], job: &J) -> Result<(), RunFault>
+    ensures { OnOk result (AreDone (J.leaves job.now) (map (λ w. w.number) workers.old) (map (λ w. w.hand) workers.old) (map (λ w. w.hand) workers.new)) }
+{
+    if workers.is_empty() {
+        return Ok(());
     }
+    let threads = workers.len();
+    let each = |_place: usize, worker: &mut Worker<'_, D, N, A, B>|
+        ensures { OnOk worker.exit.now.outcome (J.leaves job.entry.now worker.entry.now.number worker.entry.now.hand worker.exit.now.hand) }
+    { worker.outcome = job.work(rt, alloc, worker) };
+    thread::for_each_mut(rt, workers, threads, &each);
+    first_fault(workers)
 }
 
-// Joins all threads, and returns the fault of the worker of the lowest number.
-fn join_all<R: Threads>(
-    rt: &R,
-    handles: Vec<(u8, JoinHandle<Result<(), WorkFault>>)>,
-    started: Result<(), RunFault>,
-) -> Result<(), RunFault> {
-    let mut result = started;
-    for (number, handle) in handles {
-        if let Err(fault) = handle.join(rt) {
-            result = lowest(result, number, fault);
+// The fault of the worker of the lowest number whose job failed.
+fn first_fault<D: Drive, N: slot_words::Naming + Sizes, A: map_words::Naming, B: map_words::Naming>(
+    workers: &[Worker<'_, D, N, A, B>],
+) -> Result<(), RunFault>
+    ensures { OnOk result (All (λ w. w.outcome ≡ Ok tt) workers.now) }
+{
+    let mut result = Ok(());
+    for worker in workers {
+        if let Err(fault) = worker.outcome {
+            result = lowest(result, worker.number, fault);
         }
     }
     result

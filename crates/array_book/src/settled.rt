@@ -56,7 +56,7 @@ pub fn settle<D: Drive, N: slot_words::Naming + Sizes, A: map_words::Naming, B: 
     let (array, words, maps, (history, mut keeper)) = book.into_parts();
     array.whole();
     let missing = lowest_missing(keeper.hired(), &ended);
-    let (told, pass) = close_all(alloc, &words, maps, &history, &mut keeper, ended, &array);
+    let (reported, pass) = close_all(alloc, &words, maps, &history, &mut keeper, ended, &array);
     let settled = Settled {
         array,
         words,
@@ -65,7 +65,7 @@ pub fn settle<D: Drive, N: slot_words::Naming + Sizes, A: map_words::Naming, B: 
         keeper,
         missing,
     };
-    match told {
+    match reported {
         Ok(()) => Ok(settled),
         Err(fault) => Err((fault, settled)),
     }
@@ -99,6 +99,6 @@ fn close_all<D: Drive, N: slot_words::Naming + Sizes, A: map_words::Naming, B: m
         odd,
         hand: _,
     } = first;
-    let told = close_and_compare(alloc, (maps.0, even), (maps.1, odd), array);
-    (told, Some(pass))
+    let reported = close_and_compare(alloc, (maps.0, even), (maps.1, odd), array);
+    (reported, Some(pass))
 }

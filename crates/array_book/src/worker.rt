@@ -1,18 +1,18 @@
 // One thread's hands on a Book.
 ghost use Rattle.std.specs.Prelude.{◌≡◌, ◌≢◌, ℕ, ◌<◌, length, IfOk, IfErr, IfSome, IfNone, OnOk, OnErr, MatchOption, MatchResult, Ok, Err, Some, None};
 ghost use Rattle.map_join.specs.declared.records.Record.{Record};
-ghost use Rattle.step_core.specs.Told.{Lesson};
-ghost use Rattle.map_words.specs.Answers.{HasFound, IsNewest, key_in};
+ghost use Rattle.step_core.specs.Reported.{Lesson};
+ghost use Rattle.map_words.specs.Answers.{HasFound, IsUpperBound, key_or_zero};
 ghost use Rattle.map_join.specs.Record.{key_of};
 ghost use Rattle.flat_machine.specs.Flat.{Payload, Trim};
 ghost use Rattle.flat_machine.specs.declared.refusal.Refusal.{Refusal};
 ghost use Rattle.flat_machine.specs.declared.refusal.Refusal.TheVariants as refusal;
-ghost use Rattle.slot_words.specs.Places.{slots_of};
+ghost use Rattle.slot_words.specs.Places.{table_slots};
 ghost use Rattle.step_core.specs.Placing.{Fresh, Again, content_of, IsGivenFor};
 ghost use Rattle.array_book.specs.Acts.{unplaced_act};
-ghost use Rattle.array_book.specs.Takes.{controller_of, taker_of, other_of, AreSame, HasAsked, HasMigrated, Took, Learnt, IsTold};
+ghost use Rattle.array_book.specs.Takes.{controller_of, taker_of, other_of, AreSame, HasAsked, HasMigrated, Took, Learnt, IsReadRecord};
 ghost use Rattle.array_book.specs.Outcomes.{HasFailed, HasPut, HasWritten, fault_of};
-ghost use Rattle.array_book.specs.Outcomes.{WasPlanned, IsTried, HadNoRoom, HasMoved, HasLooked};
+ghost use Rattle.array_book.specs.Outcomes.{WasPlanned, IsTried, HadNoRoom, HasMoved, HasReadBlock};
 ghost use Rattle.array_book.specs.declared.fault.WorkFault.TheVariants.{Core};
 
 use crate::book::Book;
@@ -50,6 +50,8 @@ pub struct Worker<
     pub(crate) even: Taker<A>,
     pub(crate) odd: Taker<B>,
     pub(crate) hand: Hand<N, Deed>,
+    // How its last job ended.
+    pub(crate) outcome: Result<(), WorkFault>,
 }
 
 /// The outcome of a migration.
@@ -91,6 +93,7 @@ impl<
             even,
             odd,
             hand,
+            outcome: Ok(()),
         }
     }
 
@@ -304,19 +307,19 @@ impl<
     }
 
     // Takes a record into a controller's words.
-    fn take(&mut self, controller: Controller, told: Record)
-        requires block { «told».block < self.old.book.now.blocks }
-        requires written { 0 < «told».version }
-        ensures taken { Took «told» (taker_of controller self.old.even self.old.odd) (taker_of controller self.new.even self.new.odd) }
+    fn take(&mut self, controller: Controller, reported: Record)
+        requires block { «reported».block < self.old.book.now.blocks }
+        requires written { 0 < «reported».version }
+        ensures taken { Took «reported» (taker_of controller self.old.even self.old.odd) (taker_of controller self.new.even self.new.odd) }
         ensures other { other_of controller self.new.even self.new.odd ≡ other_of controller self.old.even self.old.odd }
         ensures rest { (self.new.hand ≡ self.old.hand) × (self.new.number ≡ self.old.number) × (self.new.book ≡ self.old.book) }
     {
         match controller {
             Controller::Even => {
-                self.book.even.take(&mut self.even, told);
+                self.book.even.take(&mut self.even, reported);
             }
             Controller::Odd => {
-                self.book.odd.take(&mut self.odd, told);
+                self.book.odd.take(&mut self.odd, reported);
             }
         }
     }
@@ -443,8 +446,8 @@ impl<
     ) -> Result<Option<Reading>, WorkFault>
         requires { block < self.old.book.now.blocks }
         ensures some { (reading : Lesson) → result ≡ Ok (Some reading)
-            → IsTold (taker_of controller self.old.even self.old.odd) block (taker_of controller self.new.even self.new.odd) reading.told }
-        ensures called { HasLooked self.old.hand (taker_of controller self.old.even self.old.odd) block result
+            → IsReadRecord (taker_of controller self.old.even self.old.odd) block (taker_of controller self.new.even self.new.odd) reading.reported }
+        ensures called { HasReadBlock self.old.hand (taker_of controller self.old.even self.old.odd) block result
             (taker_of controller self.new.even self.new.odd) self.new.hand }
         ensures other { other_of controller self.new.even self.new.odd ≡ other_of controller self.old.even self.old.odd }
         ensures fault { result ≢ Err (Core refusal.Memory) }
@@ -474,9 +477,9 @@ impl<
     // The newest record of the block in the controller's words.
     fn find(&mut self, controller: Controller, block: u32) -> Option<Record>
         requires { block < self.old.book.now.blocks }
-        ensures newest { IsNewest (taker_of controller self.old.even self.old.odd) block (key_in result) }
+        ensures newest { IsUpperBound (taker_of controller self.old.even self.old.odd) block (key_or_zero result) }
         ensures block { MatchOption result (Unit {0}) (λ r. (r.block ≡ block) × (0 < r.version)) }
-        ensures found { HasFound (taker_of controller self.old.even self.old.odd) block (key_in result) (taker_of controller self.new.even self.new.odd) }
+        ensures found { HasFound (taker_of controller self.old.even self.old.odd) block (key_or_zero result) (taker_of controller self.new.even self.new.odd) }
         ensures other { other_of controller self.new.even self.new.odd ≡ other_of controller self.old.even self.old.odd }
         ensures rest { (self.new.hand ≡ self.old.hand) × (self.new.number ≡ self.old.number) × (self.new.book ≡ self.old.book) }
     {
@@ -487,15 +490,15 @@ impl<
     }
 
     // Takes what was learned, where it isn't what was found.
-    fn learn(&mut self, controller: Controller, found: Record, told: Record)
-        requires block { «told».block < self.old.book.now.blocks }
-        requires written { 0 < «told».version }
-        ensures learnt { Learnt «told» «found» (taker_of controller self.old.even self.old.odd) (taker_of controller self.new.even self.new.odd) }
+    fn learn(&mut self, controller: Controller, found: Record, reported: Record)
+        requires block { «reported».block < self.old.book.now.blocks }
+        requires written { 0 < «reported».version }
+        ensures learnt { Learnt «reported» «found» (taker_of controller self.old.even self.old.odd) (taker_of controller self.new.even self.new.odd) }
         ensures other { other_of controller self.new.even self.new.odd ≡ other_of controller self.old.even self.old.odd }
         ensures rest { (self.new.hand ≡ self.old.hand) × (self.new.number ≡ self.old.number) × (self.new.book ≡ self.old.book) }
     {
-        if told != found {
-            self.take(controller, told);
+        if reported != found {
+            self.take(controller, reported);
         }
     }
 
@@ -510,6 +513,7 @@ impl<
             even,
             odd,
             hand,
+            outcome: _,
         } = self;
         Ended {
             pass,
@@ -528,7 +532,7 @@ fn claim_planned<R: Wait, D: Drive, N: slot_words::Naming + Sizes>(
     pass: &mut Pass<N>,
     plan: &Plan,
 ) -> Option<slot_words::Claim<N>>
-    requires { slots_of N.table ≡ 65536 }
+    requires { table_slots N.table ≡ 65536 }
     ensures some { IfSome result (λ claim. IsTried N.blocks N.payload plan.now claim.slot) }
     ensures none { IfNone result (HadNoRoom N.blocks N.payload plan.now) }
 {

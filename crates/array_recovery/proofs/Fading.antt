@@ -8,11 +8,11 @@ use Rattle.extent_groups.specs.Groups.{Groups}
 use Rattle.extent_groups.specs.Cells.{Cells, held}
 use Rattle.extent_groups.specs.Units.{Site, Pair, InStripe, or_else, others, row_of, unit_at, unit_in, IsSoundAt, site_of}
 use Rattle.extent_groups.specs.Calls.{Fades, FadesAt}
-use Rattle.extent_groups.specs.Layout.{IsWhole, IsLayout}
+use Rattle.extent_groups.specs.Layout.{IsDriveDisjoint, IsLayout}
 use Rattle.extent_groups.specs.Stores.{unit_bytes, KeepsAt}
 use Rattle.extent_groups.proofs.Fading.{faded, fade_effective, fade_sound, row_fades}
 use Rattle.flat_machine.specs.Flat.{Stored}
-use Rattle.array_parts.specs.Shows.{IsUnit, ShowsUnits}
+use Rattle.unit_store.specs.Shows.{IsUnit, ShowsUnits}
 
 -- the first of two
 first_fades : (a x b y : Option (List ℕ)) → Fades a x → ((v : List ℕ) → y ≡ Some v → b ≡ Some v) → ((u v : List ℕ) → a ≡ Some u → b ≡ Some v → u ≡ v)
@@ -22,7 +22,7 @@ first_fades None None b y h k same v e = k v e
 first_fades (Some u) None b y h k same v e = ap (λ w. Some w) (same u v refl (k v e))
 
 -- a sound site whose unit has its size
-site_kept : (n : ℕ) (c d : Cells) (t : Site) → ((v : List ℕ) → unit_at n c t ≡ Some v → length v ≡ n) → IsWhole t → ((x : Place) → FadesAt c d x) → IsSoundAt n c t → KeepsAt n c d t
+site_kept : (n : ℕ) (c d : Cells) (t : Site) → ((v : List ℕ) → unit_at n c t ≡ Some v → length v ≡ n) → IsDriveDisjoint t → ((x : Place) → FadesAt c d x) → IsSoundAt n c t → KeepsAt n c d t
 site_kept n c d (Pair p q) sized whole fades sound = record {
   unit = first_fades (held c p) (held d p) (held c q) (held d q) (fades p) (λ v e. faded (held c q) (held d q) v (fades q) e) sound;
   sound = λ u v eu ev. sound u v (faded (held c p) (held d p) u (fades p) eu) (faded (held c q) (held d q) v (fades q) ev);

@@ -4,7 +4,7 @@ use Rattle.std.proofs.lemmas.Option.{same_Some, none-some, slice_get_within, sli
 use Rattle.std.proofs.lemmas.List.{length-set}
 use Rattle.std.proofs.Math.Seq.{take-append_seam}
 use Rattle.extents.specs.Condition.{Held}
-use Rattle.extents.specs.Units.{IsSized}
+use Rattle.extents.specs.Units.{AreUnitsSized}
 use Rattle.extents.specs.declared.mem_drive.Condition.TheVariants.{Present}
 use Rattle.extent_groups.specs.declared.place.Place.{Place}
 use Rattle.extent_groups.specs.Cells.{Cells}
@@ -35,14 +35,14 @@ get_set xs i x j y low e = elim (same_or_not j i) [
   | inr ne ↦ inr (ne, sym (get-set_other xs i j x ne) ∙ e)
 ]
 
-pub sized_set : (size : ℕ) (units : List (List ℕ)) (i : ℕ) (unit : List ℕ) → i < length units → IsSized size units → length unit ≡ size → IsSized size (slice_set units i unit)
+pub sized_set : (size : ℕ) (units : List (List ℕ)) (i : ℕ) (unit : List ℕ) → i < length units → AreUnitsSized size units → length unit ≡ size → AreUnitsSized size (slice_set units i unit)
 sized_set size units i unit low sized long at u e = elim (get_set units i unit at u low e) [ inl here ↦ ap length (sym here.1) ∙ long | inr other ↦ sized at u other.1 ]
 
 pub long_set : (units : List (List ℕ)) (i : ℕ) (unit : List ℕ) → length (slice_set units i unit) ≡ length units
 long_set units i unit = length-set units i unit
 
 -- units of one size are of the length that one of them has
-pub unit_size : (size long at : ℕ) (units : List (List ℕ)) → at < length units → IsSized size units → IsSized long units → long ≡ size
+pub unit_size : (size long at : ℕ) (units : List (List ℕ)) → at < length units → AreUnitsSized size units → AreUnitsSized long units → long ≡ size
 unit_size size long at units low sized same = elim (slice_get_cases units at).1 [
   | inl is ↦ sym (same at is.0 is.2) ∙ sized at is.0 is.2
   | inr past ↦ (let high = past.0 in absurd (omega (arith, high, low)))
@@ -57,12 +57,12 @@ filled_more c d i units unit low filled is at below = elim (same_or_not at i) [
 ]
 
 -- a drive more
-pub formed_more : (count size : ℕ) (caches : List Held) (m : Held) → AreFormed count size caches → m.condition ≡ Present → length m.units ≡ count → IsSized size m.units
+pub formed_more : (count size : ℕ) (caches : List Held) (m : Held) → AreFormed count size caches → m.condition ≡ Present → length m.units ≡ count → AreUnitsSized size m.units
     → AreFormed count size (caches ++ m ∷ [])
 formed_more count size caches m formed present many sized = record {
   present = λ d x e. elim (get_more caches m x d e) [ inl last ↦ subst (λ (h : Held). h.condition ≡ Present) last.1 present | inr early ↦ formed.present d x early.1 ];
   many = λ d x e. elim (get_more caches m x d e) [ inl last ↦ subst (λ (h : Held). length h.units ≡ count) last.1 many | inr early ↦ formed.many d x early.1 ];
-  sized = λ d x e. elim (get_more caches m x d e) [ inl last ↦ subst (λ (h : Held). IsSized size h.units) last.1 sized | inr early ↦ formed.sized d x early.1 ];
+  sized = λ d x e. elim (get_more caches m x d e) [ inl last ↦ subst (λ (h : Held). AreUnitsSized size h.units) last.1 sized | inr early ↦ formed.sized d x early.1 ];
 }
 
 pub units_more : (lost : List Bool) (c : Cells) (caches : List Held) (m : Held) → HaveUnits lost c caches
@@ -103,8 +103,8 @@ module _ (count size : ℕ) (caches : List Held) (formed : AreFormed count size 
     ];
     sized = λ d x e. elim (get_set caches number now d x within e) [
       | inl here ↦
-          subst (λ (h : Held). IsSized size h.units) here.1
-          (subst (λ (u : List (List ℕ)). IsSized size u) (sym written) (sized_set size was.units address unit inside (formed.sized number was is) long))
+          subst (λ (h : Held). AreUnitsSized size h.units) here.1
+          (subst (λ (u : List (List ℕ)). AreUnitsSized size u) (sym written) (sized_set size was.units address unit inside (formed.sized number was is) long))
       | inr other ↦ formed.sized d x other.1
     ];
   }
@@ -142,9 +142,9 @@ module _ (count size : ℕ) (caches : List Held) (formed : AreFormed count size 
       ]
 
 -- a write that no drive in memory has a unit for
-pub units_beside : (lost : List Bool) (c : Cells) (caches : List Held) (place : Place) (unit : List ℕ) → HaveUnits lost c caches
+pub units_nearby : (lost : List Bool) (c : Cells) (caches : List Held) (place : Place) (unit : List ℕ) → HaveUnits lost c caches
     → ((d at : ℕ) (m : Held) → slice_get caches d ≡ Some m → is_lost lost d ≡ false → at < length m.units → (d ≢ place.drive) ⊎ (at ≢ place.address))
     → HaveUnits lost (with_unit c (write place unit)) caches
-units_beside lost c caches place unit have apart = record {
+units_nearby lost c caches place unit have apart = record {
   each = λ d at m e not low. write_else c place unit d at (apart d at m e not low) ∙ have.each d at m e not low;
 }

@@ -3,7 +3,7 @@ use Rattle.std.proofs.Common.{◌≡◌, ◌≤◌, ◌<◌, ◌+◌, inl, inr, 
 use Rattle.std.specs.Prelude.{◌||◌, ◌==◌, not, slice_index_or}
 use Rattle.std.proofs.lemmas.Option.{same_Some, none-some, slice_get_cases, slice_get_past}
 use Rattle.extent_groups.proofs.Places.{same_or_not, get-set_same, get-set_other}
-use Rattle.vault.specs.Images.{is_lost, is_on}
+use Rattle.vault.specs.Images.{is_lost, is_some_true}
 use Rattle.array_recovery.specs.Found.{AreGone, is_marked}
 
 -- the element of an index
@@ -23,10 +23,10 @@ pub gone_more : (marks : List ℕ) (absent lost : List Bool) (n mark : ℕ) (awa
     → (d : ℕ) → d < n + 1 → is_lost (slice_set lost n b) d ≡ (is_marked marks d || is_lost absent d)
 gone_more marks absent lost n mark away b low marked is_away is before d below = elim (same_or_not d n) [
   | inl here ↦
-      ap (λ k. is_on (slice_get (slice_set lost n b) k)) here ∙ ap is_on (get-set_same lost n b low) ∙ is
-      ∙ ap (λ m. not (m == 0) || away) (sym (index_is marks n mark marked)) ∙ ap (λ o. is_marked marks n || is_on o) (sym is_away)
+      ap (λ k. is_some_true (slice_get (slice_set lost n b) k)) here ∙ ap is_some_true (get-set_same lost n b low) ∙ is
+      ∙ ap (λ m. not (m == 0) || away) (sym (index_is marks n mark marked)) ∙ ap (λ o. is_marked marks n || is_some_true o) (sym is_away)
       ∙ ap (λ k. is_marked marks k || is_lost absent k) (sym here)
-  | inr ne ↦ ap is_on (get-set_other lost n d b ne) ∙ before d (grind arith)
+  | inr ne ↦ ap is_some_true (get-set_other lost n d b ne) ∙ before d (grind arith)
 ]
 
 -- all drives
@@ -37,7 +37,7 @@ gone_all marks absent lost m a l before = record {
     | inl is ↦ (let low = is.1 in before d (omega (arith, low, l)))
     | inr past ↦
         (let high = past.0 in
-        ap is_on past.1
-        ∙ sym (ap (λ n. not (n == 0) || is_lost absent d) (index_past marks d (omega (arith, high, l, m))) ∙ ap is_on (slice_get_past absent d (omega (arith, high, l, a)))))
+        ap is_some_true past.1
+        ∙ sym (ap (λ n. not (n == 0) || is_lost absent d) (index_past marks d (omega (arith, high, l, m))) ∙ ap is_some_true (slice_get_past absent d (omega (arith, high, l, a)))))
   ];
 }

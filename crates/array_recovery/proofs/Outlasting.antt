@@ -7,13 +7,14 @@ use Rattle.std.proofs.lemmas.Option.{same_Some, slice_get_past, slice_get_within
 use Rattle.extent_groups.specs.Groups.{Groups}
 use Rattle.extent_groups.specs.Cells.{Cells}
 use Rattle.extent_groups.specs.Planned.{after}
-use Rattle.array_parts.specs.Views.{DriveView}
-use Rattle.vault.specs.Images.{Image, flat, is_lost, is_on, recovered}
+use Rattle.unit_store.specs.Views.{DriveView}
+use Rattle.tiered_array.specs.Views.{TiersView}
+use Rattle.vault.specs.Images.{Image, flat, is_lost, is_some_true, recovered}
 use Rattle.vault.specs.Moments.{IsFront}
 use Rattle.vault.specs.declared.store.Stop.{Stop}
 use Rattle.vault.specs.declared.store.Stop.TheVariants.{Killed, PowerLost}
 use Rattle.journaled_store.specs.Outlasting.{OpensBut, Point, Works, allowed, parts_of}
-use Rattle.journaled_store.specs.Steps.{IsLive, mark_of}
+use Rattle.journaled_store.specs.Steps.{IsUpToDate, mark_of}
 use Rattle.journaled_store.proofs.Opening.{alone}
 use Rattle.array_recovery.specs.Found.{IsTable, OnlyRead, is_marked}
 use Rattle.array_recovery.specs.Reopened.{CoversGone, EndsAt, IsOpenedWith, IsSoundFor, marked}
@@ -39,12 +40,12 @@ one_of true b back is = refl
 one_of false b back is = back is
 
 -- each stop may leave the same
-one_list : (lost : List Bool) (list : List (List ℕ)) (groups : Groups) (count : ℕ) (c : Cells) (stop : Stop) → OpensBut lost list groups count c → OpensBut lost (allowed stop list list) groups count c
-one_list lost list groups count c Killed o = o
-one_list lost list groups count c PowerLost o = o
+one_list : (shows : TiersView → List ℕ → Type 0) (lost : List Bool) (list : List (List ℕ)) (groups : Groups) (count : ℕ) (c : Cells) (stop : Stop) → OpensBut shows lost list groups count c → OpensBut shows lost (allowed stop list list) groups count c
+one_list shows lost list groups count c Killed o = o
+one_list shows lost list groups count c PowerLost o = o
 
-module _ {V : Type 0} (seen : V → Image) (may_leave : V → Stop → Image → Type 0) (moment : V → ℕ) (left_since : V → Stop → ℕ → Image → Type 0)
-    (bytes : List ℕ) (groups : Groups) (drives units : ℕ) (absent : List Bool) (vault : V) (is : IsSoundFor seen may_leave bytes groups drives units absent vault) where
+module _ {V : Type 0} (shows : TiersView → List ℕ → Type 0) (seen : V → Image) (may_leave : V → Stop → Image → Type 0) (moment : V → ℕ) (left_since : V → Stop → ℕ → Image → Type 0)
+    (what : List ℕ) (groups : Groups) (drives units : ℕ) (absent : List Bool) (vault : V) (is : IsSoundFor shows seen may_leave what groups drives units absent vault) where
   abbrev marks_were : List ℕ
   marks_were = is.left.kept.marks
 
@@ -56,7 +57,7 @@ module _ {V : Type 0} (seen : V → Image) (may_leave : V → Stop → Image →
 
   -- a drive of the old array was lost if it is marked
   mark_was : (d : ℕ) (v : DriveView) → slice_get olds d ≡ Some v → is_lost were_lost d ≡ v.lost
-  mark_was d v e = marked_is marks_were d ∙ ap (λ mark. not (mark == 0)) (index_is marks_were d (mark_of v.lost) (is.left.kept.told.each d v e)) ∙ mark_says v.lost
+  mark_was d v e = marked_is marks_were d ∙ ap (λ mark. not (mark == 0)) (index_is marks_were d (mark_of v.lost) (is.left.kept.reported.each d v e)) ∙ mark_says v.lost
 
   -- the vault has the units of one without a mark
   sure : (d : ℕ) (v : DriveView) → slice_get olds d ≡ Some v → is_lost were_lost d ≡ false → is_lost is.left.lost d ≡ false
@@ -68,12 +69,12 @@ module _ {V : Type 0} (seen : V → Image) (may_leave : V → Stop → Image →
     ])
   ]
 
-  opens_again : OpensBut were_lost (bytes ∷ []) groups drives (recovered (seen vault))
+  opens_again : OpensBut shows were_lost (what ∷ []) groups drives (recovered (seen vault))
   opens_again = record {
-    bytes = bytes;
-    listed = alone bytes;
+    what = what;
+    listed = alone what;
     tiers = is.left.tiers;
-    holds = is.left.holds;
+    shown = is.left.shown;
     groups_are = is.left.groups_are;
     many = is.left.many;
     one = is.left.one;
@@ -81,7 +82,7 @@ module _ {V : Type 0} (seen : V → Image) (may_leave : V → Stop → Image →
       has = record { each = λ d at v e not. is.left.kept.has.each d at v e (sure d v e not) };
       marks = marks_were;
       noted = is.left.kept.noted;
-      told = is.left.kept.told;
+      reported = is.left.kept.reported;
     };
     gone = λ d low one.
         let v = there olds d (let many = is.left.many in omega (arith, low, many)) in
@@ -91,7 +92,7 @@ module _ {V : Type 0} (seen : V → Image) (may_leave : V → Stop → Image →
   -- a store over a vault that was only read
   module _ (p : Point V) (read : OnlyRead seen may_leave moment left_since vault p.vault) (long : length p.noted ≡ 16) (table : IsTable p.noted (recovered (seen vault)))
       (opened : IsOpenedWith groups drives p.noted absent p.tiers)
-      (live : (lost : List Bool) → CoversGone drives p.noted absent lost → EndsAt lost drives units (recovered (seen vault)) → IsLive lost p.keeper p.noted p.batch (recovered (seen vault))) where
+      (live : (lost : List Bool) → CoversGone drives p.noted absent lost → EndsAt lost drives units (recovered (seen vault)) → IsUpToDate lost p.keeper p.noted p.batch (recovered (seen vault))) where
     noted_are : p.noted ≡ marks_were
     noted_are = same_Some _ _ (sym table ∙ is.left.kept.noted)
 
@@ -100,25 +101,25 @@ module _ {V : Type 0} (seen : V → Image) (may_leave : V → Stop → Image →
         marked_is marks_were d ∙ one_of (is_marked marks_were d) (is_lost absent d) (is.away d low) (subst (λ (l : List ℕ). (is_marked l d || is_lost absent d) ≡ true) noted_are one)
 
     all_opens : (n : ℕ) → length (seen p.vault).journal ≤ n
-        → OpensBut were_lost (bytes ∷ []) (parts_of p.tiers).groups (length (parts_of p.tiers).drives) (after (seen p.vault).cells (flat (take n (seen p.vault).journal)))
+        → OpensBut shows were_lost (what ∷ []) (parts_of p.tiers).groups (length (parts_of p.tiers).drives) (after (seen p.vault).cells (flat (take n (seen p.vault).journal)))
     all_opens n least =
-        subst (λ b. OpensBut were_lost (bytes ∷ []) (parts_of p.tiers).groups (length (parts_of p.tiers).drives) (after (seen p.vault).cells (flat b))) (sym (take_all n (seen p.vault).journal least))
-        (subst (λ (i : Image). OpensBut were_lost (bytes ∷ []) (parts_of p.tiers).groups (length (parts_of p.tiers).drives) (recovered i)) (sym read.finds)
-        (subst (λ many. OpensBut were_lost (bytes ∷ []) (parts_of p.tiers).groups many (recovered (seen vault))) (sym opened.many)
-        (subst (λ g. OpensBut were_lost (bytes ∷ []) g drives (recovered (seen vault))) (sym opened.groups_are) opens_again)))
+        subst (λ b. OpensBut shows were_lost (what ∷ []) (parts_of p.tiers).groups (length (parts_of p.tiers).drives) (after (seen p.vault).cells (flat b))) (sym (take_all n (seen p.vault).journal least))
+        (subst (λ (i : Image). OpensBut shows were_lost (what ∷ []) (parts_of p.tiers).groups (length (parts_of p.tiers).drives) (recovered i)) (sym read.finds)
+        (subst (λ many. OpensBut shows were_lost (what ∷ []) (parts_of p.tiers).groups many (recovered (seen vault))) (sym opened.many)
+        (subst (λ g. OpensBut shows were_lost (what ∷ []) g drives (recovered (seen vault))) (sym opened.groups_are) opens_again)))
 
-    pub works : Works seen may_leave p (bytes ∷ []) (bytes ∷ [])
+    pub works : Works shows seen may_leave p (what ∷ []) (what ∷ [])
     works = record {
       lost = were_lost;
-      few = λ d high. ap is_on (slice_get_past were_lost d
+      few = λ d high. ap is_some_true (slice_get_past were_lost d
           (let many = length-map marks_were (λ mark. not (mark == 0)) in let same = ap length noted_are in omega (arith, high, many, same, long)));
       gone = λ d one. opened.gone d (or_true (is_marked p.noted d) (is_lost absent d) (ap (λ (l : List ℕ). is_marked l d) noted_are ∙ sym (marked_is marks_were d) ∙ one));
-      live = subst (λ (i : Image). IsLive were_lost p.keeper p.noted p.batch (recovered i)) (sym read.finds) (live were_lost covers is.ends);
+      live = subst (λ (i : Image). IsUpToDate were_lost p.keeper p.noted p.batch (recovered i)) (sym read.finds) (live were_lost covers is.ends);
       low = λ stop. length (seen p.vault).journal;
       logged = λ stop. record {
         flushed = omega arith;
         leaves = λ i may. subst (λ (s : Image). IsFront were_lost s (length s.journal) i) (sym read.finds) ((is.logged stop).leaves i ((read.time stop).ends i may));
       };
       all = refl;
-      opens = λ stop n least most. one_list were_lost (bytes ∷ []) (parts_of p.tiers).groups (length (parts_of p.tiers).drives) _ stop (all_opens n least);
+      opens = λ stop n least most. one_list shows were_lost (what ∷ []) (parts_of p.tiers).groups (length (parts_of p.tiers).drives) _ stop (all_opens n least);
     }

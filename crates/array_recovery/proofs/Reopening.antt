@@ -9,17 +9,17 @@ use Rattle.extents.specs.Failures.{Failures}
 use Rattle.extent_groups.specs.Groups.{Groups}
 use Rattle.extent_groups.specs.Cells.{Cells, cell}
 use Rattle.extent_groups.specs.Calls.{Fades}
-use Rattle.extent_groups.specs.Planned.{Wanted}
+use Rattle.extent_groups.specs.Planned.{Intended}
 use Rattle.history.specs.Entries.{Course}
-use Rattle.array_parts.specs.Views.{DriveView, PartsView, drive_units, drive_lost, drive_view, cells_of}
+use Rattle.unit_store.specs.Views.{DriveView, PartsView, drive_units, drive_lost, drive_view, drive_cells}
 use Rattle.vault.specs.Images.{is_lost}
 use Rattle.cached_drive.specs.Saving.{Units, saved_by}
-use Rattle.journaled_store.specs.Steps.{IsLive, mark_of}
+use Rattle.journaled_store.specs.Steps.{IsUpToDate, mark_of}
 use Rattle.array_recovery.specs.Found.{AreFormed, AreGone, AreSeated, HaveUnits, IsTable, is_marked}
 use Rattle.array_recovery.proofs.Marking.{index_is}
 use Rattle.journaled_store.specs.Left.{IsLeftOf, IsLostIn}
 use Rattle.journaled_store.specs.Outlasting.{parts_of}
-use Rattle.background.specs.Views.{TiersView}
+use Rattle.tiered_array.specs.Views.{TiersView}
 use Rattle.extent_groups.specs.Missing.{is_missing}
 use Rattle.array_recovery.specs.Reopened.{CoversGone, EndsAt, IsOpenedWith, LosesMore, Outlives}
 
@@ -52,7 +52,7 @@ module _ {D : Type 0} (units : D → Units) (gone : D → Bool) (failures : D �
       let in_cache : slice_get m.0.units at ≡ Some unit = subst (λ (u : Units). slice_get u at ≡ Some unit) same is in
       have.each d at m.0 m.1 (sym (seated.gone_are d x e) ∙ not) (slice_get_within m.0.units at unit in_cache) ∙ in_cache
 
-  module _ (bytes : List ℕ) (groups : Groups) (count : ℕ) (is : IsLeftOf bytes groups count absent c) (many : length drives ≡ count) where
+  module _ (shows : TiersView → List ℕ → Type 0) (what : List ℕ) (groups : Groups) (count : ℕ) (is : IsLeftOf shows what groups count absent c) (many : length drives ≡ count) where
     abbrev olds : List DriveView
     olds = is.tiers.world.array.parts.drives
 
@@ -67,7 +67,7 @@ module _ {D : Type 0} (units : D → Units) (gone : D → Bool) (failures : D �
         same = same_Some _ _ (sym table ∙ is.kept.noted)
 
         alive : v.lost ≡ false
-        alive = unmarked marks d v.lost (subst (λ (l : List ℕ). slice_get l d ≡ Some (mark_of v.lost)) (sym same) (is.kept.told.each d v e)) both.0
+        alive = unmarked marks d v.lost (subst (λ (l : List ℕ). slice_get l d ≡ Some (mark_of v.lost)) (sym same) (is.kept.reported.each d v e)) both.0
 
         not_in : IsLostIn olds d → ⊥
         not_in was = true≢false (sym was.2 ∙ ap (λ (w : DriveView). w.lost) (same_Some _ _ (sym was.1 ∙ e)) ∙ alive)
@@ -78,7 +78,7 @@ module _ {D : Type 0} (units : D → Units) (gone : D → Bool) (failures : D �
           | inl one ↦ (elim (is.excused d low one) [ inl away ↦ absurd (true≢false (sym away ∙ both.1)) | inr was ↦ absurd (not_in was) ])
         ]
 
-    fade_unit : (d at : ℕ) (x : D) (o : Option (List ℕ)) → slice_get drives d ≡ Some x → gone x ≡ false → slice_get (units x) at ≡ o → Fades (cells_of is.tiers.world.array.parts d at) o
+    fade_unit : (d at : ℕ) (x : D) (o : Option (List ℕ)) → slice_get drives d ≡ Some x → gone x ≡ false → slice_get (units x) at ≡ o → Fades (drive_cells is.tiers.world.array.parts d at) o
     fade_unit d at x None e not at_is = inr refl
     fade_unit d at x (Some unit) e not at_is =
         let low : d < count = (let within = slice_get_within drives d x e in omega (arith, within, many)) in
@@ -90,30 +90,30 @@ module _ {D : Type 0} (units : D → Units) (gone : D → Bool) (failures : D �
         ∙ sym (is.kept.has.each d at v.0 v.1 was.0)
         ∙ unit_is d at x unit e not at_is))
 
-    fade_drive : (d at : ℕ) (x : D) (b : Bool) → slice_get drives d ≡ Some x → gone x ≡ b → Fades (cells_of is.tiers.world.array.parts d at) (if b then None else slice_get (units x) at)
+    fade_drive : (d at : ℕ) (x : D) (b : Bool) → slice_get drives d ≡ Some x → gone x ≡ b → Fades (drive_cells is.tiers.world.array.parts d at) (if b then None else slice_get (units x) at)
     fade_drive d at x true e b_is = inr refl
     fade_drive d at x false e b_is = fade_unit d at x (slice_get (units x) at) e b_is refl
 
     fade_cell : (d at : ℕ) (o : Option D) → slice_get drives d ≡ o
-        → Fades (cells_of is.tiers.world.array.parts d at) (cell drive_units drive_lost (option_map (drive_view units gone failures) o) at)
+        → Fades (drive_cells is.tiers.world.array.parts d at) (cell drive_units drive_lost (option_map (drive_view units gone failures) o) at)
     fade_cell d at None e = inr refl
     fade_cell d at (Some x) e = fade_drive d at x (gone x) e refl
 
-    fade : (d at : ℕ) → Fades (cells_of is.tiers.world.array.parts d at) (cell drive_units drive_lost (slice_get (map (drive_view units gone failures) drives) d) at)
+    fade : (d at : ℕ) → Fades (drive_cells is.tiers.world.array.parts d at) (cell drive_units drive_lost (slice_get (map (drive_view units gone failures) drives) d) at)
     fade d at =
-        subst (λ (o : Option DriveView). Fades (cells_of is.tiers.world.array.parts d at) (cell drive_units drive_lost o at))
+        subst (λ (o : Option DriveView). Fades (drive_cells is.tiers.world.array.parts d at) (cell drive_units drive_lost o at))
         (sym (slice_get-map (drive_view units gone failures) drives d)) (fade_cell d at (slice_get drives d) refl)
 
     pub outlives : (v : PartsView) → v.groups ≡ groups → v.drives ≡ map (drive_view units gone failures) drives → Outlives is.tiers.world.array.parts v
     outlives v groups_are drives_are = record {
       groups = groups_are ∙ sym is.groups_are;
       many = ap length drives_are ∙ length-map drives (drive_view units gone failures) ∙ many ∙ sym is.many;
-      fades = λ x. subst (λ (ds : List DriveView). Fades (cells_of is.tiers.world.array.parts x.drive x.address) (cell drive_units drive_lost (slice_get ds x.drive) x.address)) (sym drives_are) (fade x.drive x.address);
+      fades = λ x. subst (λ (ds : List DriveView). Fades (drive_cells is.tiers.world.array.parts x.drive x.address) (cell drive_units drive_lost (slice_get ds x.drive) x.address)) (sym drives_are) (fade x.drive x.address);
     }
 
   -- the vault is in step with the drives
   pub live : (count size : ℕ) (unsure : List Bool) → AreFormed count size caches → CoversGone (length drives) marks absent unsure → EndsAt unsure (length drives) count c
-      → IsLive unsure k marks [] c
+      → IsUpToDate unsure k marks [] c
   live count size unsure formed covers ends = record { step = record { each = step }; noted = table }
     where
       here : (d : ℕ) → d < length drives → is_lost unsure d ≡ false → is_lost lost d ≡ false
@@ -137,14 +137,14 @@ module _ {D : Type 0} (units : D → Units) (gone : D → Bool) (failures : D �
           ]) ∙ ap (λ (u : Units). slice_get u at) (sym saved)
 
   -- and with what is kept of its changes
-  pub live_now : (count size : ℕ) (unsure : List Bool) (keeper : Course Units) (noted : List ℕ) (batch : List Wanted) → keeper ≡ k → batch ≡ [] → noted ≡ marks → AreFormed count size caches
-      → CoversGone (length caches) noted absent unsure → EndsAt unsure (length caches) count c → IsLive unsure keeper noted batch c
-  live_now count size unsure keeper noted batch same none told formed covers ends =
-      subst (λ (x : Course Units). IsLive unsure x noted batch c) (sym same)
-      (subst (λ (ws : List Wanted). IsLive unsure k noted ws c) (sym none)
-      (subst (λ (l : List ℕ). IsLive unsure k l [] c) (sym told)
+  pub live_now : (count size : ℕ) (unsure : List Bool) (keeper : Course Units) (noted : List ℕ) (batch : List Intended) → keeper ≡ k → batch ≡ [] → noted ≡ marks → AreFormed count size caches
+      → CoversGone (length caches) noted absent unsure → EndsAt unsure (length caches) count c → IsUpToDate unsure keeper noted batch c
+  live_now count size unsure keeper noted batch same none reported formed covers ends =
+      subst (λ (x : Course Units). IsUpToDate unsure x noted batch c) (sym same)
+      (subst (λ (ws : List Intended). IsUpToDate unsure k noted ws c) (sym none)
+      (subst (λ (l : List ℕ). IsUpToDate unsure k l [] c) (sym reported)
       (live count size unsure formed
-      (subst (λ n. CoversGone n marks absent unsure) (sym seated.many) (subst (λ (l : List ℕ). CoversGone (length caches) l absent unsure) told covers))
+      (subst (λ n. CoversGone n marks absent unsure) (sym seated.many) (subst (λ (l : List ℕ). CoversGone (length caches) l absent unsure) reported covers))
       (subst (λ n. EndsAt unsure n count c) (sym seated.many) ends))))
 
 module _ {D : Type 0} (units : D → Units) (gone : D → Bool) (failures : D → Failures) (drives : List D) (caches : List Held) (marks : List ℕ) (absent lost : List Bool) (k : Course Units)
@@ -160,7 +160,7 @@ module _ {D : Type 0} (units : D → Units) (gone : D → Bool) (failures : D �
   -- what was made of the drives
   pub opened_with : (old : PartsView) (tiers : TiersView) (noted : List ℕ) → old.drives ≡ map (drive_view units gone failures) drives → noted ≡ marks → LosesMore old (parts_of tiers)
       → IsOpenedWith old.groups (length caches) noted absent tiers
-  opened_with old tiers noted drives_are told loses = subst (λ (l : List ℕ). IsOpenedWith old.groups (length caches) l absent tiers) (sym told) (record {
+  opened_with old tiers noted drives_are reported loses = subst (λ (l : List ℕ). IsOpenedWith old.groups (length caches) l absent tiers) (sym reported) (record {
     groups_are = loses.groups;
     many = loses.many ∙ ap length drives_are ∙ length-map drives (drive_view units gone failures) ∙ seated.many;
     gone = λ d one. loses.lost d (ap (λ (ds : List DriveView). is_missing drive_lost (slice_get ds d)) drives_are ∙ missing_view d one);

@@ -5,14 +5,14 @@ use Rattle.std.proofs.lemmas.Bool.Decides.{nat_tests}
 use Rattle.std.proofs.lemmas.Option.{same_Some, none-some}
 use Rattle.extent_groups.specs.declared.place.Place.{Place}
 use Rattle.extent_groups.specs.Cells.{Cells}
-use Rattle.extent_groups.specs.Planned.{Wanted, over, with_unit, after}
+use Rattle.extent_groups.specs.Planned.{Intended, over, with_unit, after}
 use Rattle.vault.specs.Images.{flat}
 
 -- a write, by its place and its unit
-abbrev pub write : Place → List ℕ → Wanted
+abbrev pub write : Place → List ℕ → Intended
 write place unit = record { place = place; unit = unit }
 
-pub write_is : (o : Option Wanted) (place : Place) (unit : List ℕ) → option_map (λ w. w.place) o ≡ Some place → option_map (λ w. w.unit) o ≡ Some unit → o ≡ Some (write place unit)
+pub write_is : (o : Option Intended) (place : Place) (unit : List ℕ) → option_map (λ w. w.place) o ≡ Some place → option_map (λ w. w.unit) o ≡ Some unit → o ≡ Some (write place unit)
 write_is None place unit p u = absurd (none-some place p)
 write_is (Some w) place unit p u = ap (λ x. Some (write x w.unit)) (same_Some _ _ p) ∙ ap (λ x. Some (write place x)) (same_Some _ _ u)
 
@@ -38,20 +38,20 @@ write_here c place unit old d at e f is =
     ∙ ap (λ o. over o unit) is
 
 -- writes before others
-pub after_append : (c : Cells) (ws vs : List Wanted) → after c (ws ++ vs) ≡ after (after c ws) vs
+pub after_append : (c : Cells) (ws vs : List Intended) → after c (ws ++ vs) ≡ after (after c ws) vs
 after_append c [] vs = refl
 after_append c (w ∷ ws) vs = after_append (with_unit c w) ws vs
 
-write_next : (c : Cells) (ws : List Wanted) (i : ℕ) (w : Wanted) → slice_get ws i ≡ Some w → after c (take (suc i) ws) ≡ with_unit (after c (take i ws)) w
+write_next : (c : Cells) (ws : List Intended) (i : ℕ) (w : Intended) → slice_get ws i ≡ Some w → after c (take (suc i) ws) ≡ with_unit (after c (take i ws)) w
 write_next c [] i w e = absurd (none-some w e)
 write_next c (v ∷ ws) zero w e = ap (λ x. with_unit c x) (same_Some _ _ e)
 write_next c (v ∷ ws) (suc i) w e = write_next (with_unit c v) ws i w e
 
 -- one write more
-pub after_more : (c : Cells) (ws : List Wanted) (i : ℕ) (w : Wanted) → slice_get ws i ≡ Some w → after c (take (i + 1) ws) ≡ with_unit (after c (take i ws)) w
+pub after_more : (c : Cells) (ws : List Intended) (i : ℕ) (w : Intended) → slice_get ws i ≡ Some w → after c (take (i + 1) ws) ≡ with_unit (after c (take i ws)) w
 after_more c ws i w e = let next : i + 1 ≡ suc i = omega arith in ap (λ n. after c (take n ws)) next ∙ write_next c ws i w e
 
-batch_next : (c : Cells) (batches : List (List Wanted)) (i : ℕ) (batch : List Wanted) → slice_get batches i ≡ Some batch
+batch_next : (c : Cells) (batches : List (List Intended)) (i : ℕ) (batch : List Intended) → slice_get batches i ≡ Some batch
     → after c (flat (take (suc i) batches)) ≡ after (after c (flat (take i batches))) batch
 batch_next c [] i batch e = absurd (none-some batch e)
 batch_next c (b ∷ bs) zero batch e = after_append c b [] ∙ ap (λ x. after c x) (same_Some _ _ e)
@@ -59,6 +59,6 @@ batch_next c (b ∷ bs) (suc i) batch e =
     after_append c b (flat (take (suc i) bs)) ∙ batch_next (after c b) bs i batch e ∙ ap (λ (x : Cells). after x batch) (sym (after_append c b (flat (take i bs))))
 
 -- one batch more
-pub after_batch : (c : Cells) (batches : List (List Wanted)) (i : ℕ) (batch : List Wanted) → slice_get batches i ≡ Some batch
+pub after_batch : (c : Cells) (batches : List (List Intended)) (i : ℕ) (batch : List Intended) → slice_get batches i ≡ Some batch
     → after c (flat (take (i + 1) batches)) ≡ after (after c (flat (take i batches))) batch
 after_batch c batches i batch e = let next : i + 1 ≡ suc i = omega arith in ap (λ n. after c (flat (take n batches))) next ∙ batch_next c batches i batch e

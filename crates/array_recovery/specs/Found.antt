@@ -1,7 +1,7 @@
 -- What is read of a vault, and held in memory.
 use Rattle.std.specs.Prelude.{◌≡◌, ◌==◌, ◌||◌, ◌<◌, ℕ, Bool, false, not, Some, List, length, slice_get, slice_index_or}
 use Rattle.extents.specs.Condition.{Held}
-use Rattle.extents.specs.Units.{IsSized}
+use Rattle.extents.specs.Units.{AreUnitsSized}
 use Rattle.extents.specs.declared.mem_drive.Condition.TheVariants.{Present}
 use Rattle.extent_groups.specs.Cells.{Cells}
 use Rattle.history.specs.Entries.{Course}
@@ -31,14 +31,14 @@ pub record AreGone (marks : List ℕ) (absent lost : List Bool) : Type 0 where
 pub record AreFormed (count size : ℕ) (caches : List Held) : Type 0 where
   pub present : (d : ℕ) (m : Held) → slice_get caches d ≡ Some m → m.condition ≡ Present
   pub many : (d : ℕ) (m : Held) → slice_get caches d ≡ Some m → length m.units ≡ count
-  pub sized : (d : ℕ) (m : Held) → slice_get caches d ≡ Some m → IsSized size m.units
+  pub sized : (d : ℕ) (m : Held) → slice_get caches d ≡ Some m → AreUnitsSized size m.units
 
 -- the units of each drive that isn't lost are those that lie at its places, as far as it has any
 pub record HaveUnits (lost : List Bool) (c : Cells) (caches : List Held) : Type 0 where
   pub each : (d at : ℕ) (m : Held) → slice_get caches d ≡ Some m → is_lost lost d ≡ false → at < length m.units → c d at ≡ slice_get m.units at
 
 -- what was found of a vault's units: the table's marks, which drives are lost, and the units of the others
-pub record IsFoundIn (c : Cells) (absent : List Bool) (marks : List ℕ) (lost : List Bool) (caches : List Held) : Type 0 where
+pub record IsFoundInCells (c : Cells) (absent : List Bool) (marks : List ℕ) (lost : List Bool) (caches : List Held) : Type 0 where
   pub table : IsTable marks c
   pub gone : AreGone marks absent lost
   pub units : HaveUnits lost c caches

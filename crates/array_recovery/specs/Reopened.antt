@@ -4,8 +4,8 @@ use Rattle.extent_groups.specs.Cells.{Cells}
 use Rattle.extent_groups.specs.Calls.{FadesAt}
 use Rattle.extent_groups.specs.declared.place.Place.{Place}
 use Rattle.extent_groups.specs.Groups.{Groups}
-use Rattle.array_parts.specs.Views.{PartsView, cells_of, lost_of}
-use Rattle.background.specs.Views.{TiersView}
+use Rattle.unit_store.specs.Views.{PartsView, drive_cells, lost_of}
+use Rattle.tiered_array.specs.Views.{TiersView}
 use Rattle.vault.specs.Images.{Image, is_lost, recovered}
 use Rattle.vault.specs.Moments.{AreLogged}
 use Rattle.vault.specs.declared.store.Stop.{Stop}
@@ -17,7 +17,7 @@ use Rattle.array_recovery.specs.Found.{is_marked}
 pub record Outlives (old new : PartsView) : Type 0 where
   pub groups : new.groups ≡ old.groups
   pub many : length new.drives ≡ length old.drives
-  pub fades : (x : Place) → FadesAt (cells_of old) (cells_of new) x
+  pub fades : (x : Place) → FadesAt (drive_cells old) (drive_cells new) x
 
 -- each drive that the table marks, and each that is absent, is among these
 abbrev pub CoversGone : ℕ → List ℕ → List Bool → List Bool → Type 0
@@ -43,10 +43,11 @@ pub record IsOpenedWith (groups : Groups) (count : ℕ) (marks : List ℕ) (abse
 abbrev pub marked : List ℕ → List Bool
 marked marks = map (λ mark. not (mark == 0)) marks
 
--- A vault of which a store with these bytes is opened, on a shape with this many units a drive, and outlasts the next stop.
-pub record IsSoundFor {V : Type 0} (seen : V → Image) (may_leave : V → Stop → Image → Type 0) (bytes : List ℕ) (groups : Groups) (drives units : ℕ) (absent : List Bool) (vault : V) : Type 0 where
-  -- it has all of an array with these bytes; a drive of which it may have other units was lost in that array
-  pub left : IsLeftOf bytes groups drives [] (recovered (seen vault))
+-- A vault of which a store that shows this is opened, on a shape with this many units a drive, and outlasts the next stop. What a
+-- store shows is given, as for `IsLeftOf`.
+pub record IsSoundFor {V : Type 0} (shows : TiersView → List ℕ → Type 0) (seen : V → Image) (may_leave : V → Stop → Image → Type 0) (what : List ℕ) (groups : Groups) (drives units : ℕ) (absent : List Bool) (vault : V) : Type 0 where
+  -- it has all of an array that showed this; a drive of which it may have other units was lost in that array
+  pub left : IsLeftOf shows what groups drives [] (recovered (seen vault))
   -- a drive that is absent was lost in that array: the table marks it
   pub away : (d : ℕ) → d < drives → is_lost absent d ≡ true → is_marked left.kept.marks d ≡ true
   -- past the end of a drive without a mark it has no unit

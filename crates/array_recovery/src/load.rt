@@ -1,7 +1,7 @@
 // The units of drives, read from a vault into memory.
 ghost use Rattle.std.specs.Prelude.{◌≡◌, ◌+◌, ◌*◌, ◌<◌, ℕ, false, length, slice_get, slice_set, OnOk, IfOk};
 ghost use Rattle.extents.specs.Sizes.{extent_units};
-ghost use Rattle.extents.specs.Units.{IsSized};
+ghost use Rattle.extents.specs.Units.{AreUnitsSized};
 ghost use Rattle.extents.specs.declared.mem_drive.Condition.TheVariants.{Present};
 ghost use Rattle.extents.specs.declared.shape.TheConstants.{HEADER_BYTES};
 ghost use Rattle.vault.specs.Images.{Image, is_lost as is_lost_of};
@@ -26,7 +26,7 @@ pub(crate) fn is_lost(lost: &[bool; DRIVES], drive: usize) -> bool
 // Writes a unit of a drive in memory.
 pub(crate) fn put(cache: &mut MemDrive, at: u32, unit: &[u8])
     requires at { at < length cache.old.units }
-    requires size { IsSized (length unit.now) cache.old.units }
+    requires size { AreUnitsSized (length unit.now) cache.old.units }
     ensures present { cache.old.condition ≡ Present → cache.new.condition ≡ Present }
     ensures written { cache.old.condition ≡ Present → cache.new.units ≡ slice_set cache.old.units at unit.now }
 {
@@ -41,12 +41,12 @@ fn fill<V: Vault>(
     unit: &mut [u8],
 ) -> Result<(), RecoveryFault>
     requires present { cache.old.condition ≡ Present }
-    requires size { IsSized (length unit.old) cache.old.units }
+    requires size { AreUnitsSized (length unit.old) cache.old.units }
     ensures stays { V.known vault.old → V.known vault.new }
     ensures read { V.known vault.old → OnlyRead V.seen V.may_leave V.moment V.left_since vault.old vault.new }
     ensures present { cache.new.condition ≡ Present }
     ensures many { length cache.new.units ≡ length cache.old.units }
-    ensures size { IsSized (length unit.old) cache.new.units }
+    ensures size { AreUnitsSized (length unit.old) cache.new.units }
     ensures units { V.known vault.old → OnOk result ((at : ℕ) → at < length cache.new.units
         → Image.cells (V.seen vault.old) drive at ≡ slice_get cache.new.units at) }
 {
@@ -74,7 +74,7 @@ fn load<V: Vault>(
     ensures read { V.known vault.old → OnlyRead V.seen V.may_leave V.moment V.left_since vault.old vault.new }
     ensures present { IfOk result (λ m. m.condition ≡ Present) }
     ensures many { IfOk result (λ m. length m.units ≡ shape.now.extents * extent_units shape.now.segments) }
-    ensures size { IfOk result (λ m. IsSized (HEADER_BYTES + shape.now.payload) m.units) }
+    ensures size { IfOk result (λ m. AreUnitsSized (HEADER_BYTES + shape.now.payload) m.units) }
     ensures units { V.known vault.old → is_lost ≡ false → IfOk result (λ m. (at : ℕ) → at < length m.units
         → Image.cells (V.seen vault.old) drive at ≡ slice_get m.units at) }
 {

@@ -1,8 +1,11 @@
 // A store is opened from a vault.
-ghost use Rattle.std.specs.Prelude.{◌≡◌, ◌*◌, ℕ, List, [], ◌∷◌, false, length, IfErr, IfOk};
+ghost use Rattle.std.specs.Prelude.{◌≡◌, ◌*◌, ℕ, List, [], ◌∷◌, false, length, slice_index, IfErr, IfOk};
+ghost use Rattle.map_join.specs.Maps.{IsSame};
 ghost use Rattle.extents.specs.Sizes.{extent_units};
+ghost use Rattle.slot_tables.specs.Views.{key_at};
 ghost use Rattle.vault.specs.Images.{recovered};
-ghost use Rattle.journaled_store.specs.Left.{IsLeftOf};
+ghost use Rattle.array_store.specs.Blocks.{Holds};
+ghost use Rattle.journaled_store.specs.Left.{HasKeys, IsLeftOf};
 ghost use Rattle.journaled_store.specs.Outlasting.{Outlasts, point};
 ghost use Rattle.array_recovery.specs.Found.{OnlyRead};
 ghost use Rattle.array_recovery.specs.Reopened.{IsOpenedWith, IsSoundFor};
@@ -39,16 +42,23 @@ pub fn open_store<N: Chronicle, V: Vault + Drop>(
     ensures back { V.known vault → IfErr result (λ e. V.known e.1 × OnlyRead V.seen V.may_leave V.moment V.left_since vault e.1) }
 
     // A store of which the vault has all is opened with the same bytes.
-    ensures reopened { V.known vault → (bytes : List ℕ) → length bytes ≡ size → IsLeftOf bytes groups drives absent.now (recovered (V.seen vault))
+    ensures reopened { V.known vault → (bytes : List ℕ) → length bytes ≡ size → IsLeftOf Holds bytes groups drives absent.now (recovered (V.seen vault))
         → IfOk result (λ s. ⟦<JournaledStore<N, V> as ByteStore>⟧.represents s (record { bytes = bytes; unsynced = false })) }
+
+    // And with the same block map: of each block the newest record of before.
+    ensures map { V.known vault → (keys : List ℕ) → IsLeftOf HasKeys keys groups drives absent.now (recovered (V.seen vault))
+        → IfOk result (λ s. IsSame (key_at s.store.tiers.world.array) (slice_index keys)) }
     ensures size { IfOk result (λ s. s.store.size ≡ size) }
     ensures works { IfOk result (λ s. s.failed ≡ false) }
     ensures same { IfOk result (λ s. IsOpenedWith groups drives s.changes.noted absent.now s.store.tiers) }
 
-    // A stop leaves a vault of which a store with the same bytes is opened again.
+    // A stop leaves a vault of which a store with the same bytes is opened again, and one with the same block map.
     ensures lasts { V.known vault → (bytes : List ℕ) → length bytes ≡ size
-        → IsSoundFor V.seen V.may_leave bytes groups drives (shape.now.extents * extent_units shape.now.segments) absent.now vault
-        → IfOk result (λ s. Outlasts V.known V.seen V.may_leave (point s) (bytes ∷ []) (bytes ∷ [])) }
+        → IsSoundFor Holds V.seen V.may_leave bytes groups drives (shape.now.extents * extent_units shape.now.segments) absent.now vault
+        → IfOk result (λ s. Outlasts Holds V.known V.seen V.may_leave (point s) (bytes ∷ []) (bytes ∷ [])) }
+    ensures map_lasts { V.known vault → (keys : List ℕ)
+        → IsSoundFor HasKeys V.seen V.may_leave keys groups drives (shape.now.extents * extent_units shape.now.segments) absent.now vault
+        → IfOk result (λ s. Outlasts HasKeys V.known V.seen V.may_leave (point s) (keys ∷ []) (keys ∷ [])) }
 {
     let mut vault = vault;
     match recover::<N, V>(

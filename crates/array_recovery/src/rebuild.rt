@@ -1,22 +1,25 @@
 // An array put together from its parts.
-ghost use Rattle.std.specs.Prelude.{◌≡◌, ℕ, List, None, false, length, IfOk};
-ghost use Rattle.array_parts.specs.Views.{view_of};
-ghost use Rattle.background.specs.Views.{TiersView};
+ghost use Rattle.std.specs.Prelude.{◌≡◌, ℕ, List, None, false, length, slice_index, IfOk};
+ghost use Rattle.map_join.specs.Maps.{IsSame};
+ghost use Rattle.unit_store.specs.Views.{view_of};
+ghost use Rattle.slot_tables.specs.Views.{key_at};
+ghost use Rattle.tiered_array.specs.Views.{TiersView};
 ghost use Rattle.array_store.specs.Blocks.{Holds};
 ghost use Rattle.array_store.specs.Stores.{IsStoreOf};
 ghost use Rattle.array_recovery.specs.Reopened.{LosesMore, Outlives};
+ghost use Rattle.journaled_store.specs.Left.{HasKeys};
 ghost use Rattle.journaled_store.specs.Outlasting.{parts_of};
 
 use crate::fault::RecoveryFault;
-use array_parts::Parts;
 use array_store::ArrayStore;
-use background::Tiers;
 use extent_groups::{GROUPS, GroupTable, SLOTS};
 use extents::Drive;
 use flat_machine::restart_laws;
 use header_scan::{ScanFault, restart};
 use std::alloc::{AllocError, Global};
 use step_core::{Plain, World};
+use tiered_array::Tiers;
+use unit_store::Parts;
 
 // A claim of each slot of each group.
 fn claims_of(alloc: Global, groups: &GroupTable) -> Result<Vec<Plain>, AllocError> {
@@ -44,6 +47,8 @@ fn tiers_of<D: Drive + Drop>(alloc: Global, parts: Parts<D>) -> Result<Tiers<D>,
     requires note { parts.note ≡ None }
     ensures bytes { IfOk result (λ tiers. (was : TiersView) (bytes : List ℕ) → Holds was bytes
         → Outlives was.world.array.parts (view_of D.units D.lost D.failures parts) → Holds tiers bytes) }
+    ensures map { IfOk result (λ tiers. (was : TiersView) (keys : List ℕ) → HasKeys was keys
+        → Outlives was.world.array.parts (view_of D.units D.lost D.failures parts) → IsSame (key_at tiers.world.array) (slice_index keys)) }
     ensures same { IfOk result (λ tiers. LosesMore (view_of D.units D.lost D.failures parts) (parts_of tiers)) }
 {
     if !parts.is_fit() {
@@ -62,7 +67,7 @@ fn tiers_of<D: Drive + Drop>(alloc: Global, parts: Parts<D>) -> Result<Tiers<D>,
 }
 
 /// The first `size` bytes of the array that the parts hold: those of an array whose groups these are, and whose drives these are,
-/// but for more that are lost.
+/// but for more that are lost. Its block map is that array's.
 pub(crate) fn rebuild<D: Drive + Drop>(
     alloc: Global,
     parts: Parts<D>,
@@ -72,6 +77,8 @@ pub(crate) fn rebuild<D: Drive + Drop>(
     ensures bytes { IfOk result (λ s. (was : TiersView) (bytes : List ℕ) → Holds was bytes → length bytes ≡ size
         → Outlives was.world.array.parts (view_of D.units D.lost D.failures parts)
         → IsStoreOf s.tiers s.size s.unsynced (record { bytes = bytes; unsynced = false })) }
+    ensures map { IfOk result (λ s. (was : TiersView) (keys : List ℕ) → HasKeys was keys
+        → Outlives was.world.array.parts (view_of D.units D.lost D.failures parts) → IsSame (key_at s.tiers.world.array) (slice_index keys)) }
     ensures size { IfOk result (λ s. s.size ≡ size) }
     ensures same { IfOk result (λ s. LosesMore (view_of D.units D.lost D.failures parts) (parts_of s.tiers)) }
 {

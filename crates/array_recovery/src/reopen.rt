@@ -1,15 +1,18 @@
 // An array is opened from a vault.
-ghost use Rattle.std.specs.Prelude.{◌≡◌, ◌+◌, ◌*◌, ℕ, List, Bool, Some, false, length, slice_get, IfOk};
+ghost use Rattle.std.specs.Prelude.{◌≡◌, ◌+◌, ◌*◌, ℕ, List, Bool, Some, false, length, slice_get, slice_index, IfOk};
+ghost use Rattle.map_join.specs.Maps.{IsSame};
 ghost use Rattle.extents.specs.Condition.{Held};
 ghost use Rattle.extents.specs.Sizes.{extent_units};
 ghost use Rattle.extents.specs.declared.mem_drive.Condition.TheVariants.{Present};
 ghost use Rattle.extents.specs.declared.shape.TheConstants.{HEADER_BYTES};
 ghost use Rattle.extent_groups.specs.Cells.{Cells};
+ghost use Rattle.slot_tables.specs.Views.{key_at};
 ghost use Rattle.vault.specs.Images.{recovered};
-ghost use Rattle.journaled_store.specs.Steps.{IsLive};
+ghost use Rattle.journaled_store.specs.Steps.{IsUpToDate};
+ghost use Rattle.array_store.specs.Blocks.{Holds};
 ghost use Rattle.array_store.specs.Stores.{IsStoreOf};
-ghost use Rattle.array_recovery.specs.Found.{AreFormed, AreGone, IsFoundIn, IsTable, OnlyRead};
-ghost use Rattle.journaled_store.specs.Left.{IsLeftOf};
+ghost use Rattle.array_recovery.specs.Found.{AreFormed, AreGone, IsFoundInCells, IsTable, OnlyRead};
+ghost use Rattle.journaled_store.specs.Left.{HasKeys, IsLeftOf};
 ghost use Rattle.array_recovery.specs.Reopened.{CoversGone, EndsAt, IsOpenedWith};
 
 use crate::fault::RecoveryFault;
@@ -18,7 +21,6 @@ use crate::marks::{lost_drives, read_marks};
 use crate::rebuild::rebuild;
 use crate::replay::replay;
 use crate::seat::seat_all;
-use array_parts::Parts;
 use array_store::ArrayStore;
 use cached_drive::{CachedDrive, Saved};
 use extent_groups::GroupTable;
@@ -26,6 +28,7 @@ use extents::{DRIVES, ExtentTable, MemDrive, Shape};
 use history::{Chronicle, Opened};
 use journaled_store::Changes;
 use std::alloc::Global;
+use unit_store::Parts;
 use vault::{Batch, Vault};
 
 // The units of each drive after the journal, the marks of the table, and which drives are lost.
@@ -46,7 +49,7 @@ fn find<V: Vault>(
 ) -> Result<Found, RecoveryFault>
     ensures stays { V.known vault.old → V.known vault.new }
     ensures read { V.known vault.old → OnlyRead V.seen V.may_leave V.moment V.left_since vault.old vault.new }
-    ensures found { V.known vault.old → IfOk result (λ f. IsFoundIn (recovered (V.seen vault.old)) absent.now f.marks f.lost f.caches.items) }
+    ensures found { V.known vault.old → IfOk result (λ f. IsFoundInCells (recovered (V.seen vault.old)) absent.now f.marks f.lost f.caches.items) }
     ensures gone { IfOk result (λ f. AreGone f.marks absent.now f.lost) }
     ensures long { IfOk result (λ f. length f.marks ≡ 16) }
     ensures many { IfOk result (λ f. length f.caches.items ≡ drives) }
@@ -76,16 +79,18 @@ fn open_found<N: Chronicle>(
 ) -> Result<(ArrayStore<CachedDrive<N>>, Changes<N>), RecoveryFault>
     requires opened { opened ≡ N.chronicle }
     requires present { (d : ℕ) (m : Held) → slice_get found.caches.items d ≡ Some m → m.condition ≡ Present }
-    ensures reopened { IfOk result (λ r. (c : Cells) (absent : List Bool) (bytes : List ℕ) → IsFoundIn c absent found.marks found.lost found.caches.items
-        → length bytes ≡ size → IsLeftOf bytes groups (length found.caches.items) absent c
+    ensures reopened { IfOk result (λ r. (c : Cells) (absent : List Bool) (bytes : List ℕ) → IsFoundInCells c absent found.marks found.lost found.caches.items
+        → length bytes ≡ size → IsLeftOf Holds bytes groups (length found.caches.items) absent c
         → IsStoreOf r.0.tiers r.0.size r.0.unsynced (record { bytes = bytes; unsynced = false })) }
+    ensures map { IfOk result (λ r. (c : Cells) (absent : List Bool) (keys : List ℕ) → IsFoundInCells c absent found.marks found.lost found.caches.items
+        → IsLeftOf HasKeys keys groups (length found.caches.items) absent c → IsSame (key_at r.0.tiers.world.array) (slice_index keys)) }
     ensures size { IfOk result (λ r. r.0.size ≡ size) }
     ensures same { IfOk result (λ r. (absent : List Bool) → AreGone found.marks absent found.lost
         → IsOpenedWith groups (length found.caches.items) r.1.noted absent r.0.tiers) }
     ensures marks { IfOk result (λ r. r.1.noted ≡ found.marks) }
-    ensures live { IfOk result (λ r. (c : Cells) (absent lost : List Bool) (count size : ℕ) → IsFoundIn c absent found.marks found.lost found.caches.items
+    ensures live { IfOk result (λ r. (c : Cells) (absent lost : List Bool) (count size : ℕ) → IsFoundInCells c absent found.marks found.lost found.caches.items
         → AreFormed count size found.caches.items → CoversGone (length found.caches.items) r.1.noted absent lost
-        → EndsAt lost (length found.caches.items) count c → IsLive lost r.1.keeper r.1.noted r.1.batch c) }
+        → EndsAt lost (length found.caches.items) count c → IsUpToDate lost r.1.keeper r.1.noted r.1.batch c) }
 {
     let (history, mut keeper, first) = opened.named::<N>();
     let seated = seat_all(
@@ -126,8 +131,12 @@ pub fn recover<N: Chronicle, V: Vault>(
     ensures read { V.known vault.old → OnlyRead V.seen V.may_leave V.moment V.left_since vault.old vault.new }
 
     // An array of which the vault has all is opened with the same bytes: each block's read is its last acknowledged write.
-    ensures reopened { V.known vault.old → (bytes : List ℕ) → length bytes ≡ size → IsLeftOf bytes groups drives absent.now (recovered (V.seen vault.old))
+    ensures reopened { V.known vault.old → (bytes : List ℕ) → length bytes ≡ size → IsLeftOf Holds bytes groups drives absent.now (recovered (V.seen vault.old))
         → IfOk result (λ r. IsStoreOf r.0.tiers r.0.size r.0.unsynced (record { bytes = bytes; unsynced = false })) }
+
+    // And with the same block map: of each block the newest record of before.
+    ensures map { V.known vault.old → (keys : List ℕ) → IsLeftOf HasKeys keys groups drives absent.now (recovered (V.seen vault.old))
+        → IfOk result (λ r. IsSame (key_at r.0.tiers.world.array) (slice_index keys)) }
     ensures size { IfOk result (λ r. r.0.size ≡ size) }
 
     // It has the groups and as many drives as are given, and each drive that is marked or absent is lost in it.
@@ -138,7 +147,7 @@ pub fn recover<N: Chronicle, V: Vault>(
     // What the first `publish` needs.
     ensures live { V.known vault.old → (lost : List Bool) → IfOk result (λ r. CoversGone drives r.1.noted absent.now lost
         → EndsAt lost drives (shape.now.extents * extent_units shape.now.segments) (recovered (V.seen vault.old))
-        → IsLive lost r.1.keeper r.1.noted r.1.batch (recovered (V.seen vault.old))) }
+        → IsUpToDate lost r.1.keeper r.1.noted r.1.batch (recovered (V.seen vault.old))) }
 {
     if usize::from(drives) > DRIVES {
         return Err(RecoveryFault::Unsound);

@@ -4,7 +4,7 @@ use Rattle.std.proofs.lemmas.Bool.{cases_lt}
 use Rattle.std.proofs.lemmas.List.{ext_get_or, places}
 use Rattle.std.proofs.lemmas.Option.{slice_get-get_or, slice_get_past}
 use Rattle.std.specs.Prelude.{slice_get, slice_range}
-use Rattle.background.specs.Views.{TiersView}
+use Rattle.tiered_array.specs.Views.{TiersView}
 use Rattle.byte_store.specs.Flat.{written_over}
 use Rattle.array_store.specs.Blocks.{Holds, IsPiece}
 use Rattle.array_store.proofs.Over.{over_long, over_before, over_here, over_after}

@@ -4,7 +4,7 @@ use Rattle.flat_machine.specs.declared.refusal.Refusal.{Refusal}
 use Rattle.flat_machine.specs.Flat.{Flat, Write, Content, Payload, Trim, bytes_of}
 use Rattle.flat_machine.specs.Steps as step
 use Rattle.flat_machine.specs.Cases.{Case, found_in, found_of}
-use Rattle.step_core.specs.Told.{read_answer}
+use Rattle.step_core.specs.Reported.{read_answer}
 use Rattle.step_core.proofs.Worlds.{refused_leaves}
 use Rattle.array_store.specs.Blocks.{bytes_in}
 use Rattle.array_store.proofs.Writing.{Keeps, keeps_left}

@@ -10,12 +10,12 @@ use Rattle.flat_machine.specs.Cases.{Case, Leaves, Runs, CommitWith}
 use Rattle.flat_machine.specs.Shortened.{IsShortened}
 use Rattle.flat_machine.proofs.Pairs.{put_here}
 use Rattle.step_core.proofs.Worlds.{refused_leaves}
-use Rattle.background.specs.Placing.{Put, Fresh, Again, PlaceCase, PlaceStops, put_step, put_answer, back_steps, back_answers}
-use Rattle.background.specs.Room.{RoomCase, AlwaysCase, AlwaysStops, AlwaysStop, GoesOut, GoesAside, AfterRoom, WritesAgain, WritesAlways, Spares, SpareCase, SpareStops}
-use Rattle.background.specs.Steps.{MovesTo, AppendsAt, WritesAt, WritesIn, PutStops}
-use Rattle.background.specs.Tiered.{Tiered}
-use Rattle.background.specs.declared.outcome.Outcome.{Outcome}
-use Rattle.background.specs.declared.outcome.Outcome.TheVariants as outcome
+use Rattle.tiered_array.specs.Placing.{Put, Fresh, Again, PlaceCase, PlaceStops, put_step, put_answer, back_steps, back_answers}
+use Rattle.tiered_array.specs.Room.{RoomCase, AlwaysCase, AlwaysStops, AlwaysStop, GoesOut, GoesAside, AfterRoom, WritesAgain, WritesAlways, Spares, SpareCase, SpareStops}
+use Rattle.tiered_array.specs.Steps.{MovesTo, AppendsAt, WritesAt, WritesIn, PutStops}
+use Rattle.tiered_array.specs.Tiered.{Tiered}
+use Rattle.tiered_array.specs.declared.outcome.Outcome.{Outcome}
+use Rattle.tiered_array.specs.declared.outcome.Outcome.TheVariants as outcome
 
 -- the same groups and as many drives, and a drive that was lost is lost
 pub record KeepsDrives (F G : Flat) : Type 0 where
@@ -219,20 +219,20 @@ room_keeps : (T U : Tiered) (w : ℕ) (o : Outcome) → RoomCase T w o U → Kee
 room_keeps T U w o case = out_keeps T U case.keys w case.chosen o case.done
 
 stays_wrote : (is o : Outcome) (T U : Tiered) (b : ℕ) (x : Content) → ((r : Record) → is ≢ outcome.Placed r) → o ≡ is → U ≡ T → Wrote o T.flat U.flat b x
-stays_wrote is (outcome.Placed r) T U b x other told same = absurd (other r (sym told))
-stays_wrote is (outcome.Refused k) T U b x other told same = flat_same T U same
-stays_wrote is outcome.NoRoom T U b x other told same = flat_same T U same
-stays_wrote is outcome.Nothing T U b x other told same = flat_same T U same
+stays_wrote is (outcome.Placed r) T U b x other reported same = absurd (other r (sym reported))
+stays_wrote is (outcome.Refused k) T U b x other reported same = flat_same T U same
+stays_wrote is outcome.NoRoom T U b x other reported same = flat_same T U same
+stays_wrote is outcome.Nothing T U b x other reported same = flat_same T U same
 
 in_wrote : (T U : Tiered) (w b : ℕ) (x : Content) (slot : Option ℕ) (o : Outcome) → WritesIn T w b x slot o U → Wrote o T.flat U.flat b x
-in_wrote T U w b x None o stays = stays_wrote outcome.NoRoom o T U b x (λ r e. absurd (cc)) stays.told stays.same
+in_wrote T U w b x None o stays = stays_wrote outcome.NoRoom o T U b x (λ r e. absurd (cc)) stays.reported stays.same
 in_wrote T U w b x (Some s) o writes = writes_at T U w b x s o writes
 
 again_wrote : (V U : Tiered) (w b : ℕ) (x : Content) (o : Outcome) → WritesAgain V w b x o U → Wrote o V.flat U.flat b x
 again_wrote V U w b x o again = in_wrote V U w b x again.slot o again.done
 
 after_wrote : (V U : Tiered) (w b : ℕ) (x : Content) (moved o : Outcome) → AfterRoom V w b x moved o U → Wrote o V.flat U.flat b x
-after_wrote V U w b x (outcome.Refused k) o stays = stays_wrote (outcome.Refused k) o V U b x (λ r e. absurd (cc)) stays.told stays.same
+after_wrote V U w b x (outcome.Refused k) o stays = stays_wrote (outcome.Refused k) o V U b x (λ r e. absurd (cc)) stays.reported stays.same
 after_wrote V U w b x (outcome.Placed r) o again = again_wrote V U w b x o again
 after_wrote V U w b x outcome.NoRoom o again = again_wrote V U w b x o again
 after_wrote V U w b x outcome.Nothing o again = again_wrote V U w b x o again

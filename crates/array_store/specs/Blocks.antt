@@ -1,9 +1,9 @@
 -- The bytes of a disk, by the last writes of an array's blocks.
 use Rattle.std.specs.Prelude.{◌≡◌, ◌≢◌, ℕ, ◌+◌, ◌/◌, ◌%◌, ◌<◌, List, length, replicate, slice_index, Option, Some, None}
 use Rattle.flat_machine.specs.Flat.{Write, bytes_of, last_write}
-use Rattle.background.specs.Stands.{StandsFor}
-use Rattle.background.specs.Tiered.{Tiered}
-use Rattle.background.specs.Views.{TiersView}
+use Rattle.tiered_array.specs.Matches.{RepresentsTiers}
+use Rattle.tiered_array.specs.Tiered.{Tiered}
+use Rattle.tiered_array.specs.Views.{TiersView}
 
 -- the bytes that a write leaves in a block: zeros where there is none, or it is a trim
 abbrev pub bytes_in : ℕ → Option Write → List ℕ
@@ -15,14 +15,14 @@ abbrev pub block_bytes : ℕ → List Write → ℕ → List ℕ
 block_bytes size writes b = bytes_in size (last_write writes b)
 
 -- the bytes lie in the blocks one after another, from the first block on
-pub record Shows (size : ℕ) (writes : List Write) (bytes : List ℕ) : Type 0 where
+pub record SpansBlocks (size : ℕ) (writes : List Write) (bytes : List ℕ) : Type 0 where
   pub each : (i : ℕ) → i < length bytes → slice_index bytes i ≡ slice_index (block_bytes size writes (i / size)) (i % size)
 
 -- an array with what is kept next to it represents a flat state that shows these bytes
 pub record Holds (tiers : TiersView) (bytes : List ℕ) : Type 0 where
   pub state : Tiered
-  pub stands : StandsFor tiers state
-  pub shows : Shows state.flat.groups.payload state.flat.writes bytes
+  pub matches : RepresentsTiers tiers state
+  pub shows : SpansBlocks state.flat.groups.payload state.flat.writes bytes
 
 -- the bytes of a block, of `size` bytes, as far as it has any of the disk's
 pub record IsBlockOf (size : ℕ) (bytes : List ℕ) (b : ℕ) (out : List ℕ) : Type 0 where

@@ -1,8 +1,8 @@
 -- A store of an array, as a caller sees it, and when it represents a flat store.
 use Rattle.std.specs.Prelude.{◌≡◌, ℕ, Bool, true, length}
-use Rattle.array_parts.specs.Views.{lost_of}
-use Rattle.byte_store.specs.Flat.{Flat}
-use Rattle.background.specs.Views.{TiersView}
+use Rattle.unit_store.specs.Views.{lost_of}
+use Rattle.byte_store.specs.Flat.{StoreState}
+use Rattle.tiered_array.specs.Views.{TiersView}
 use Rattle.array_store.specs.Blocks.{Holds}
 
 -- the array, the bytes of the disk, and whether something was written since the last flush
@@ -12,7 +12,7 @@ pub record StoreView : Type 0 where
   pub unsynced : Bool
 
 -- the array holds the flat store's bytes, which are all of the disk's; and the store notes whether some await a flush
-pub record IsStoreOf (tiers : TiersView) (size : ℕ) (unsynced : Bool) (F : Flat) : Type 0 where
+pub record IsStoreOf (tiers : TiersView) (size : ℕ) (unsynced : Bool) (F : StoreState) : Type 0 where
   pub holds : Holds tiers F.bytes
   pub long : length F.bytes ≡ size
   pub noted : F.unsynced ≡ unsynced

@@ -2,17 +2,17 @@
 ghost use Rattle.std.specs.Prelude.{◌≡◌, ◌+◌, ◌*◌, ◌<◌, ◌≤◌, ℕ, List, length, replicate, OnOk, OnErr};
 ghost use Rattle.slot_tables.specs.Views.{SameSizes};
 ghost use Rattle.flat_machine.specs.Flat.{bytes_of};
-ghost use Rattle.background.specs.Placing.{IsGivenFor, content_of};
+ghost use Rattle.tiered_array.specs.Placing.{IsGivenFor, content_of};
 ghost use Rattle.array_store.specs.Blocks.{Holds, IsBlockOf, IsPiece, IsPut};
 ghost use Rattle.array_store.specs.Faults.{fault_of};
 ghost use Rattle.array_store.specs.Stores.{Follows};
 ghost use Rattle.byte_store.specs.Flat.{written_over};
 
-use background::{Outcome, Tiers};
 use byte_store::StoreFault;
 use extents::Drive;
 use std::alloc::Global;
 use step_core::{Given, Refusal};
+use tiered_array::{Outcome, Tiers};
 
 // A log of so many records isn't worth shortening.
 const LEAST_RECORDS: usize = 4096;

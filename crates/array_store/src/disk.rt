@@ -1,18 +1,20 @@
 // The bytes of a disk, in an array's blocks.
 ghost use Rattle.std.specs.Prelude.{◌≡◌, ◌+◌, ◌*◌, ◌<◌, ◌≤◌, ◌++◌, length, false, true, IfOk};
-ghost use Rattle.byte_store.specs.Flat.{Flat, Sizes, written_over};
+ghost use Rattle.byte_store.specs.Flat.{StoreState, Sizes, written_over};
 ghost use Rattle.byte_store.specs.Changes.{IsChanged, IsFlushed};
+ghost use Rattle.map_join.specs.Maps.{IsSame};
+ghost use Rattle.slot_tables.specs.Views.{key_at};
 ghost use Rattle.array_store.specs.Blocks.{Holds};
 ghost use Rattle.array_store.specs.Stores.{Follows, IsStoreOf};
-ghost use Rattle.background.specs.Views.{TiersView};
+ghost use Rattle.tiered_array.specs.Views.{TiersView};
 
 use crate::block::{make_spare, read_piece, shorten_log, write_piece, zero_piece};
 use crate::piece::{Piece, piece_at};
-use background::Tiers;
 use byte_store::{ByteStore, StoreFault};
 use extents::Drive;
 use std::alloc::{AllocError, Global};
 use step_core::{Visit, World};
+use tiered_array::Tiers;
 
 /// An array, and what a disk keeps beside it. The last block may have bytes past the disk's end.
 #[derive(Drop)]
@@ -33,7 +35,7 @@ impl<D: Drive + Drop> Disk<D> {
     /// what the array's writes do.
     pub(crate) fn new(alloc: Global, tiers: Tiers<D>, size: u64) -> Result<Disk<D>, AllocError>
         requires { size ≤ tiers.world.array.parts.groups.blocks * tiers.world.array.parts.groups.payload }
-        ensures ok { IfOk result (λ s. (F : Flat) → Holds tiers F.bytes → length F.bytes ≡ size → F.unsynced ≡ false
+        ensures ok { IfOk result (λ s. (F : StoreState) → Holds tiers F.bytes → length F.bytes ≡ size → F.unsynced ≡ false
             → IsStoreOf s.tiers s.size s.unsynced F) }
         ensures size { IfOk result (λ s. s.size ≡ size) }
         ensures same { IfOk result (λ s. s.tiers ≡ tiers) }
@@ -61,6 +63,19 @@ impl<D: Drive + Drop> Disk<D> {
         ensures leads { V.leads_to visitor.old visitor.new }
     {
         self.tiers.visit_drives(visitor)
+    }
+
+    /// Makes all writes durable on each drive that isn't lost. One whose sync fails is lost.
+    pub(crate) fn sync_drives(&mut self)
+        ensures kept { (F : StoreState) → IsStoreOf self.old.tiers self.old.size self.old.unsynced F
+            → IsStoreOf self.new.tiers self.new.size self.new.unsynced F }
+        ensures sizes { (self.new.size ≡ self.old.size)
+            × (self.new.tiers.world.array.parts.groups.payload ≡ self.old.tiers.world.array.parts.groups.payload) }
+        ensures stays { (F : StoreState) → IsStoreOf self.old.tiers self.old.size self.old.unsynced F → Follows self.old.tiers self.new.tiers }
+        ensures map { (F : StoreState) → IsStoreOf self.old.tiers self.old.size self.old.unsynced F
+            → IsSame (key_at self.new.tiers.world.array) (key_at self.old.tiers.world.array) }
+    {
+        self.tiers.sync();
     }
 }
 

@@ -1,17 +1,19 @@
 // The bytes of a disk, as callers see them.
 ghost use Rattle.std.specs.Prelude.{◌≡◌, ◌+◌, ◌*◌, ◌≤◌, ◌++◌, List, length, replicate, slice_range, false, true, OnOk, IfOk, IfErr};
-ghost use Rattle.byte_store.specs.Flat.{Flat, Sizes};
+ghost use Rattle.byte_store.specs.Flat.{StoreState, Sizes};
 ghost use Rattle.byte_store.specs.Changes.{IsChanged, IsFlushed};
+ghost use Rattle.map_join.specs.Maps.{IsSame};
+ghost use Rattle.slot_tables.specs.Views.{key_at};
 ghost use Rattle.array_store.specs.Blocks.{Holds};
 ghost use Rattle.array_store.specs.Stores.{Follows, IsStoreOf};
 
 use crate::disk::Disk;
-use background::Tiers;
 use byte_store::{ByteStore, StoreFault};
 use extents::Drive;
 use std::alloc::{AllocError, Global};
 use std::marker::Model;
 use step_core::{Visit, World};
+use tiered_array::Tiers;
 
 /// The bytes of a disk, kept by an array.
 #[derive(Drop)]
@@ -32,7 +34,7 @@ impl<D: Drive + Drop> ArrayStore<D> {
     /// what the array's writes do.
     pub fn new(alloc: Global, tiers: Tiers<D>, size: u64) -> Result<ArrayStore<D>, AllocError>
         requires { size ≤ tiers.world.array.parts.groups.blocks * tiers.world.array.parts.groups.payload }
-        ensures ok { IfOk result (λ s. (F : Flat) → Holds tiers F.bytes → length F.bytes ≡ size → F.unsynced ≡ false
+        ensures ok { IfOk result (λ s. (F : StoreState) → Holds tiers F.bytes → length F.bytes ≡ size → F.unsynced ≡ false
             → IsStoreOf s.tiers s.size s.unsynced F) }
         ensures size { IfOk result (λ s. s.size ≡ size) }
         ensures same { IfOk result (λ s. s.tiers ≡ tiers) }
@@ -55,6 +57,19 @@ impl<D: Drive + Drop> ArrayStore<D> {
         ensures leads { V.leads_to visitor.old visitor.new }
     {
         self.disk.visit_drives(visitor)
+    }
+
+    /// Makes all writes durable on each drive that isn't lost. One whose sync fails is lost. The bytes and the block map stay.
+    pub fn sync_drives(&mut self)
+        ensures kept { (F : StoreState) → IsStoreOf self.old.tiers self.old.size self.old.unsynced F
+            → IsStoreOf self.new.tiers self.new.size self.new.unsynced F }
+        ensures sizes { (self.new.size ≡ self.old.size)
+            × (self.new.tiers.world.array.parts.groups.payload ≡ self.old.tiers.world.array.parts.groups.payload) }
+        ensures stays { (F : StoreState) → IsStoreOf self.old.tiers self.old.size self.old.unsynced F → Follows self.old.tiers self.new.tiers }
+        ensures map { (F : StoreState) → IsStoreOf self.old.tiers self.old.size self.old.unsynced F
+            → IsSame (key_at self.new.tiers.world.array) (key_at self.old.tiers.world.array) }
+    {
+        self.disk.sync_drives();
     }
 }
 

@@ -24,21 +24,21 @@ module _ {S : Type 0} (outlasts : S → List (List ℕ) → List (List ℕ) → 
     later = λ killed cut out.
         let was = one.later killed cut out in
         let is = two.later (killed ++ b1 ∷ n1 ∷ []) (cut ++ b1 ∷ n1 ∷ [])
-        (one.behind killed cut (killed ++ b1 ∷ n1 ∷ []) (cut ++ b1 ∷ n1 ∷ []) out (covering killed b1 n1) (covering cut b1 n1)) in
+        (one.following killed cut (killed ++ b1 ∷ n1 ∷ []) (cut ++ b1 ∷ n1 ∷ []) out (covering killed b1 n1) (covering cut b1 n1)) in
         omega (arith, was, is);
-    behind = λ killed cut more_killed more_cut out k c.
-        two.behind more_killed more_cut more_killed more_cut (one.behind killed cut more_killed more_cut out (to_one more_killed killed k) (to_one more_cut cut c))
+    following = λ killed cut more_killed more_cut out k c.
+        two.following more_killed more_cut more_killed more_cut (one.following killed cut more_killed more_cut out (to_one more_killed killed k) (to_one more_cut cut c))
         (to_two more_killed more_killed (covers_own more_killed killed before now k)) (to_two more_cut more_cut (covers_own more_cut cut before now c));
     during = λ killed cut more_killed more_cut out k c.
         two.earlier (moment old) more_killed more_cut more_killed more_cut more_killed more_cut (one.later killed cut out)
         (one.during killed cut more_killed more_cut out (to_one more_killed killed k) (to_one more_cut cut c))
-        (one.behind killed cut more_killed more_cut out (to_one more_killed killed k) (to_one more_cut cut c))
+        (one.following killed cut more_killed more_cut out (to_one more_killed killed k) (to_one more_cut cut c))
         (λ b has. has) (λ b has. has)
         (to_two more_killed more_killed (covers_own more_killed killed before now k)) (to_two more_cut more_cut (covers_own more_cut cut before now c));
     earlier = λ t since_killed since_cut killed cut more_killed more_cut le since out wk wc k c.
         two.earlier t more_killed more_cut more_killed more_cut more_killed more_cut (let was = one.later killed cut out in omega (arith, le, was))
         (one.earlier t since_killed since_cut killed cut more_killed more_cut le since out wk wc (to_one more_killed killed k) (to_one more_cut cut c))
-        (one.behind killed cut more_killed more_cut out (to_one more_killed killed k) (to_one more_cut cut c))
+        (one.following killed cut more_killed more_cut out (to_one more_killed killed k) (to_one more_cut cut c))
         (λ b has. has) (λ b has. has)
         (to_two more_killed more_killed (covers_own more_killed killed before now k)) (to_two more_cut more_cut (covers_own more_cut cut before now c));
   }
@@ -59,5 +59,5 @@ pub acknowledges_after : {S : Type 0} (outlasts : S → List (List ℕ) → List
     (before now : List ℕ) (old mid new : S) → Lasts outlasts moment outlasts_since before before old mid → Acknowledges outlasts before now mid new → Acknowledges outlasts before now old new
 acknowledges_after outlasts moment outlasts_since before now old mid new lasts acknowledges killed cut more_cut out c =
     acknowledges (killed ++ before ∷ before ∷ []) more_cut more_cut
-    (lasts.behind killed cut (killed ++ before ∷ before ∷ []) more_cut out (covering killed before before) (record { each = c.each; has_before = c.has_before; has_now = c.has_before }))
+    (lasts.following killed cut (killed ++ before ∷ before ∷ []) more_cut out (covering killed before before) (record { each = c.each; has_before = c.has_before; has_now = c.has_before }))
     (covers_own more_cut cut before now c)

@@ -2,7 +2,7 @@
 use Rattle.std.specs.Prelude.{ℕ, List, Bool, ◌+◌, ◌++◌, length, take, drop}
 
 -- the bytes by offset, and whether some were changed since the last flush that succeeded
-pub record Flat : Type 0 where
+pub record StoreState : Type 0 where
   pub bytes : List ℕ
   pub unsynced : Bool
 

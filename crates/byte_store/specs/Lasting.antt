@@ -16,7 +16,7 @@ pub record Covers (more some : List (List ℕ)) (before now : List ℕ) : Type 0
 pub record Lasts {S : Type 0} (outlasts : S → List (List ℕ) → List (List ℕ) → Type 0) (moment : S → ℕ) (outlasts_since : S → ℕ → List (List ℕ) → List (List ℕ) → Type 0)
     (before now : List ℕ) (old new : S) : Type 0 where
   pub later : (killed cut : List (List ℕ)) → outlasts old killed cut → moment old ≤ moment new
-  pub behind : (killed cut more_killed more_cut : List (List ℕ)) → outlasts old killed cut → Covers more_killed killed before now → Covers more_cut cut before now
+  pub following : (killed cut more_killed more_cut : List (List ℕ)) → outlasts old killed cut → Covers more_killed killed before now → Covers more_cut cut before now
       → outlasts new more_killed more_cut
   pub during : (killed cut more_killed more_cut : List (List ℕ)) → outlasts old killed cut → Covers more_killed killed before now → Covers more_cut cut before now
       → outlasts_since new (moment old) more_killed more_cut

@@ -1,6 +1,6 @@
 // A store in memory.
 ghost use Rattle.std.specs.Prelude.{◌≡◌, ◌≤◌, ◌+◌, ◌^◌, ◌<◌, ℕ, replicate, length, OnOk, IfOk, slice_range, false, Bool, List};
-ghost use Rattle.byte_store.specs.Flat.{Flat, Sizes, written_over};
+ghost use Rattle.byte_store.specs.Flat.{StoreState, Sizes, written_over};
 ghost use Rattle.byte_store.specs.Changes.{IsChanged, IsFlushed};
 
 use crate::{ByteStore, StoreFault};

@@ -1,6 +1,6 @@
 // What a store of bytes promises.
 ghost use Rattle.std.specs.Prelude.{◌≡◌, ℕ, ◌+◌, ◌≤◌, List, length, replicate, slice_range, OnOk, IfErr, ⊤};
-ghost use Rattle.byte_store.specs.Flat.{Flat, Sizes};
+ghost use Rattle.byte_store.specs.Flat.{StoreState, Sizes};
 ghost use Rattle.byte_store.specs.Changes.{IsChanged, IsFlushed};
 ghost use Rattle.byte_store.specs.Lasting.{Acknowledges, Flushes, Lasts};
 ghost use Rattle.byte_store.specs.declared.fault.StoreFault.{StoreFault};
@@ -11,7 +11,7 @@ use std::alloc::Global;
 /// A store of bytes by offset. A flat store says what its bytes are, and whether some may not be durable.
 pub trait ByteStore {
     /// The flat stores that a value represents. Each clause says of every one of them what becomes of it.
-    ghost represents: { Self → Flat → Type 0 };
+    ghost represents: { Self → StoreState → Type 0 };
 
     /// The bytes of the store, and of the requests that it prefers.
     ghost sizes: { Self → Sizes };
@@ -35,7 +35,7 @@ pub trait ByteStore {
     /// Bytes of the store.
     fn size(&self) -> u64
         ensures size { result ≡ (sizes self.now).bytes }
-        ensures bytes { (F : Flat) → represents self.now F → length F.bytes ≡ result };
+        ensures bytes { (F : StoreState) → represents self.now F → length F.bytes ≡ result };
 
     /// Bytes of a request that the store carries out best, 8 to 65,536.
     fn block_bytes(&self) -> u32
@@ -45,54 +45,54 @@ pub trait ByteStore {
     /// Reads the bytes from an offset on.
     fn read(&mut self, offset: u64, out: &mut [u8]) -> Result<(), StoreFault>
         requires within { offset + length out.old ≤ (sizes self.old).bytes }
-        ensures kept { (F : Flat) → represents self.old F → represents self.new F }
-        ensures value { (F : Flat) → represents self.old F → OnOk result (out.new ≡ slice_range F.bytes offset (offset + length out.old)) }
+        ensures kept { (F : StoreState) → represents self.old F → represents self.new F }
+        ensures value { (F : StoreState) → represents self.old F → OnOk result (out.new ≡ slice_range F.bytes offset (offset + length out.old)) }
         ensures cause { IfErr result may_refuse }
         ensures sizes { sizes self.new ≡ sizes self.old }
-        ensures stays { (F : Flat) → represents self.old F → stays self.old self.new }
-        ensures lasts { (F : Flat) → represents self.old F → Lasts outlasts moment outlasts_since F.bytes F.bytes self.old self.new };
+        ensures stays { (F : StoreState) → represents self.old F → stays self.old self.new }
+        ensures lasts { (F : StoreState) → represents self.old F → Lasts outlasts moment outlasts_since F.bytes F.bytes self.old self.new };
 
     /// Writes bytes from an offset on. A refused write may have stopped in its middle.
     fn write(&mut self, alloc: Global, offset: u64, bytes: &[u8]) -> Result<(), StoreFault>
         requires within { offset + length bytes.now ≤ (sizes self.old).bytes }
-        ensures change { (F : Flat) → represents self.old F →
-            (G : Flat) × represents self.new G × IsChanged result F offset bytes.now G }
+        ensures change { (F : StoreState) → represents self.old F →
+            (G : StoreState) × represents self.new G × IsChanged result F offset bytes.now G }
         ensures cause { IfErr result may_refuse }
         ensures sizes { sizes self.new ≡ sizes self.old }
-        ensures stays { (F : Flat) → represents self.old F → stays self.old self.new }
-        ensures lasts { (F G : Flat) → represents self.old F → represents self.new G
+        ensures stays { (F : StoreState) → represents self.old F → stays self.old self.new }
+        ensures lasts { (F G : StoreState) → represents self.old F → represents self.new G
             → Lasts outlasts moment outlasts_since F.bytes G.bytes self.old self.new }
-        ensures acknowledged { (F G : Flat) → represents self.old F → represents self.new G
+        ensures acknowledged { (F G : StoreState) → represents self.old F → represents self.new G
             → OnOk result (Acknowledges outlasts F.bytes G.bytes self.old self.new) };
 
     /// Makes the bytes from an offset on zero. A refusal may have come in its middle.
     fn zero(&mut self, alloc: Global, offset: u64, length: u32) -> Result<(), StoreFault>
         requires within { offset + length ≤ (sizes self.old).bytes }
-        ensures change { (F : Flat) → represents self.old F →
-            (G : Flat) × represents self.new G × IsChanged result F offset (replicate length 0) G }
+        ensures change { (F : StoreState) → represents self.old F →
+            (G : StoreState) × represents self.new G × IsChanged result F offset (replicate length 0) G }
         ensures cause { IfErr result may_refuse }
         ensures sizes { sizes self.new ≡ sizes self.old }
-        ensures stays { (F : Flat) → represents self.old F → stays self.old self.new }
-        ensures lasts { (F G : Flat) → represents self.old F → represents self.new G
+        ensures stays { (F : StoreState) → represents self.old F → stays self.old self.new }
+        ensures lasts { (F G : StoreState) → represents self.old F → represents self.new G
             → Lasts outlasts moment outlasts_since F.bytes G.bytes self.old self.new }
-        ensures acknowledged { (F G : Flat) → represents self.old F → represents self.new G
+        ensures acknowledged { (F G : StoreState) → represents self.old F → represents self.new G
             → OnOk result (Acknowledges outlasts F.bytes G.bytes self.old self.new) };
 
     /// Makes all bytes durable.
     fn flush(&mut self) -> Result<(), StoreFault>
-        ensures change { (F : Flat) → represents self.old F →
-            (G : Flat) × represents self.new G × IsFlushed result F G }
+        ensures change { (F : StoreState) → represents self.old F →
+            (G : StoreState) × represents self.new G × IsFlushed result F G }
         ensures cause { IfErr result may_refuse }
         ensures sizes { sizes self.new ≡ sizes self.old }
-        ensures stays { (F : Flat) → represents self.old F → stays self.old self.new }
-        ensures lasts { (F : Flat) → represents self.old F → Lasts outlasts moment outlasts_since F.bytes F.bytes self.old self.new }
-        ensures flushed { (F : Flat) → represents self.old F → OnOk result (Flushes outlasts F.bytes self.old self.new) };
+        ensures stays { (F : StoreState) → represents self.old F → stays self.old self.new }
+        ensures lasts { (F : StoreState) → represents self.old F → Lasts outlasts moment outlasts_since F.bytes F.bytes self.old self.new }
+        ensures flushed { (F : StoreState) → represents self.old F → OnOk result (Flushes outlasts F.bytes self.old self.new) };
 
     /// Called while nobody waits for the store, so that it can do ahead what later requests would wait for. The bytes stay. A
     /// store that has nothing to do ahead leaves it as it is.
     fn rest(&mut self, _alloc: Global)
-        ensures kept { (F : Flat) → represents self.old F → represents self.new F }
+        ensures kept { (F : StoreState) → represents self.old F → represents self.new F }
         ensures sizes { sizes self.new ≡ sizes self.old }
-        ensures stays { (F : Flat) → represents self.old F → stays self.old self.new }
-        ensures lasts { (F : Flat) → represents self.old F → Lasts outlasts moment outlasts_since F.bytes F.bytes self.old self.new };
+        ensures stays { (F : StoreState) → represents self.old F → stays self.old self.new }
+        ensures lasts { (F : StoreState) → represents self.old F → Lasts outlasts moment outlasts_since F.bytes F.bytes self.old self.new };
 }

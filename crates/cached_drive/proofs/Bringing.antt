@@ -5,7 +5,7 @@ use Rattle.std.proofs.lemmas.Option.{slice_get-get_or}
 use Rattle.std.proofs.lemmas.List.Elements.{Contains-push, Contains-push_cases, Contains-append_left}
 use Rattle.extent_groups.specs.declared.place.Place.{Place}
 use Rattle.extent_groups.specs.Cells.{Cells}
-use Rattle.extent_groups.specs.Planned.{Wanted, over, with_unit, after}
+use Rattle.extent_groups.specs.Planned.{Intended, over, with_unit, after}
 use Rattle.extent_groups.proofs.Finishing.{write_here, write_else}
 use Rattle.extent_groups.proofs.Places.{same_or_not}
 use Rattle.history.specs.declared.view.Entry.{Entry}
@@ -40,7 +40,7 @@ module _ (drive : ℕ) (units : Units) where
   abbrev place_of : ℕ → Place
   place_of at = record { drive = drive; address = at }
 
-  abbrev write_of : ℕ → Wanted
+  abbrev write_of : ℕ → Intended
   write_of at = record { place = record { drive = drive; address = at }; unit = slice_index_or units at [] }
 
   -- each of the drive's units is held already, or one is held that is still to be written
@@ -128,7 +128,7 @@ writes_more drive units [] at = refl
 writes_more drive units (a ∷ ats) at = ap (λ ws. writes_at drive units (a ∷ []) ++ ws) (writes_more drive units ats at)
 
 -- one more is put behind others
-pub put_more : (drive : ℕ) (units : Units) (old was now : List Wanted) (ats : List ℕ) (at : ℕ) → was ≡ old ++ writes_at drive units ats
+pub put_more : (drive : ℕ) (units : Units) (old was now : List Intended) (ats : List ℕ) (at : ℕ) → was ≡ old ++ writes_at drive units ats
     → now ≡ was ++ writes_at drive units (at ∷ []) → now ≡ old ++ writes_at drive units (ats ++ at ∷ [])
 put_more drive units old was now ats at was_is now_is =
     now_is ∙ ap (λ l. l ++ writes_at drive units (at ∷ [])) was_is ∙ append_assoc old (writes_at drive units ats) (writes_at drive units (at ∷ []))

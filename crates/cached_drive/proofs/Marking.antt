@@ -4,9 +4,9 @@ use Rattle.std.specs.Prelude.{Contains, slice_index_or, slice_set, ◌↔◌}
 use Rattle.std.proofs.lemmas.List.{get_or_default}
 use Rattle.std.proofs.lemmas.List.Elements.{Contains-push, Contains-push_cases, Contains-append_left}
 use Rattle.extent_groups.specs.declared.place.Place.{Place}
-use Rattle.extent_groups.specs.Planned.{Wanted, AreOnce}
+use Rattle.extent_groups.specs.Planned.{Intended, AreOnce}
 use Rattle.extent_groups.proofs.Places.{get-set_same, get-set_other, same_or_not}
-use Rattle.cached_drive.specs.Saving.{Units, IsMarked, IsOnce, AreMarked, writes_at, upto}
+use Rattle.cached_drive.specs.Saving.{Units, IsMarked, IsOnce, AreDirtyMarks, writes_at, upto}
 use Rattle.cached_drive.proofs.Bringing.{upto_below, in_or_not, into, back}
 
 -- the address at an index
@@ -29,14 +29,14 @@ once_more (y ∷ xs) x once out (suc i) (suc j) less low same =
     i j (omega (arith, less)) (omega (arith, low)) same
 
 -- a marked address is listed
-pub is_listed : (marks : List Bool) (dirty : List ℕ) (at : ℕ) → AreMarked marks dirty → IsMarked marks at → Contains dirty at
+pub is_listed : (marks : List Bool) (dirty : List ℕ) (at : ℕ) → AreDirtyMarks marks dirty → IsMarked marks at → Contains dirty at
 is_listed marks dirty at are mark = elim (in_or_not dirty at) [
   | inl one ↦ back dirty at one
   | inr out ↦ absurd (are.listed at (λ has. out (into dirty at has)) mark)
 ]
 
 -- the same marks
-pub marked_same : (old new : List Bool) (dirty : List ℕ) → AreMarked old dirty → ((a : ℕ) → IsMarked new a ↔ IsMarked old a) → AreMarked new dirty
+pub marked_same : (old new : List Bool) (dirty : List ℕ) → AreDirtyMarks old dirty → ((a : ℕ) → IsMarked new a ↔ IsMarked old a) → AreDirtyMarks new dirty
 marked_same old new dirty are same = record {
   marked = λ a has. (same a).1 (are.marked a has);
   listed = λ a out mark. are.listed a out ((same a).0 mark);
@@ -44,8 +44,8 @@ marked_same old new dirty are same = record {
 }
 
 -- a mark more
-pub marked_more : (marks : List Bool) (dirty : List ℕ) (at : ℕ) → AreMarked marks dirty → (IsMarked marks at → ⊥) → at < length marks
-    → AreMarked (slice_set marks at true) (dirty ++ at ∷ [])
+pub marked_more : (marks : List Bool) (dirty : List ℕ) (at : ℕ) → AreDirtyMarks marks dirty → (IsMarked marks at → ⊥) → at < length marks
+    → AreDirtyMarks (slice_set marks at true) (dirty ++ at ∷ [])
 marked_more marks dirty at are fresh low = record {
   marked = λ a has. elim (same_or_not a at) [
     | inl is ↦ subst (λ n. IsMarked (slice_set marks at true) n) (sym is) (get-set_same marks at true low)
@@ -62,14 +62,14 @@ marked_more marks dirty at are fresh low = record {
 }
 
 -- no marks, and no addresses
-pub none_marked : (marks : List Bool) → ((a : ℕ) → IsMarked marks a → ⊥) → AreMarked marks []
+pub none_marked : (marks : List Bool) → ((a : ℕ) → IsMarked marks a → ⊥) → AreDirtyMarks marks []
 none_marked marks none = record { marked = λ a (k, low, is). absurd (omega (arith, low)); listed = λ a out mark. none a mark; once = λ i j less low same. omega (arith, low) }
 
 module _ (drive : ℕ) (units : Units) where
   -- the address of one of the writes
-  listed_of : (ats : List ℕ) (v : Wanted) → Contains (writes_at drive units ats) v → Contains ats v.place.address
+  listed_of : (ats : List ℕ) (v : Intended) → Contains (writes_at drive units ats) v → Contains ats v.place.address
   listed_of [] v (k, low, is) = absurd (omega (arith, low))
-  listed_of (at ∷ ats) v (zero, low, is) = (0, omega arith, ap (λ (w : Wanted). w.place.address) is)
+  listed_of (at ∷ ats) v (zero, low, is) = (0, omega arith, ap (λ (w : Intended). w.place.address) is)
   listed_of (at ∷ ats) v (suc k, low, is) = let more = listed_of ats v (k, omega (arith, low), is) in let below = more.1 in (suc more.0, omega (arith, below), more.2)
 
   -- writes of addresses that are listed once

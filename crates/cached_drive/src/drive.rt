@@ -1,9 +1,9 @@
 // A drive in memory whose written units are listed.
 ghost use Rattle.std.specs.Prelude.{◌≡◌, ◌≢◌, ◌≤◌, ◌<◌, ◌+◌, ◌↔◌, ◌++◌, [], ◌∷◌, ℕ, false, true, length, slice_get, slice_set, Some, Contains, IsTrue, OnOk, OnErr};
 ghost use Rattle.extents.specs.declared.mem_drive.Condition.TheVariants.{Present};
-ghost use Rattle.extents.specs.Failures.{Counts, StaysSteady, unsteady};
-ghost use Rattle.extents.specs.Units.{IsSized, HaveFront, HasRoom, loss, fronts};
-ghost use Rattle.cached_drive.specs.Saving.{AreSaved, AreMarked, IsMarked, last_of};
+ghost use Rattle.extents.specs.Failures.{CountsFailure, StaysSteady, unsteady};
+ghost use Rattle.extents.specs.Units.{AreUnitsSized, HaveFront, HasUnitBuffer, loss, fronts};
+ghost use Rattle.cached_drive.specs.Saving.{AreSaved, AreDirtyMarks, IsMarked, last_of};
 ghost use Rattle.history.specs.Entries.{entry};
 
 use crate::saved::{Saved, Saves};
@@ -28,7 +28,7 @@ pub struct CachedDrive<N: Chronicle> {
     pub(crate) hand: Hand<N, Saved>,
     ghost present: { cache.condition ≡ Present },
     ghost saved: { AreSaved all dirty.items (last_of [] hand.mine) cache.units },
-    ghost marked: { AreMarked marks.items dirty.items },
+    ghost marked: { AreDirtyMarks marks.items dirty.items },
 }
 
 impl<N: Chronicle> CachedDrive<N> {
@@ -128,8 +128,8 @@ fn list_fresh(
 ) -> Result<(), AllocError>
     requires at { at < most }
     requires fresh { IsMarked marks.old.items at → ⊥ }
-    requires marked { AreMarked marks.old.items dirty.old.items }
-    ensures marked { AreMarked marks.new.items dirty.new.items }
+    requires marked { AreDirtyMarks marks.old.items dirty.old.items }
+    ensures marked { AreDirtyMarks marks.new.items dirty.new.items }
     ensures ok { OnOk result (dirty.new.items ≡ dirty.old.items ++ at ∷ []) }
     ensures err { OnErr result (dirty.new.items ≡ dirty.old.items) }
 {
@@ -142,8 +142,8 @@ fn list_fresh(
 // Lists an address, of `most`, once. Where memory is out, all count as written.
 fn list(dirty: &mut Vec<u32>, marks: &mut Vec<bool>, all: &mut bool, at: u32, most: u32)
     requires at { at < most }
-    requires marked { AreMarked marks.old.items dirty.old.items }
-    ensures marked { AreMarked marks.new.items dirty.new.items }
+    requires marked { AreDirtyMarks marks.old.items dirty.old.items }
+    ensures marked { AreDirtyMarks marks.new.items dirty.new.items }
     ensures listed { all.new ≡ false → Contains dirty.new.items at }
     ensures kept { all.new ≡ false → (a : ℕ) → Contains dirty.old.items a → Contains dirty.new.items a }
     ensures only { (a : ℕ) → Contains dirty.new.items a → (a ≢ at → Contains dirty.old.items a) }
@@ -160,7 +160,7 @@ fn list(dirty: &mut Vec<u32>, marks: &mut Vec<bool>, all: &mut bool, at: u32, mo
 // Writes a unit of a drive in memory that answers.
 fn keep(cache: &mut MemDrive, at: u32, unit: &[u8])
     requires at { at < length cache.old.units }
-    requires size { IsSized (length unit.now) cache.old.units }
+    requires size { AreUnitsSized (length unit.now) cache.old.units }
     requires present { cache.old.condition ≡ Present }
     ensures present { cache.new.condition ≡ Present }
     ensures written { cache.new.units ≡ slice_set cache.old.units at unit.now }
@@ -171,8 +171,8 @@ fn keep(cache: &mut MemDrive, at: u32, unit: &[u8])
 // Writes a unit of a drive in memory that answers, given in two pieces.
 fn keep_gathered(cache: &mut MemDrive, at: u32, front: &[u8], rest: &[u8], scratch: &mut [u8])
     requires at { at < length cache.old.units }
-    requires size { IsSized (length front.now + length rest.now) cache.old.units }
-    requires scratch { IsSized (length scratch.old) cache.old.units }
+    requires size { AreUnitsSized (length front.now + length rest.now) cache.old.units }
+    requires scratch { AreUnitsSized (length scratch.old) cache.old.units }
     requires present { cache.old.condition ≡ Present }
     ensures present { cache.new.condition ≡ Present }
     ensures written { cache.new.units ≡ slice_set cache.old.units at (front.now ++ rest.now) }

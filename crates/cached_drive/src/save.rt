@@ -1,8 +1,8 @@
 // The units of a drive that were written since the last save, put into a batch.
 ghost use Rattle.std.specs.Prelude.{◌≡◌, ◌<◌, ◌++◌, [], ◌∷◌, ℕ, length, OnOk, OnErr, slice_get, Some, List, Contains};
 ghost use Rattle.extents.specs.declared.mem_drive.Condition.TheVariants.{Present};
-ghost use Rattle.extents.specs.Units.{IsSized};
-ghost use Rattle.extent_groups.specs.Planned.{Wanted, AreOnce};
+ghost use Rattle.extents.specs.Units.{AreUnitsSized};
+ghost use Rattle.extent_groups.specs.Planned.{Intended, AreOnce};
 ghost use Rattle.history.specs.Entries.{entry};
 ghost use Rattle.cached_drive.specs.Saving.{Units, AreSaved, Brings, IsMarked, IsOnce, saved_by, writes_at, upto};
 
@@ -17,7 +17,7 @@ use vault::Batch;
 // Reads a unit of a drive in memory that answers.
 fn fetch(cache: &mut MemDrive, at: u32, unit: &mut [u8])
     requires at { at < length cache.old.units }
-    requires size { IsSized (length unit.old) cache.old.units }
+    requires size { AreUnitsSized (length unit.old) cache.old.units }
     requires present { cache.old.condition ≡ Present }
     ensures same { cache.new ≡ cache.old }
     ensures read { slice_get cache.old.units at ≡ Some unit.new }
@@ -34,7 +34,7 @@ fn put_unit(
     batch: &mut Batch,
 ) -> Result<(), AllocError>
     requires at { at < length cache.old.units }
-    requires size { IsSized (length unit.old) cache.old.units }
+    requires size { AreUnitsSized (length unit.old) cache.old.units }
     requires present { cache.old.condition ≡ Present }
     ensures same { cache.new ≡ cache.old }
     ensures size { length unit.new ≡ length unit.old }
@@ -55,12 +55,12 @@ fn put_listed(
     batch: &mut Batch,
 ) -> Result<(), AllocError>
     requires inside { (at : ℕ) → Contains addresses.now at → at < length cache.old.units }
-    requires size { IsSized (length unit.old) cache.old.units }
+    requires size { AreUnitsSized (length unit.old) cache.old.units }
     requires present { cache.old.condition ≡ Present }
     ensures same { cache.new ≡ cache.old }
     ensures size { length unit.new ≡ length unit.old }
     ensures ok { OnOk result (batch.new ≡ batch.old ++ writes_at drive cache.old.units addresses.now) }
-    ensures more { (writes : List Wanted) × (batch.new ≡ batch.old ++ writes) }
+    ensures more { (writes : List Intended) × (batch.new ≡ batch.old ++ writes) }
 {
     for at in addresses {
         put_unit(cache, drive, *at, unit, batch)?;
@@ -75,12 +75,12 @@ fn put_all(
     unit: &mut [u8],
     batch: &mut Batch,
 ) -> Result<(), AllocError>
-    requires size { IsSized (length unit.old) cache.old.units }
+    requires size { AreUnitsSized (length unit.old) cache.old.units }
     requires present { cache.old.condition ≡ Present }
     ensures same { cache.new ≡ cache.old }
     ensures size { length unit.new ≡ length unit.old }
     ensures ok { OnOk result (batch.new ≡ batch.old ++ writes_at drive cache.old.units (upto (length cache.old.units))) }
-    ensures more { (writes : List Wanted) × (batch.new ≡ batch.old ++ writes) }
+    ensures more { (writes : List Intended) × (batch.new ≡ batch.old ++ writes) }
 {
     for at in 0..cache.units() {
         put_unit(cache, drive, at, unit, batch)?;
@@ -97,16 +97,16 @@ fn put_written(
     unit: &mut [u8],
     batch: &mut Batch,
 ) -> Result<(), AllocError>
-    requires size { IsSized (length unit.old) cache.old.units }
+    requires size { AreUnitsSized (length unit.old) cache.old.units }
     requires present { cache.old.condition ≡ Present }
     requires inside { (at : ℕ) → Contains dirty.now at → at < length cache.old.units }
     requires once { IsOnce dirty.now }
     ensures same { cache.new ≡ cache.old }
     ensures size { length unit.new ≡ length unit.old }
     ensures ok { OnOk result ((saved : Units) → AreSaved all dirty.now saved cache.old.units
-        → (writes : List Wanted) × (batch.new ≡ batch.old ++ writes) × Brings drive saved cache.old.units writes) }
-    ensures once { OnOk result ((writes : List Wanted) × (batch.new ≡ batch.old ++ writes) × AreOnce writes) }
-    ensures more { (writes : List Wanted) × (batch.new ≡ batch.old ++ writes) }
+        → (writes : List Intended) × (batch.new ≡ batch.old ++ writes) × Brings drive saved cache.old.units writes) }
+    ensures once { OnOk result ((writes : List Intended) × (batch.new ≡ batch.old ++ writes) × AreOnce writes) }
+    ensures more { (writes : List Intended) × (batch.new ≡ batch.old ++ writes) }
 {
     if all {
         put_all(cache, drive, unit, batch)
@@ -146,7 +146,7 @@ impl<N: Chronicle> CachedDrive<N> {
         unit: &mut [u8],
         batch: &mut Batch,
     ) -> Result<(), AllocError>
-        requires size { IsSized (length unit.old) self.old.cache.units }
+        requires size { AreUnitsSized (length unit.old) self.old.cache.units }
         ensures units { self.new.cache.units ≡ self.old.cache.units }
         ensures lost { self.new.lost ≡ self.old.lost }
         ensures number { self.new.hand.number ≡ self.old.hand.number }
@@ -155,10 +155,10 @@ impl<N: Chronicle> CachedDrive<N> {
           hired = keeper.old.hired;
           log = keeper.old.log ++ entry self.old.hand.number self.old.cache.units ∷ [];
         }) }
-        ensures brings { OnOk result ((writes : List Wanted) × (batch.new ≡ batch.old ++ writes)
+        ensures brings { OnOk result ((writes : List Intended) × (batch.new ≡ batch.old ++ writes)
             × Brings drive (saved_by self.old.hand.number keeper.old.log) self.old.cache.units writes) }
         // Each unit once.
-        ensures once { OnOk result ((writes : List Wanted) × (batch.new ≡ batch.old ++ writes) × AreOnce writes) }
+        ensures once { OnOk result ((writes : List Intended) × (batch.new ≡ batch.old ++ writes) × AreOnce writes) }
         ensures below { OnOk result (self.old.hand.number < keeper.old.hired) }
         ensures err { OnErr result ((batch.new ≡ batch.old) × (keeper.new ≡ keeper.old)) }
     {

@@ -4,7 +4,7 @@ use Rattle.std.proofs.lemmas.Bool.{cases_lt}
 use Rattle.std.proofs.lemmas.Simd.{Each1-get_or}
 use Rattle.std.specs.Simd.Lanes.{Each1}
 use Rattle.cleaner.specs.declared.choice.Ranked.{Ranked}
-use Rattle.cleaner.specs.Choosing.{IsFewest, IsMost, IsRow, IsNoBetter, IsChoice, IsBestTo}
+use Rattle.cleaner.specs.Choosing.{IsFewest, IsMost, IsRankRow, IsNoBetter, IsChoice, IsBestTo}
 
 module _ (rank : ℕ → ℕ) (left_out : Option ℕ) where
   no_more : (group value other : ℕ) → rank other ≤ value → group ≤ other → IsNoBetter rank group value other
@@ -15,7 +15,7 @@ module _ (rank : ℕ → ℕ) (left_out : Option ℕ) where
       by (inr m) = inr (omega (arith, le, m), first)
 
   -- a row in which no group is better
-  pub best_row : (row group value : ℕ) (lanes : List ℕ) → IsRow rank row lanes → Each1 (λ lane. lane ≤ value) lanes
+  pub best_row : (row group value : ℕ) (lanes : List ℕ) → IsRankRow rank row lanes → Each1 (λ lane. lane ≤ value) lanes
       → IsBestTo rank left_out (16 * row) group value → IsBestTo rank left_out (16 * (row + 1)) group value
   best_row row group value lanes are within h = record {
     below = λ l. omega (arith, h.below l);

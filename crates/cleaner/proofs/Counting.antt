@@ -3,14 +3,14 @@ use Rattle.std.proofs.Common.{◌≡◌, ◌≢◌, ◌∙◌, ◌⊎◌, inl, i
 use Rattle.std.proofs.lemmas.Bool.{cases_lt}
 use Rattle.std.proofs.lemmas.List.{length_push}
 use Rattle.map_join.specs.Lists.{ListsBelow, IsCount}
-use Rattle.map_join.specs.Live.{LiesAt, IsLive, IsLiveIn, IsLiveCount}
+use Rattle.map_join.specs.Live.{MapsTo, IsLive, IsLiveIn, IsLiveCount}
 use Rattle.map_join.proofs.Rising.{count_same, count_once, count_some, count_zero, count_none, below_none, below_more, below_all}
 use Rattle.extent_groups.specs.declared.class.Class.TheVariants.{Parity}
 use Rattle.extent_groups.specs.Groups.{Group, Groups, IsFormed, AreGroups, group_at, class_in, slots_in}
 use Rattle.extent_groups.proofs.Bounds.{slot_count_small}
 use Rattle.extent_groups.specs.Stores.{IsSlotOf}
 use Rattle.cleaner.specs.Counts.{IsLiveOf, IsHoleOf, HasLive, IsLowest}
-use Rattle.cleaner.specs.Plans.{IsEmpty}
+use Rattle.cleaner.specs.Plans.{IsReclaimable}
 
 -- a parity group's slots are those of its first indexes
 pub slot_at : (groups : Groups) (group slot : ℕ) → class_in (group_at groups group) ≡ Some Parity → slot / 128 ≡ group
@@ -108,7 +108,7 @@ lowest_at P group index own before here = record { holds = here; least = λ m p.
 -- the first live slot, and the first that isn't
 pub lowest_live_at : (groups : Groups) (keys : ℕ → ℕ) (group index block : ℕ) → class_in (group_at groups group) ≡ Some Parity
     → slots_in groups.segments (group_at groups group) ≤ 128 → index < slots_in groups.segments (group_at groups group)
-    → ((k : ℕ) → k < index → IsLive keys (128 * group + k) → ⊥) → LiesAt keys block (128 * group + index)
+    → ((k : ℕ) → k < index → IsLive keys (128 * group + k) → ⊥) → MapsTo keys block (128 * group + index)
     → IsLowest (IsLiveOf groups keys group) (128 * group + index)
 lowest_live_at groups keys group index block made few l before there =
     let at = slot_of_index groups group index made few l in
@@ -134,10 +134,10 @@ all_live groups keys group slots le all slot is own =
 
 -- a parity group is empty exactly where no live slot was counted
 pub empty_counted : (groups : Groups) (keys : ℕ → ℕ) (write : Option ℕ) (group count : ℕ) → write ≢ Some group → HasLive groups keys group count
-    → (count ≡ 0 → IsEmpty groups keys write group) × (IsEmpty groups keys write group → count ≡ 0)
+    → (count ≡ 0 → IsReclaimable groups keys write group) × (IsReclaimable groups keys write group → count ≡ 0)
 empty_counted groups keys write group count other has = (to, λ e. count_none (IsLiveOf groups keys group) count has.count e.idle)
   where
-    to : count ≡ 0 → IsEmpty groups keys write group
+    to : count ≡ 0 → IsReclaimable groups keys write group
     to is = record {
       made = has.made;
       other = other;

@@ -1,9 +1,9 @@
 -- What a plan's target, source and cleaned group make of the plan.
 use Rattle.std.proofs.Common.{◌≡◌, ◌∙◌, ℕ, ◌/◌, sym, ap, subst, Option, Some, None}
 use Rattle.std.proofs.lemmas.Option.{same_Some}
-use Rattle.map_join.specs.Live.{LiesAt}
+use Rattle.map_join.specs.Live.{MapsTo}
 use Rattle.extent_groups.specs.Groups.{Groups}
-use Rattle.cleaner.specs.Plans.{IsHoled, IsTarget, IsSource, IsCleaned, IsPlugPlan, IsCleanPlan}
+use Rattle.cleaner.specs.Plans.{IsHoled, IsPlugTarget, IsSource, IsCleaned, IsPlugPlan, IsCleanPlan}
 use Rattle.cleaner.specs.Counts.{IsLiveOf, IsHoleOf, IsLowest}
 use Rattle.cleaner.specs.Choosing.{IsFewest}
 use Rattle.cleaner.specs.declared.moves.Move.{Move}
@@ -14,15 +14,15 @@ module _ (groups : Groups) (keys : ℕ → ℕ) (write : Option ℕ) where
   pub no_target : ((g n : ℕ) → IsHoled groups keys write g n → ⊥) → IsPlugPlan groups keys write None
   no_target none target most source live into out = none target most into.offered
 
-  pub no_source : (t m : ℕ) → IsTarget groups keys write t m → ((g n : ℕ) → IsSource groups keys t m g n → ⊥) → IsPlugPlan groups keys write None
+  pub no_source : (t m : ℕ) → IsPlugTarget groups keys write t m → ((g n : ℕ) → IsSource groups keys t m g n → ⊥) → IsPlugPlan groups keys write None
   no_source t m chosen none target most source live into out =
       let same = most_once (IsHoled groups keys write) target most t m into chosen in
       let out_of : IsSource groups keys t most source live = subst (λ g. IsSource groups keys g most source live) same.0 out in
       none source live (subst (λ n. IsSource groups keys t n source live) same.1 out_of)
 
   -- a plug, from all its parts
-  pub plugged : (t m s n : ℕ) (move : Move) → IsTarget groups keys write t m → IsFewest (IsSource groups keys t m) s n
-      → IsLowest (IsLiveOf groups keys s) move.from → LiesAt keys move.block move.from → IsLowest (IsHoleOf groups keys t) move.to
+  pub plugged : (t m s n : ℕ) (move : Move) → IsPlugTarget groups keys write t m → IsFewest (IsSource groups keys t m) s n
+      → IsLowest (IsLiveOf groups keys s) move.from → MapsTo keys move.block move.from → IsLowest (IsHoleOf groups keys t) move.to
       → IsPlugPlan groups keys write (Some move)
   plugged t m s n move into out slot block hole = (t, m, s, n, record { into = into; out = out; slot = slot; block = block; hole = hole })
 
@@ -50,7 +50,7 @@ module _ (groups : Groups) (keys : ℕ → ℕ) (write : Option ℕ) where
 
     -- a clean, from all its parts
     pub cleaned : (e n : ℕ) (move : Move) → IsPlugPlan groups keys write None → IsCleaned groups keys write e n
-        → IsLowest (IsLiveOf groups keys e) move.from → LiesAt keys move.block move.from → append ≡ Some move.to → (move.to / 128 ≡ e → ⊥)
+        → IsLowest (IsLiveOf groups keys e) move.from → MapsTo keys move.block move.from → append ≡ Some move.to → (move.to / 128 ≡ e → ⊥)
         → IsCleanPlan groups keys write append (Some move)
     cleaned e n move no_plug out slot block at apart =
         (e, n, record { no_plug = no_plug; out = out; slot = slot; block = block; to = at; apart = apart })

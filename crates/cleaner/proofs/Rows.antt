@@ -6,13 +6,13 @@ use Rattle.std.proofs.lemmas.List.{length-map, get_or-map}
 use Rattle.std.proofs.lemmas.Simd.{length-zip2, length-chunk, length-replicate, get_or-zip2, get_or-chunk, zip2_splat, tops_compared, mask_l-mod}
 use Rattle.std.specs.Simd.Lanes.{Each1, zip2, chunk}
 use lib.Lanes.{sel_l, mask_l, top}
-use Rattle.cleaner.specs.Choosing.{IsRow}
+use Rattle.cleaner.specs.Choosing.{IsRankRow}
 use Rattle.cleaner.specs.Offered.{holed, in_parity, up_to}
 
 -- two tables' row, lane by lane
 pub zip_row : (f : ℕ → ℕ → ℕ) (counts slots left right lanes : List ℕ) (row : ℕ) → row < 32 → length counts ≡ 512 → length slots ≡ 512
     → left ≡ chunk (16 * row) 16 counts → right ≡ chunk (16 * row) 16 slots → lanes ≡ zip2 f left right
-    → IsRow (λ g. f (slice_index counts g) (slice_index slots g)) row lanes
+    → IsRankRow (λ g. f (slice_index counts g) (slice_index slots g)) row lanes
 zip_row f counts slots left right lanes row low many also from upon is = record {
   many = ap length is ∙ length-zip2 f left right (whole ∙ sym full) ∙ whole;
   each = λ lane l. ap (λ v. get_or v lane 0) is
@@ -28,7 +28,7 @@ zip_row f counts slots left right lanes row low many also from upon is = record 
     full = ap length upon ∙ length-chunk (16 * row) 16 slots (omega (arith, low, also))
 
 -- each lane changed
-pub map_row : (f rank : ℕ → ℕ) (row : ℕ) (before lanes : List ℕ) → lanes ≡ map f before → IsRow rank row before → IsRow (λ g. f (rank g)) row lanes
+pub map_row : (f rank : ℕ → ℕ) (row : ℕ) (before lanes : List ℕ) → lanes ≡ map f before → IsRankRow rank row before → IsRankRow (λ g. f (rank g)) row lanes
 map_row f rank row before lanes is are = record {
   many = ap length is ∙ length-map before f ∙ are.many;
   each = λ lane l. ap (λ v. get_or v lane 0) is ∙ get_or-map f before lane 0 0 (omega (arith, l, are.many)) ∙ ap f (are.each lane l);

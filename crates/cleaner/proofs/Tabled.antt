@@ -10,7 +10,7 @@ use Rattle.cleaner.specs.declared.choice.Ranked.{Ranked}
 use Rattle.cleaner.specs.Plans.{IsHoled, IsSource}
 use Rattle.cleaner.specs.Counts.{HasLive, AreLiveCounts}
 use Rattle.cleaner.specs.Choosing.{IsFewest, IsMost, IsChoice}
-use Rattle.cleaner.specs.Offered.{holed, up_to, in_parity, holed_count, source_count, turned}
+use Rattle.cleaner.specs.Offered.{holed, up_to, in_parity, holed_count, source_count, inverted_rank}
 use Rattle.cleaner.proofs.Counting.{live_one, few_slots}
 use Rattle.cleaner.proofs.Ranked.{AreCounted, none_most, is_most, none_fewest, is_fewest}
 
@@ -63,10 +63,10 @@ module _ (groups : Groups) (keys : ℕ → ℕ) (counts slots : List ℕ) (are :
   pub fullest : (write : Option ℕ) (best : Ranked) → IsChoice (holed_count slots counts) write (Some best) → IsMost (IsHoled groups keys write) best.group best.rank
   fullest write = is_most (IsHoled groups keys write) write (holed_count slots counts) (holed_counted write)
 
-  pub none_left : (write : Option ℕ) → IsChoice (λ g. turned (holed_count slots counts g)) write None → (g n : ℕ) → IsHoled groups keys write g n → ⊥
+  pub none_left : (write : Option ℕ) → IsChoice (λ g. inverted_rank (holed_count slots counts g)) write None → (g n : ℕ) → IsHoled groups keys write g n → ⊥
   none_left write = none_fewest (IsHoled groups keys write) write (holed_count slots counts) (holed_counted write)
 
-  pub emptiest : (write : Option ℕ) (best : Ranked) → IsChoice (λ g. turned (holed_count slots counts g)) write (Some best)
+  pub emptiest : (write : Option ℕ) (best : Ranked) → IsChoice (λ g. inverted_rank (holed_count slots counts g)) write (Some best)
       → IsFewest (IsHoled groups keys write) best.group (holed_count slots counts best.group)
   emptiest write = is_fewest (IsHoled groups keys write) write (holed_count slots counts) (holed_counted write)
 
@@ -95,13 +95,13 @@ module _ (groups : Groups) (keys : ℕ → ℕ) (counts slots : List ℕ) (are :
   target_fits write target into = omega (arith, (fullest write target into).offered.hole, few_slots groups target.group are)
 
   pub none_source : (write : Option ℕ) (target : Ranked) → IsChoice (holed_count slots counts) write (Some target)
-      → IsChoice (λ g. turned (source_count slots counts target.rank g)) (Some target.group) None → (g n : ℕ) → IsSource groups keys target.group target.rank g n → ⊥
+      → IsChoice (λ g. inverted_rank (source_count slots counts target.rank g)) (Some target.group) None → (g n : ℕ) → IsSource groups keys target.group target.rank g n → ⊥
   none_source write target into =
       none_fewest (IsSource groups keys target.group target.rank) (Some target.group) (source_count slots counts target.rank)
       (source_counted target.group target.rank (target_fits write target into))
 
   pub source : (write : Option ℕ) (target best : Ranked) → IsChoice (holed_count slots counts) write (Some target)
-      → IsChoice (λ g. turned (source_count slots counts target.rank g)) (Some target.group) (Some best)
+      → IsChoice (λ g. inverted_rank (source_count slots counts target.rank g)) (Some target.group) (Some best)
       → IsFewest (IsSource groups keys target.group target.rank) best.group (source_count slots counts target.rank best.group)
   source write target best into =
       is_fewest (IsSource groups keys target.group target.rank) (Some target.group) (source_count slots counts target.rank)

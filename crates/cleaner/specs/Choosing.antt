@@ -13,7 +13,7 @@ pub record IsMost (offers : ℕ → ℕ → Type 0) (group live : ℕ) : Type 0 
   pub best : (other count : ℕ) → offers other count → (count < live) ⊎ ((live ≡ count) × (group ≤ other))
 
 -- the ranks of sixteen groups in turn
-pub record IsRow (rank : ℕ → ℕ) (row : ℕ) (lanes : List ℕ) : Type 0 where
+pub record IsRankRow (rank : ℕ → ℕ) (row : ℕ) (lanes : List ℕ) : Type 0 where
   pub many : length lanes ≡ 16
   pub each : (lane : ℕ) → lane < 16 → slice_index lanes lane ≡ rank (16 * row + lane)
 
@@ -22,7 +22,7 @@ abbrev pub IsNoBetter : (ℕ → ℕ) → ℕ → ℕ → ℕ → Type 0
 IsNoBetter rank group value other = (rank other < value) ⊎ ((rank other ≡ value) × (group ≤ other))
 
 -- of all groups but the one that is left out the one of greatest rank, at least 1, and of several such the lowest
-pub record IsGreatest (rank : ℕ → ℕ) (left_out : Option ℕ) (group value : ℕ) : Type 0 where
+pub record IsTopRanked (rank : ℕ → ℕ) (left_out : Option ℕ) (group value : ℕ) : Type 0 where
   pub low : group < 512
   pub other : left_out ≢ Some group
   pub is : rank group ≡ value
@@ -32,7 +32,7 @@ pub record IsGreatest (rank : ℕ → ℕ) (left_out : Option ℕ) (group value 
 -- none exactly where every rank is 0, but that of the group that is left out
 abbrev pub IsChoice : (ℕ → ℕ) → Option ℕ → Option Ranked → Type 0
 IsChoice rank left_out None = (other : ℕ) → other < 512 → left_out ≢ Some other → rank other ≡ 0
-IsChoice rank left_out (Some best) = IsGreatest rank left_out best.group best.rank
+IsChoice rank left_out (Some best) = IsTopRanked rank left_out best.group best.rank
 
 -- the best of the groups below a bound, for loops; of value 0 where there is none
 pub record IsBestTo (rank : ℕ → ℕ) (left_out : Option ℕ) (bound group value : ℕ) : Type 0 where

@@ -15,8 +15,8 @@ abbrev pub up_to : ℕ → ℕ → ℕ
 up_to most count = if nat_le count most then count else 0
 
 -- the lower a count the higher its rank, but 0 stays 0
-abbrev pub turned : ℕ → ℕ
-turned count = (0 + (2 ^ 16 - count)) % 2 ^ 16
+abbrev pub inverted_rank : ℕ → ℕ
+inverted_rank count = (0 + (2 ^ 16 - count)) % 2 ^ 16
 
 -- by tables of the slots and of the counts, the count of a group with a hole
 abbrev pub holed_count : List ℕ → List ℕ → ℕ → ℕ

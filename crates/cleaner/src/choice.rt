@@ -1,6 +1,6 @@
 // The group of greatest rank, of those that a plan may choose from.
 ghost use Rattle.std.specs.Prelude.{◌≡◌, ℕ, ◌+◌, ◌*◌, ◌<◌};
-ghost use Rattle.cleaner.specs.Choosing.{IsRow, IsBestTo, IsBetter, IsChoice};
+ghost use Rattle.cleaner.specs.Choosing.{IsRankRow, IsBestTo, IsBetter, IsChoice};
 
 use crate::lanes::{LANES, are_within};
 use extent_groups::GROUPS;
@@ -25,7 +25,7 @@ pub(crate) trait Ranks {
     fn row(&self, row: u16) -> u16x16
         requires low { row < 32 }
         requires whole { whole self.now }
-        ensures { IsRow (rank self.now) row result };
+        ensures { IsRankRow (rank self.now) row result };
 }
 
 // Of all groups but the one that is left out the one of greatest rank, at least 1, and of several such the lowest.

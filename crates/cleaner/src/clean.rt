@@ -1,7 +1,7 @@
 // Where nothing can be plugged, the emptiest group is cleaned; a group without live slots is empty.
 ghost use Rattle.std.specs.Prelude.{◌↔◌, ◌<◌, IsTrue, None};
 ghost use Rattle.cleaner.specs.Counts.{AreLiveCounts};
-ghost use Rattle.cleaner.specs.Plans.{IsPlugPlan, IsCleanPlan, IsEmpty, IsEmptyGroup};
+ghost use Rattle.cleaner.specs.Plans.{IsPlugPlan, IsCleanPlan, IsReclaimable, IsEmptyGroup};
 
 use crate::choice::greatest;
 use crate::counts::{counts_of, live_of};
@@ -87,7 +87,7 @@ pub fn empty_group<L: Live>(groups: &GroupTable, live: &L, write: Option<u16>) -
 // Whether the group is a parity group without live slots, and not the write group.
 fn is_empty<L: Live>(groups: &GroupTable, live: &L, write: Option<u16>, group: u16) -> bool
     requires { group < 512 }
-    ensures { IsTrue result ↔ IsEmpty groups.now (L.keys live.now) write group }
+    ensures { IsTrue result ↔ IsReclaimable groups.now (L.keys live.now) write group }
 {
     if write == Some(group) {
         return false;

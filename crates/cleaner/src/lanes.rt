@@ -1,7 +1,7 @@
 // Numbers of sixteen groups at once.
 ghost use Rattle.std.specs.Prelude.{◌≡◌, ◌↔◌, ◌*◌, ◌<◌, ◌≤◌, length, map, IsTrue};
 ghost use Rattle.std.specs.Simd.Lanes.{Each1, zip2, chunk};
-ghost use Rattle.cleaner.specs.Offered.{holed, in_parity, up_to, turned};
+ghost use Rattle.cleaner.specs.Offered.{holed, in_parity, up_to, inverted_rank};
 
 use std::simd::prelude::*;
 
@@ -55,7 +55,7 @@ pub(crate) fn keep_up_to(counts: u16x16, most: u16) -> u16x16
 // The lower a count the higher its rank, but 0 stays 0.
 #[inline(always)]
 pub(crate) fn turn(counts: u16x16) -> u16x16
-    ensures { result ≡ map turned counts }
+    ensures { result ≡ map inverted_rank counts }
 {
     u16x16::splat(0) - counts
 }

@@ -1,7 +1,7 @@
 // What the groups are chosen by: how many of each group's slots are live, and how many it has as a parity group.
 ghost use Rattle.std.specs.Prelude.{◌≡◌, ℕ, ◌<◌, length};
-ghost use Rattle.cleaner.specs.Offered.{holed_count, source_count, turned};
-ghost use Rattle.cleaner.specs.Choosing.{IsRow};
+ghost use Rattle.cleaner.specs.Offered.{holed_count, source_count, inverted_rank};
+ghost use Rattle.cleaner.specs.Choosing.{IsRankRow};
 
 use crate::choice::Ranks;
 use crate::lanes::{keep_holed, keep_parity, keep_up_to, row_of, turn};
@@ -38,7 +38,7 @@ pub(crate) struct Emptiest<'a> {
 impl<'a> Ranks for Emptiest<'a> {
     ghost whole = { λ e. length e.slots.now ≡ 512 };
 
-    ghost rank = { λ e group. turned (holed_count e.slots.now e.counts.now group) };
+    ghost rank = { λ e group. inverted_rank (holed_count e.slots.now e.counts.now group) };
 
     #[inline(always)]
     fn row(&self, row: u16) -> u16x16 {
@@ -59,7 +59,7 @@ pub(crate) struct Sources<'a> {
 impl<'a> Ranks for Sources<'a> {
     ghost whole = { λ s. length s.slots.now ≡ 512 };
 
-    ghost rank = { λ s group. turned (source_count s.slots.now s.counts.now s.most group) };
+    ghost rank = { λ s group. inverted_rank (source_count s.slots.now s.counts.now s.most group) };
 
     #[inline(always)]
     fn row(&self, row: u16) -> u16x16 {

@@ -1,6 +1,6 @@
 // The lowest slots of a parity group.
 ghost use Rattle.std.specs.Prelude.{◌≡◌, ℕ, ◌/◌, ◌<◌, MatchOption, Some};
-ghost use Rattle.map_join.specs.Live.{IsLive, LiesAt};
+ghost use Rattle.map_join.specs.Live.{IsLive, MapsTo};
 ghost use Rattle.extent_groups.specs.declared.class.Class.TheVariants.{Parity};
 ghost use Rattle.extent_groups.specs.Groups.{group_at, class_in};
 ghost use Rattle.extent_groups.specs.Stores.{IsSlotOf};
@@ -14,7 +14,7 @@ pub(crate) fn lowest_live<L: Live>(groups: &GroupTable, live: &L, group: u16) ->
     requires low { group < 512 }
     requires made { class_in (group_at groups.now group) ≡ Some Parity }
     ensures { MatchOption result ((slot : ℕ) → IsLiveOf groups.now (L.keys live.now) group slot → ⊥)
-        (λ found. IsLowest (IsLiveOf groups.now (L.keys live.now) group) found.0 × LiesAt (L.keys live.now) found.1 found.0) }
+        (λ found. IsLowest (IsLiveOf groups.now (L.keys live.now) group) found.0 × MapsTo (L.keys live.now) found.1 found.0) }
 {
     let _members = groups.members(group);
     for index in 0..groups.slots_of(group) {

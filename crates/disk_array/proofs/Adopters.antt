@@ -6,11 +6,11 @@ use Rattle.std.specs.Prelude.{slice_index}
 use Rattle.extents.specs.Failures.{Failures}
 use Rattle.extents.specs.declared.shape.TheConstants.{HEADER_BYTES}
 use Rattle.extent_groups.specs.Stores.{unit_bytes}
-use Rattle.array_parts.specs.declared.parts.Parts.{Parts}
-use Rattle.array_parts.specs.Fit.{IsFit}
-use Rattle.array_parts.specs.Views.{drive_view, view_of}
-use Rattle.array_parts.proofs.Views.{view_drives}
-use Rattle.flat_machine.specs.Restarted.{HasPlaces}
+use Rattle.unit_store.specs.declared.parts.Parts.{Parts}
+use Rattle.unit_store.specs.Fit.{IsFit}
+use Rattle.unit_store.specs.Views.{drive_view, view_of}
+use Rattle.unit_store.proofs.Views.{view_drives}
+use Rattle.flat_machine.specs.Restarted.{HasDistinctSlots}
 use Rattle.slot_tables.specs.Views.{Nothing, ArrayView, IsWhole}
 use Rattle.slot_tables.specs.Adopted.{IsAdopted}
 use Rattle.slot_tables.proofs.News.{shape_sizes}
@@ -21,13 +21,13 @@ use Rattle.slot_tables.specs.declared.slot_state.SlotState.{SlotState}
 use Rattle.slot_tables.specs.declared.slot_state.SlotState.TheVariants as state
 use Rattle.disk_array.specs.declared.buffers.Buffers.{Buffers}
 use Rattle.disk_array.specs.Inside.{seen, AreBuffers, IsReady}
-use Rattle.slot_tables.specs.Kept.{kepts_of, IsOf, AreOf}
+use Rattle.slot_tables.specs.Kept.{kepts_of, IsClaimOf, AreOf}
 use Rattle.slot_tables.specs.Counted.{AreCounts}
 use Rattle.slot_tables.specs.declared.ready.NotAdopted.{NotAdopted}
 use Rattle.slot_tables.specs.declared.ready.NotAdopted.TheVariants.{Memory, NoClaim}
-use Rattle.slot_tables.specs.Claims.{AreClaimsOf, AreReady, AreKeys, IsNotAdopted, IsNotRestarted, kept_for, wanted_at}
+use Rattle.slot_tables.specs.Claims.{AreClaimsOf, AreReady, AreKeys, IsNotAdopted, IsNotRestarted, kept_for, expected_at}
 use Rattle.disk_array.proofs.Ready.{as_many}
-use Rattle.slot_tables.proofs.Adoptions.{all_keys, wants_placed}
+use Rattle.slot_tables.proofs.Adoptions.{all_keys, needs_placed}
 use Rattle.slot_tables.proofs.Places.{kepts_many}
 
 -- parts that fit are an array's parts
@@ -46,7 +46,7 @@ fit_parts {D} units lost failures p fit = record {
 
 -- free places have claims of their slots
 pub free_of : {C : Type 0} (names : C → ℕ) (places : List (SlotState C)) → ((s : ℕ) → get_or places s state.Free ≡ state.Free) → AreOf names places
-free_of names places free s inside = subst (IsOf names s) (sym (free s)) tt
+free_of names places free s inside = subst (IsClaimOf names s) (sym (free s)) tt
 
 -- the array of these parts, of what is ready, of places and their counts, and of buffers
 abbrev pub adopted : {D C : Type 0} → Parts D → Ready C → Vec (SlotState C) Global → List ℕ → Buffers → Inside D C
@@ -61,8 +61,8 @@ adopted parts ready places live buffers = record {
 }
 
 -- the map's keys
-pub keys_told : (blocks : ℕ) (M : ℕ → ℕ) (keys : List ℕ) → ((b : ℕ) → 0 < M b → b < blocks) → AreKeys blocks M keys → (b : ℕ) → slice_index keys b ≡ M b
-keys_told blocks M keys inside are b = go (either b)
+pub keys_reported : (blocks : ℕ) (M : ℕ → ℕ) (keys : List ℕ) → ((b : ℕ) → 0 < M b → b < blocks) → AreKeys blocks M keys → (b : ℕ) → slice_index keys b ≡ M b
+keys_reported blocks M keys inside are b = go (either b)
   where
     either : (n : ℕ) → (n < blocks) ⊎ (blocks ≤ n)
     either n = grind (arith)
@@ -75,19 +75,19 @@ keys_told blocks M keys inside are b = go (either b)
     go (inr h) = get_or_past keys b 0 (let m = are.many in omega (arith, m, h)) ∙ none (M b) (inside b) h
 
 pub is_adopted : {D C : Type 0} (units : D → List (List ℕ)) (lost : D → Bool) (failures : D → Failures) (names : C → ℕ) (parts : Parts D) (M : ℕ → ℕ) (claims : List C) (ready : Ready C) (places : Vec (SlotState C) Global) (live : List ℕ) (buffers : Buffers)
-    → HasPlaces parts.groups M → AreReady names parts.groups M claims ready
-    → ((s : ℕ) → get_or (kepts_of places.items) s Nothing ≡ kept_for (wanted_at ready.wanted.items s))
+    → HasDistinctSlots parts.groups M → AreReady names parts.groups M claims ready
+    → ((s : ℕ) → get_or (kepts_of places.items) s Nothing ≡ kept_for (expected_at ready.expected.items s))
     → IsAdopted (view_of units lost failures parts) M (seen units lost failures (adopted parts ready places live buffers))
 is_adopted units lost failures names parts M claims ready places live buffers has is kept = record {
   parts_are = refl;
   log = is.log;
-  keys_are = keys_told parts.groups.blocks M ready.keys.items has.blocks is.keys;
-  kept = λ s. rw (kept s) (wants_placed M ready.log.items (vec_len ready.room.places) ready.wanted.items is.log (all_keys parts.groups M ready.keys.items has is.keys) is.wanted s);
+  keys_are = keys_reported parts.groups.blocks M ready.keys.items has.blocks is.keys;
+  kept = λ s. rw (kept s) (needs_placed M ready.log.items (vec_len ready.room.places) ready.expected.items is.log (all_keys parts.groups M ready.keys.items has is.keys) is.expected s);
 }
 
 -- it keeps what every array keeps
 pub is_whole : {D C : Type 0} (units : D → List (List ℕ)) (lost : D → Bool) (failures : D → Failures) (names : C → ℕ) (parts : Parts D) (M : ℕ → ℕ) (claims : List C) (ready : Ready C) (places : Vec (SlotState C) Global) (live : List ℕ) (buffers : Buffers)
-    → HasPlaces parts.groups M → AreReady names parts.groups M claims ready → IsFit units parts → length places.items ≤ 65536
+    → HasDistinctSlots parts.groups M → AreReady names parts.groups M claims ready → IsFit units parts → length places.items ≤ 65536
     → IsAdopted (view_of units lost failures parts) M (seen units lost failures (adopted parts ready places live buffers))
     → IsWhole (seen units lost failures (adopted parts ready places live buffers))
 is_whole units lost failures names parts M claims ready places live buffers has is fit most adopts =

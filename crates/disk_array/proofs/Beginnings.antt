@@ -8,8 +8,8 @@ use Rattle.extents.specs.Condition.{Held, is_gone, failures_of}
 use Rattle.extents.specs.declared.mem_drive.Condition.TheVariants.{Present}
 use Rattle.extent_groups.specs.Missing.{is_missing}
 use Rattle.flat_machine.specs.Flat.{Flat, new_flat}
-use Rattle.array_parts.specs.Losses.{failures_at}
-use Rattle.array_parts.specs.Views.{drive_lost, drive_failures, lost_of, failed_of}
+use Rattle.unit_store.specs.Losses.{failures_at}
+use Rattle.unit_store.specs.Views.{drive_lost, drive_failures, lost_of, failed_of}
 use Rattle.slot_tables.specs.declared.hand.Hand.{Hand}
 use Rattle.slot_tables.specs.declared.hand.Hand.TheVariants.{Empty}
 use Rattle.slot_tables.specs.Views.{ArrayView, hand_at}

@@ -4,13 +4,13 @@ use Rattle.std.proofs.lemmas.Bool.{cases_eq}
 use Rattle.std.proofs.lemmas.Bool.Decides.{nat_tests}
 use Rattle.extent_groups.specs.Geometry.{slot_count}
 use Rattle.extent_groups.specs.Groups.{Groups, Group, group_at, slots_in}
-use Rattle.array_parts.specs.Views.{PartsView, WasTaken}
-use Rattle.flat_machine.specs.Flat.{Flat, Holder, Worker, Ticket, Shut, IsArrays, for_ticket, for_block, for_shut, IsKept}
+use Rattle.unit_store.specs.Views.{PartsView, WasTaken}
+use Rattle.flat_machine.specs.Flat.{Flat, Holder, Worker, Ticket, Shut, IsArrays, for_ticket, for_block, for_shut, IsArrayHeld}
 use Rattle.flat_machine.specs.Groups.{class_at, class_below}
 use Rattle.flat_machine.specs.Moves.{IsIn, HasClaim, IsFirstStray, unmade}
 use Rattle.flat_machine.specs.History.{AreHeld}
 use Rattle.flat_machine.specs.Steps.{Unmake, Refused, UnmadeGroup}
-use Rattle.flat_machine.specs.Cases.{UnmakeCase, IsWanted}
+use Rattle.flat_machine.specs.Cases.{UnmakeCase, IsAllocating}
 use Rattle.flat_machine.specs.declared.refusal.Refusal.{Refusal}
 use Rattle.flat_machine.specs.declared.refusal.Refusal.TheVariants.{Memory, NoGroup, WrongClass, InUse, NoTicket, Outrun, VersionSpent, HopsSpent, Unwritten, Gone, SlotsHeld, ExtentTaken, SameDrive, DriveLost, Ahead, LogFull, Full, BadMember}
 use Rattle.flat_machine.proofs.Holding.{step_holds, once_any}
@@ -26,7 +26,7 @@ use Rattle.slot_tables.proofs.Kepts.{kept_iff, unkept}
 use Rattle.slot_tables.proofs.Unmaking.{unmade_case}
 use Rattle.slot_tables.proofs.Wholes.{slot_of_class}
 use Rattle.slot_tables.specs.Claims.{how_many}
-use Rattle.slot_tables.specs.Shut.{one_of, count_in, CanUnmake, HasStranger, IsGiven, IsUnmakeReason, AreWorkers, IsFirstNotHeld, emptied}
+use Rattle.slot_tables.specs.Shut.{one_of, slots_in_group, CanUnmake, HasStranger, IsGiven, IsUnmakeReason, AreWorkers, IsFirstNotHeld, hand_emptied}
 use Rattle.slot_tables.proofs.Shutting.{is_first, first_of, of_first, first_one, one_first, free_kept}
 
 -- a slot below a group's count has a class
@@ -46,40 +46,40 @@ nothing_kept (Newest b) e = absurd (cc)
 nothing_kept Unmade e = absurd (cc)
 
 -- a group's first slots are those that are in it
-in_of : (a : ArrayView) (F : Flat) (g slot : ℕ) → F.groups ≡ a.parts.groups → is_first g (count_in a g) slot ≡ true → IsIn F g slot
+in_of : (a : ArrayView) (F : Flat) (g slot : ℕ) → F.groups ≡ a.parts.groups → is_first g (slots_in_group a g) slot ≡ true → IsIn F g slot
 in_of a F g slot same first =
-    let y = of_first g (count_in a g) slot first in
+    let y = of_first g (slots_in_group a g) slot first in
     record {
       group = y.0;
       made = subst (λ (z : Groups). class_at z slot ≢ None) (sym same) (some_class a.parts.groups.segments (group_at a.parts.groups (slot / 128)) (slot % 128)
           (subst (λ h. slot % 128 < slots_in a.parts.groups.segments (group_at a.parts.groups h)) (sym y.0) y.1));
     }
 
-of_in : (a : ArrayView) (F : Flat) (g slot : ℕ) → F.groups ≡ a.parts.groups → IsIn F g slot → is_first g (count_in a g) slot ≡ true
-of_in a F g slot same is = first_of g (count_in a g) slot is.group
+of_in : (a : ArrayView) (F : Flat) (g slot : ℕ) → F.groups ≡ a.parts.groups → IsIn F g slot → is_first g (slots_in_group a g) slot ≡ true
+of_in a F g slot same is = first_of g (slots_in_group a g) slot is.group
     (subst (λ h. slot % 128 < slots_in a.parts.groups.segments (group_at a.parts.groups h)) is.group (slot_of_class a.parts.groups slot (subst (λ (z : Groups). class_at z slot ≢ None) same is.made)))
 
 module _ {C : Type 0} (names : C → ℕ) (a : ArrayView) (F : Flat) (w g : ℕ) (claims : List C) (shows : ShowsArray a F) (workers : AreWorkers names F w g claims) where
   same : F.groups ≡ a.parts.groups
   same = shows.tables.groups
 
-  had : group_at a.parts.groups g ≢ None → (slot : ℕ) → how_many names claims slot ≡ cond (F.held slot (Worker w)) (one_of g (count_in a g) slot) 0
+  had : group_at a.parts.groups g ≢ None → (slot : ℕ) → how_many names claims slot ≡ cond (F.held slot (Worker w)) (one_of g (slots_in_group a g) slot) 0
   had = subst (λ (z : Groups). group_at z g ≢ None → (slot : ℕ) → how_many names claims slot ≡ cond (F.held slot (Worker w)) (one_of g (slots_in z.segments (group_at z g)) slot) 0) same workers
 
   -- a claim that was given is the worker's, and so is one that the worker has given
   held_of : group_at a.parts.groups g ≢ None → (slot : ℕ) → 0 < how_many names claims slot → F.held slot (Worker w) ≡ true
   held_of made slot some = go (F.held slot (Worker w)) (had made slot)
     where
-      go : (q : Bool) → how_many names claims slot ≡ cond q (one_of g (count_in a g) slot) 0 → q ≡ true
+      go : (q : Bool) → how_many names claims slot ≡ cond q (one_of g (slots_in_group a g) slot) 0 → q ≡ true
       go true e = refl
       go false e = absurd (omega (arith, some, e))
 
   claim_of : group_at a.parts.groups g ≢ None → (slot : ℕ) → IsGiven names a claims slot → HasClaim F w slot
   claim_of made slot given = (held_of made slot given.0, unkept a F slot given.1 shows)
 
-  given_of : group_at a.parts.groups g ≢ None → (slot : ℕ) → 0 < one_of g (count_in a g) slot → HasClaim F w slot → IsGiven names a claims slot
+  given_of : group_at a.parts.groups g ≢ None → (slot : ℕ) → 0 < one_of g (slots_in_group a g) slot → HasClaim F w slot → IsGiven names a claims slot
   given_of made slot some claim = (
-    let e = had made slot in let is : how_many names claims slot ≡ one_of g (count_in a g) slot = e ∙ ap (λ q. cond q (one_of g (count_in a g) slot) 0) claim.0 in omega (arith, is, some),
+    let e = had made slot in let is : how_many names claims slot ≡ one_of g (slots_in_group a g) slot = e ∙ ap (λ q. cond q (one_of g (slots_in_group a g) slot) 0) claim.0 in omega (arith, is, some),
     nothing_kept (kept_at a slot) (never (is_kept (kept_at a slot)) (λ e. claim.1 ((kept_iff a F slot shows).0 e))),
   )
     where
@@ -91,7 +91,7 @@ module _ {C : Type 0} (names : C → ℕ) (a : ArrayView) (F : Flat) (w g : ℕ)
   no_stranger : group_at a.parts.groups g ≢ None → HasStranger names a g claims → ⊥
   no_stranger made is = go (F.held is.slot (Worker w)) (had made is.slot)
     where
-      go : (q : Bool) → how_many names claims is.slot ≡ cond q (one_of g (count_in a g) is.slot) 0 → ⊥
+      go : (q : Bool) → how_many names claims is.slot ≡ cond q (one_of g (slots_in_group a g) is.slot) 0 → ⊥
       go true e = let m = is.more in absurd (omega (arith, m, e))
       go false e = let m = is.more in absurd (omega (arith, m, e))
 
@@ -104,10 +104,10 @@ module _ {C : Type 0} (names : C → ℕ) (a : ArrayView) (F : Flat) (w g : ℕ)
       free (Some x) e = absurd (no_stranger (λ none. let bad : Some x ≡ None = sym e ∙ none in cc) is)
   unmake_refused (SlotsHeld slot) is = (
     record {
-      is = in_of a F g slot same (first_one g (count_in a g) slot is.is);
+      is = in_of a F g slot same (first_one g (slots_in_group a g) slot is.is);
       stray = λ claim. is.not_given (given_of is.made slot is.is claim);
       below = λ other less of.
-          claim_of is.made other (is.below other less (let one = one_first g (count_in a g) other (of_in a F g other same of) in omega (arith, one)));
+          claim_of is.made other (is.below other less (let one = one_first g (slots_in_group a g) other (of_in a F g other same of) in omega (arith, one)));
     },
     itself F,
   )
@@ -131,16 +131,16 @@ module _ {C : Type 0} (names : C → ℕ) (a : ArrayView) (F : Flat) (w g : ℕ)
   -- where all are given the worker has them, and the group is dissolved
   claimed : CanUnmake names a g claims → (slot : ℕ) → IsIn F g slot → HasClaim F w slot
   claimed can slot is =
-      let one = one_first g (count_in a g) slot (of_in a F g slot same is) in
+      let one = one_first g (slots_in_group a g) slot (of_in a F g slot same is) in
       let all = can.all slot in
       claim_of can.made slot (omega (arith, one, all), can.free slot (omega (arith, one)))
 
-  pub unmake_done : (v : PartsView) (kept : List Kept) → IsWhole a → CanUnmake names a g claims → WasTaken a.parts g v → IsClosed g (count_in a g) a.kept kept
+  pub unmake_done : (v : PartsView) (kept : List Kept) → IsWhole a → CanUnmake names a g claims → WasTaken a.parts g v → IsClosed g (slots_in_group a g) a.kept kept
       → (G : Flat) × (UnmakeCase F w g (UnmadeGroup g) G) × (ShowsArray (opened_view a v kept) G)
   unmake_done v kept whole can taken closed = unmade_case a v kept g whole can.made taken closed (free_kept names a g claims can) F w shows (claimed can)
 
 -- a slot that a worker holds the array holds for nobody
-unkept_claim : (F : Flat) (w slot : ℕ) → AreHeld F → F.held slot (Worker w) ≡ true → IsKept F slot → ⊥
+unkept_claim : (F : Flat) (w slot : ℕ) → AreHeld F → F.held slot (Worker w) ≡ true → IsArrayHeld F slot → ⊥
 unkept_claim F w slot held mine (k, of, has) = not_workers k of (held.once slot (Worker w) k mine has)
   where
     not_workers : (k : Holder) → IsArrays k → Worker w ≡ k → ⊥
@@ -151,7 +151,7 @@ unkept_claim F w slot held mine (k, of, has) = not_workers k of (held.once slot 
 -- and of a world
 module _ (v : WorldView) (F : Flat) (w g : ℕ) (rep : Represents v F) where
   abbrev count : ℕ
-  count = count_in v.array g
+  count = slots_in_group v.array g
 
   groups : F.groups ≡ v.array.parts.groups
   groups = rep.array.tables.groups
@@ -168,8 +168,8 @@ module _ (v : WorldView) (F : Flat) (w g : ℕ) (rep : Represents v F) where
   all_claims : HoldsAll → (slot : ℕ) → IsIn F g slot → HasClaim F w slot
   all_claims all slot is = claim_at slot (all slot (one_in slot is))
 
-  pub unmake_wants : group_at v.array.parts.groups g ≢ None → HoldsAll → IsWanted F (Unmake w g)
-  unmake_wants made all = (subst (λ (z : Groups). group_at z g ≢ None) (sym groups) made, all_claims all)
+  pub unmake_needs : group_at v.array.parts.groups g ≢ None → HoldsAll → IsAllocating F (Unmake w g)
+  unmake_needs made all = (subst (λ (z : Groups). group_at z g ≢ None) (sym groups) made, all_claims all)
 
   pub first_stray : (slot : ℕ) → IsFirstNotHeld v.hands w g count slot → IsFirstStray F w g slot
   first_stray slot is = record {
@@ -195,7 +195,7 @@ module _ (v : WorldView) (F : Flat) (w g : ℕ) (rep : Represents v F) where
           none false = refl
 
   -- nobody has the group's slots in hand then
-  hands_of : (hands : List Hand) → group_at F.groups g ≢ None → HoldsAll → ((slot : ℕ) → hand_at hands slot ≡ emptied g count slot (hand_at v.hands slot))
+  hands_of : (hands : List Hand) → group_at F.groups g ≢ None → HoldsAll → ((slot : ℕ) → hand_at hands slot ≡ hand_emptied g count slot (hand_at v.hands slot))
       → (slot : ℕ) → HandSlot (hand_at hands slot) ((unmade F w g).held slot)
   hands_of hands made all are slot = go (is_first g count slot) refl
     where
@@ -225,7 +225,7 @@ module _ (v : WorldView) (F : Flat) (w g : ℕ) (rep : Represents v F) where
               (past (slot % 128) (slots_in F.groups.segments (group_at F.groups g)) count (λ low. let bad : true ≡ false = sym (first_of g count slot e low) ∙ other in cc) same_count)
           else_held (inr ne) = held_else F (key_at v.array) w g rep.array.history made (all_claims all) slot ne
 
-  pub unmake_world : (a : ArrayView) (hands : List Hand) → HoldsAll → ((slot : ℕ) → hand_at hands slot ≡ emptied g count slot (hand_at v.hands slot))
+  pub unmake_world : (a : ArrayView) (hands : List Hand) → HoldsAll → ((slot : ℕ) → hand_at hands slot ≡ hand_emptied g count slot (hand_at v.hands slot))
       → (G : Flat) × (UnmakeCase F w g (UnmadeGroup g) G) × (ShowsArray a G) → (G : Flat) × (UnmakeCase F w g (UnmadeGroup g) G) × (Represents (record { array = a; hands = hands }) G)
   unmake_world a hands all are y = (
     y.0,

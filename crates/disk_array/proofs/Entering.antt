@@ -7,8 +7,8 @@ use Rattle.flat_machine.specs.declared.refusal.Refusal.TheVariants.{Memory}
 use Rattle.flat_machine.specs.Flat.{Flat}
 use Rattle.flat_machine.specs.Groups.{IsLowestFree}
 use Rattle.flat_machine.specs.Steps.{Make, Refused}
-use Rattle.flat_machine.specs.Cases.{IsWanted, MakeCase}
-use Rattle.array_parts.specs.Views.{FoundLost}
+use Rattle.flat_machine.specs.Cases.{IsAllocating, MakeCase}
+use Rattle.unit_store.specs.Views.{FoundLost}
 use Rattle.slot_tables.specs.Changes.{MayRefuse}
 use Rattle.slot_tables.specs.Making.{IsMakeReason}
 use Rattle.slot_tables.specs.Represents.{ShowsArray}
@@ -18,10 +18,10 @@ use Rattle.disk_array.proofs.Ready.{as_refused}
 
 pub not_made : (a b : ArrayView) (F : Flat) (class : Class) (members : List Member) (g : ℕ) (q : Refusal) → IsMakeReason a members None → IsLowestFree a.parts.groups g
     → b ≡ with_parts a b.parts → ((q ≡ Memory) × (b.parts ≡ a.parts)) ⊎ (FoundLost a.parts members b.parts q) → ShowsArray a F
-    → MayRefuse q (IsWanted F (Make class members)) ((G : Flat) × MakeCase F class members (Refused q) G × ShowsArray b G)
+    → MayRefuse q (IsAllocating F (Make class members)) ((G : Flat) × MakeCase F class members (Refused q) G × ShowsArray b G)
 not_made a b F class members g q reason lowest rest (inl none) shows =
-    subst (λ z. MayRefuse z (IsWanted F (Make class members)) ((G : Flat) × MakeCase F class members (Refused z) G × ShowsArray b G)) (sym none.0)
+    subst (λ z. MayRefuse z (IsAllocating F (Make class members)) ((G : Flat) × MakeCase F class members (Refused z) G × ShowsArray b G)) (sym none.0)
     (g, make_passes a F members g reason lowest shows)
 not_made a b F class members g q reason lowest rest (inr found) shows =
-    as_refused q (IsWanted F (Make class members)) (λ G. MakeCase F class members (Refused q) G) b (with_parts a b.parts) rest
+    as_refused q (IsAllocating F (Make class members)) (λ G. MakeCase F class members (Refused q) G) b (with_parts a b.parts) rest
     (make_lost a b.parts F class members g q reason lowest found shows)

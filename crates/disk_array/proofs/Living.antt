@@ -5,7 +5,7 @@ use Rattle.map_join.specs.Lists.{ListsBelow}
 use Rattle.map_join.specs.Live.{IsLive, IsBlockAt, IsLiveIn, IsLiveCount}
 use Rattle.map_join.proofs.Rising.{below_none, below_more, below_skip, below_all, count_same}
 use Rattle.extent_groups.specs.Groups.{group_at, slots_in}
-use Rattle.slot_tables.specs.Views.{Kept, Nothing, Pending, Moving, Newest, Unmade, ArrayView, IsWhole, block_in, kept_at, key_at}
+use Rattle.slot_tables.specs.Views.{Kept, Nothing, Pending, Moving, Newest, Unmade, ArrayView, IsWhole, newest_block_in, kept_at, key_at}
 use Rattle.slot_tables.proofs.Newest.{lies_at}
 use Rattle.slot_tables.proofs.Wholes.{slot_of_class}
 use Rattle.slot_tables.specs.Counted.{is_newest, newest_in, newest_below, AreCounts}
@@ -13,9 +13,9 @@ use Rattle.slot_tables.proofs.Counts as counts
 
 -- a block's newest place is live, and no other slot is
 is_live : (a : ArrayView) (s b : ℕ) → IsWhole a → kept_at a s ≡ Newest b → IsLive (key_at a) s
-is_live a s b whole is = (b, subst (λ k. IsBlockAt (key_at a) s (block_in k)) is (lies_at a s whole))
+is_live a s b whole is = (b, subst (λ k. IsBlockAt (key_at a) s (newest_block_in k)) is (lies_at a s whole))
 
-no_live : (a : ArrayView) (s : ℕ) → IsWhole a → block_in (kept_at a s) ≡ None → IsLive (key_at a) s → ⊥
+no_live : (a : ArrayView) (s : ℕ) → IsWhole a → newest_block_in (kept_at a s) ≡ None → IsLive (key_at a) s → ⊥
 no_live a s whole none = subst (IsBlockAt (key_at a) s) none (lies_at a s whole)
 
 -- a group's live slots below an index, as a list
@@ -46,7 +46,7 @@ lists_so a group (suc index) whole few = go (lists_so a group index whole (omega
         let same = h.2 in
         (h.0 ++ slot ∷ [], subst (λ n. ListsBelow (IsLiveIn (key_at a) group 128) n (h.0 ++ slot ∷ [])) next (below_more (IsLiveIn (key_at a) group 128) slot h.0 so h.1), omega (arith, count, one, long, same))
 
-    skip : is_newest (kept_at a slot) ≡ false → block_in (kept_at a slot) ≡ None → ListsSo a group index → ListsSo a group (suc index)
+    skip : is_newest (kept_at a slot) ≡ false → newest_block_in (kept_at a slot) ≡ None → ListsSo a group index → ListsSo a group (suc index)
     skip isnt none h =
         let count = counts.below_next a.kept group index in
         let zero_more : newest_in (kept_at a slot) ≡ 0 = counts.newest_none (kept_at a slot) isnt in
@@ -54,15 +54,15 @@ lists_so a group (suc index) whole few = go (lists_so a group index whole (omega
         (h.0, below_skip (IsLiveIn (key_at a) group 128) slot (128 * group + suc index) h.0 (omega arith) (λ n from to live. no_live a slot whole none (subst (IsLive (key_at a)) (omega (arith, from, to)) live.live)) h.1, omega (arith, count, zero_more, same))
 
     go : ListsSo a group index → (k : Kept) → kept_at a slot ≡ k → ListsSo a group (suc index)
-    go h Nothing e = skip (ap is_newest e) (ap block_in e) h
-    go h (Pending k) e = skip (ap is_newest e) (ap block_in e) h
-    go h (Moving r k) e = skip (ap is_newest e) (ap block_in e) h
+    go h Nothing e = skip (ap is_newest e) (ap newest_block_in e) h
+    go h (Pending k) e = skip (ap is_newest e) (ap newest_block_in e) h
+    go h (Moving r k) e = skip (ap is_newest e) (ap newest_block_in e) h
     go h (Newest b) e = more b e h
-    go h Unmade e = skip (ap is_newest e) (ap block_in e) h
+    go h Unmade e = skip (ap is_newest e) (ap newest_block_in e) h
 
 -- a live slot is one of its group
 live_below : (a : ArrayView) (s : ℕ) → IsWhole a → IsLive (key_at a) s → s % 128 < slots_in a.parts.groups.segments (group_at a.parts.groups (s / 128))
-live_below a s whole live = slot_of_class a.parts.groups s (whole.there s (λ e. no_live a s whole (ap block_in e) live) (λ e. no_live a s whole (ap block_in e) live))
+live_below a s whole live = slot_of_class a.parts.groups s (whole.there s (λ e. no_live a s whole (ap newest_block_in e) live) (λ e. no_live a s whole (ap newest_block_in e) live))
 
 -- a group's count, over any number of slots that is at least the group's
 pub live_counted : (a : ArrayView) (live : List ℕ) (group slots : ℕ) → IsWhole a → group < 512 → AreCounts a.kept live

@@ -13,14 +13,14 @@ use Rattle.extent_groups.specs.Stores.{AreSound, KeepsUnits}
 use Rattle.flat_machine.specs.Flat.{Flat, put}
 use Rattle.flat_machine.specs.Moves.{with_fuse}
 use Rattle.flat_machine.proofs.Keeps.{fared}
-use Rattle.array_parts.specs.declared.parts.Parts.{Parts}
-use Rattle.array_parts.specs.Losses as drives
-use Rattle.array_parts.specs.Losses.{KeepsTables}
-use Rattle.array_parts.specs.Memory.{held_units, held_lost, held_failures, IsSetTo}
-use Rattle.array_parts.specs.Slots.{cells_in, missing_in}
-use Rattle.array_parts.specs.Views.{DriveView, PartsView, drive_view, view_of, lost_of}
-use Rattle.array_parts.proofs.Calls.{kept_shows, same_tables}
-use Rattle.array_parts.proofs.Views.{view_lost, view_failures, view_length}
+use Rattle.unit_store.specs.declared.parts.Parts.{Parts}
+use Rattle.unit_store.specs.Losses as drives
+use Rattle.unit_store.specs.Losses.{KeepsTables}
+use Rattle.unit_store.specs.Memory.{held_units, held_lost, held_failures, IsSetTo}
+use Rattle.unit_store.specs.Slots.{cells_in, missing_in}
+use Rattle.unit_store.specs.Views.{DriveView, PartsView, drive_view, view_of, lost_of}
+use Rattle.unit_store.proofs.Calls.{kept_shows, same_tables}
+use Rattle.unit_store.proofs.Views.{view_lost, view_failures, view_length}
 use Rattle.slot_tables.specs.Represents.{InTables, ShowsArray}
 use Rattle.slot_tables.specs.Views.{ArrayView, key_at, with_parts}
 use Rattle.disk_array.specs.Losing.{WasFused}
@@ -59,8 +59,8 @@ fused_drives a b d calls x inside set at =
 
 pub was_fused : (a b : Parts Held) (v : PartsView) (drive calls : ℕ) → held_parts a ≡ v → drive < length v.drives → IsSetTo (λ c. after_fuse c calls) a.drives.items b.drives.items drive
     → ((d : ℕ) → missing_in held_lost b d ≡ missing_in held_lost a d)
-    → ((d : ℕ) → drives.failures_of held_failures b.drives.items d
-    ≡ put (drives.failures_of held_failures a.drives.items) drive (fused (missing_in held_lost a drive) (drives.failures_of held_failures a.drives.items drive)) d)
+    → ((d : ℕ) → drives.failures_by_drive held_failures b.drives.items d
+    ≡ put (drives.failures_by_drive held_failures a.drives.items) drive (fused (missing_in held_lost a drive) (drives.failures_by_drive held_failures a.drives.items drive)) d)
     → (AreSound a.groups (cells_in held_units held_lost a) → KeepsUnits a.groups (cells_in held_units held_lost a) (cells_in held_units held_lost b))
     → (AreSound a.groups (cells_in held_units held_lost a) → AreSound b.groups (cells_in held_units held_lost b))
     → KeepsTables a b → WasFused (held_parts a) (held_parts b) drive
@@ -69,7 +69,7 @@ was_fused a b v drive calls seen below set missing failures keeps sound tables =
   lost = λ d. ap (λ f. f d) (view_lost held_units held_lost held_failures b) ∙ missing d
       ∙ ap (λ f. f d) (sym (view_lost held_units held_lost held_failures a));
   failures = λ d. ap (λ f. f d) (view_failures held_units held_lost held_failures b) ∙ failures d
-      ∙ ap (λ l. put (drives.failures_of held_failures a.drives.items) drive (fused (l drive) (drives.failures_of held_failures a.drives.items drive)) d)
+      ∙ ap (λ l. put (drives.failures_by_drive held_failures a.drives.items) drive (fused (l drive) (drives.failures_by_drive held_failures a.drives.items drive)) d)
       (sym (view_lost held_units held_lost held_failures a))
       ∙ ap (λ f. put f drive (fused (lost_of (held_parts a) drive) (f drive)) d) (sym (view_failures held_units held_lost held_failures a));
   shows = kept_shows held_units held_lost held_failures a b tables keeps

@@ -11,9 +11,9 @@ use Rattle.extents.specs.declared.shape.Shape.{Shape}
 use Rattle.extents.specs.declared.shape.TheConstants.{HEADER_BYTES}
 use Rattle.extent_groups.specs.Calls.{AreSized}
 use Rattle.extent_groups.proofs.Fresh.{no_members}
-use Rattle.array_parts.specs.Fit.{HaveUnits}
+use Rattle.unit_store.specs.Fit.{HaveUnitCount}
 use Rattle.extent_groups.specs.Stores.{AreDrives}
-use Rattle.array_parts.specs.Views.{drive_view, drive_units}
+use Rattle.unit_store.specs.Views.{drive_view, drive_units}
 use Rattle.slot_tables.specs.Views.{Nothing, IsNew}
 use Rattle.disk_array.specs.declared.array.Array.TheInside.{Inside}
 use Rattle.slot_tables.specs.declared.tables.Tables.{Tables}
@@ -57,7 +57,7 @@ is_new units lost failures shape t drives log live n count none are new = record
 }
 
 pub is_ready : {D C : Type 0} (units : D → List (List ℕ)) (shape : Shape) (t : Tables C) (drives : Vec D Global) (log : Vec Record Global) (live : List ℕ) (n : ℕ)
-    → n ≡ length drives.items → 3 ≤ length drives.items → length drives.items ≤ 16 → HaveUnits units drives.items (shape.extents * extent_units shape.segments)
+    → n ≡ length drives.items → 3 ≤ length drives.items → length drives.items ≤ 16 → HaveUnitCount units drives.items (shape.extents * extent_units shape.segments)
     → AreSized units (HEADER_BYTES + shape.payload) drives.items → AreNew shape n t → length live ≡ 512 → ((group : ℕ) → slice_index live group ≡ 0) → IsReady units (of_tables shape t drives log live)
 is_ready units shape t drives log live n count least most many sized new numbers zero =
     let bytes = ap (λ p. HEADER_BYTES + p) new.sizes.of_payload in record {

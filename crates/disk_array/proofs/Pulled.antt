@@ -7,13 +7,13 @@ use Rattle.std.proofs.lemmas.Option.{slice_get_cases, slice_get-map, same_Some}
 use Rattle.extents.specs.Failures.{Failures, settled}
 use Rattle.extent_groups.specs.Stores.{AreSound, KeepsUnits}
 use Rattle.flat_machine.specs.Flat.{put}
-use Rattle.array_parts.specs.declared.parts.Parts.{Parts}
-use Rattle.array_parts.specs.Fit.{IsFit}
-use Rattle.array_parts.specs.Losses.{KeepsTables, LosesDrive, failures_of}
-use Rattle.array_parts.specs.Slots.{cells_in, missing_in}
-use Rattle.array_parts.specs.Views.{DriveView, PartsView, drive_view, view_of}
-use Rattle.array_parts.proofs.Calls.{kept_shows, same_tables}
-use Rattle.array_parts.proofs.Views.{view_lost, view_failures, view_length}
+use Rattle.unit_store.specs.declared.parts.Parts.{Parts}
+use Rattle.unit_store.specs.Fit.{IsFit}
+use Rattle.unit_store.specs.Losses.{KeepsTables, LosesDrive, failures_by_drive}
+use Rattle.unit_store.specs.Slots.{cells_in, missing_in}
+use Rattle.unit_store.specs.Views.{DriveView, PartsView, drive_view, view_of}
+use Rattle.unit_store.proofs.Calls.{kept_shows, same_tables}
+use Rattle.unit_store.proofs.Views.{view_lost, view_failures, view_length}
 use Rattle.slot_tables.specs.Kept.{AreOf}
 use Rattle.slot_tables.specs.Views.{IsWhole}
 use Rattle.disk_array.specs.declared.array.Array.TheInside.{Inside}
@@ -39,14 +39,14 @@ drive_below units lost failures a v drive is inside =
     subst (λ n. drive < n) (view_length units lost failures a) (subst (λ (p : PartsView). drive < length p.drives) (sym is) inside)
 
 -- an array whose drives were lost or fused is whole and ready as it was
-pub still_stands : {D C : Type 0} (units : D → List (List ℕ)) (lost : D → Bool) (failures : D → Failures) (names : C → ℕ) (a : Inside D C) (p : Parts D)
+pub still_matches : {D C : Type 0} (units : D → List (List ℕ)) (lost : D → Bool) (failures : D → Failures) (names : C → ℕ) (a : Inside D C) (p : Parts D)
     → Keeps (view_of units lost failures a.parts) (view_of units lost failures p) → IsFit units p
     → IsWhole (seen units lost failures a) × AreOf names a.places.items × IsReady units a
     → IsWhole (seen units lost failures (record a { parts = p })) × AreOf names a.places.items × IsReady units (record a { parts = p })
-still_stands units lost failures names a p same fit stands = (
-  still_whole units lost failures a p same fit stands.0,
-  stands.1,
-  parts_ready units a p same.tables.groups fit stands.2,
+still_matches units lost failures names a p same fit matches = (
+  still_whole units lost failures a p same fit matches.0,
+  matches.1,
+  parts_ready units a p same.tables.groups fit matches.2,
 )
 
 module _ {D : Type 0} (units : D → List (List ℕ)) (lost : D → Bool) (failures : D → Failures) (a b : Parts D) (drive : ℕ)
@@ -79,7 +79,7 @@ module _ {D : Type 0} (units : D → List (List ℕ)) (lost : D → Bool) (failu
   many = view_length units lost failures b ∙ ap length is.1 ∙ length-set a.drives.items drive is.0 ∙ sym (view_length units lost failures a)
 
   pub was_lost : ((d : ℕ) → missing_in lost b d ≡ put (missing_in lost a) drive true d)
-      → ((d : ℕ) → failures_of failures b.drives.items d ≡ put (failures_of failures a.drives.items) drive (settled (failures_of failures a.drives.items drive)) d)
+      → ((d : ℕ) → failures_by_drive failures b.drives.items d ≡ put (failures_by_drive failures a.drives.items) drive (settled (failures_by_drive failures a.drives.items drive)) d)
       → (AreSound a.groups (cells_in units lost a) → KeepsUnits a.groups (cells_in units lost a) (cells_in units lost b))
       → (AreSound a.groups (cells_in units lost a) → AreSound b.groups (cells_in units lost b))
       → KeepsTables a b → WasLost (parts a) (parts b) drive

@@ -7,8 +7,8 @@ use Rattle.std.specs.Vec.{with_items}
 use Rattle.extents.specs.Failures.{Failures}
 use Rattle.extent_groups.specs.Groups.{Groups}
 use Rattle.extent_groups.specs.Stores.{unit_bytes}
-use Rattle.array_parts.specs.declared.parts.Parts.{Parts}
-use Rattle.array_parts.specs.Fit.{IsFit}
+use Rattle.unit_store.specs.declared.parts.Parts.{Parts}
+use Rattle.unit_store.specs.Fit.{IsFit}
 use Rattle.flat_machine.specs.Flat.{Flat}
 use Rattle.slot_tables.specs.Changes.{MayRefuse}
 use Rattle.slot_tables.specs.Represents.{ShowsArray}
@@ -22,8 +22,8 @@ use Rattle.slot_tables.specs.Kept.{kepts_of}
 use Rattle.slot_tables.specs.Counted.{is_newest, AreCounts}
 use Rattle.slot_tables.proofs.Counts.{counts_same}
 use Rattle.slot_tables.proofs.Placing.{placed_with}
-use Rattle.array_parts.proofs.Views.{view_drives}
-use Rattle.array_parts.specs.Views.{view_of, PartsView, SameTables, DrivesFare, Loses, FoundGone, WasNotCarried, WasTaken}
+use Rattle.unit_store.proofs.Views.{view_drives}
+use Rattle.unit_store.specs.Views.{view_of, PartsView, SameTables, DrivesFare, Loses, FoundGone, WasNotCarried, WasTaken}
 use Rattle.flat_machine.specs.declared.refusal.Refusal.{Refusal}
 
 -- a vector has the same number of elements after they were overwritten
@@ -87,14 +87,14 @@ scratch_ready units lost failures a p scratch same fit ready =
     }
 
 -- so all that is always true of an array holds
-pub still_stands : {D C Claims : Type 0} (units : D → List (List ℕ)) (lost : D → Bool) (failures : D → Failures) (a : Inside D C) (p : Parts D) (unit scratch : List ℕ)
+pub still_matches : {D C Claims : Type 0} (units : D → List (List ℕ)) (lost : D → Bool) (failures : D → Failures) (a : Inside D C) (p : Parts D) (unit scratch : List ℕ)
     → Keeps (view_of units lost failures a.parts) (view_of units lost failures p) → IsFit units p → IsWhole (seen units lost failures a) × Claims × IsReady units a
     → IsWhole (seen units lost failures (record a { parts = p })) × Claims
     × IsReady units (record a { parts = p; unit = with_items a.unit unit; scratch = with_items a.scratch scratch })
-still_stands units lost failures a p unit scratch same fit stands = (
-  still_whole units lost failures a p same fit stands.0,
-  stands.1,
-  still_ready units lost failures a p unit scratch same fit stands.2,
+still_matches units lost failures a p unit scratch same fit matches = (
+  still_whole units lost failures a p same fit matches.0,
+  matches.1,
+  still_ready units lost failures a p unit scratch same fit matches.2,
 )
 
 -- an equal number of places is enough

@@ -4,12 +4,12 @@ use Rattle.extents.specs.Failures.{Failures}
 use Rattle.extent_groups.specs.declared.class.Member.{Member}
 use Rattle.std.specs.Prelude.{length}
 use Rattle.extent_groups.specs.Stores.{AreDrives}
-use Rattle.array_parts.specs.Views.{PartsView, WasAdded, Shifted, NotShifted, drive_units, lost_of}
+use Rattle.unit_store.specs.Views.{PartsView, WasAdded, Shifted, NotShifted, drive_units, lost_of}
 use Rattle.flat_machine.specs.declared.refusal.Refusal.{Refusal}
 use Rattle.flat_machine.specs.Flat.{Flat}
 use Rattle.flat_machine.specs.Moves.{IsMoveReason}
 use Rattle.flat_machine.specs.Steps.{MoveExtent, MovedExtent, Refused}
-use Rattle.flat_machine.specs.Cases.{IsWanted, MoveCase}
+use Rattle.flat_machine.specs.Cases.{IsAllocating, MoveCase}
 use Rattle.slot_tables.specs.Changes.{MayRefuse}
 use Rattle.slot_tables.specs.Represents.{ShowsArray}
 use Rattle.slot_tables.specs.Views.{ArrayView, with_parts, IsWhole}
@@ -33,12 +33,12 @@ either_on (Ok x) ok err a b = ok a
 either_on (Err e) ok err a b = err e b
 
 -- what a move returns is the flat machine's case
-pub move_told : {T : Type 0} (a b : ArrayView) (F : Flat) (g k : ℕ) (to : Member) (r : Result T Refusal) → IsMoveReason a.parts.groups (length a.parts.drives) g k to None
+pub move_reported : {T : Type 0} (a b : ArrayView) (F : Flat) (g k : ℕ) (to : Member) (r : Result T Refusal) → IsMoveReason a.parts.groups (length a.parts.drives) g k to None
     → lost_of a.parts to.drive ≡ false → OnOk r (Shifted a.parts g k to b.parts) → IfErr r (NotShifted a.parts g k to b.parts) → b ≡ with_parts a b.parts → ShowsArray a F
     → MatchResult r (λ done. (G : Flat) × MoveCase F g k to MovedExtent G × ShowsArray b G)
-    (λ refusal. MayRefuse refusal (IsWanted F (MoveExtent g k to)) ((G : Flat) × MoveCase F g k to (Refused refusal) G × ShowsArray b G))
-move_told a b F g k to (Ok x) reason present ok err rest shows =
+    (λ refusal. MayRefuse refusal (IsAllocating F (MoveExtent g k to)) ((G : Flat) × MoveCase F g k to (Refused refusal) G × ShowsArray b G))
+move_reported a b F g k to (Ok x) reason present ok err rest shows =
     as_shown (λ G. MoveCase F g k to MovedExtent G) b (with_parts a b.parts) rest (move_case a b.parts g k to reason ok F (move_passes a F g k to reason present shows) shows)
-move_told a b F g k to (Err q) reason present ok err rest shows =
-    as_refused q (IsWanted F (MoveExtent g k to)) (λ G. MoveCase F g k to (Refused q) G) b (with_parts a b.parts) rest
+move_reported a b F g k to (Err q) reason present ok err rest shows =
+    as_refused q (IsAllocating F (MoveExtent g k to)) (λ G. MoveCase F g k to (Refused q) G) b (with_parts a b.parts) rest
     (move_stopped a b.parts F g k to q (move_passes a F g k to reason present shows) err shows)

@@ -30,8 +30,8 @@ claims_rest {C} names claims a F shows rests open_all are = record {
 
     found : (slot : ℕ) → 0 < how_many names claims slot → (kept : Kept) → ArraySlot slot kept (F.held slot) (F.tickets slot) → how_many names claims slot ≡ claims_in kept
         → (b : ℕ) × (0 < key_at a b) × ((record_of b (key_at a b)).place ≡ slot)
-    found slot some Nothing tells e = absurd (omega (arith, some, e))
-    found slot some (Pending k) tells e = absurd (let w = tells.waits.1 in let n = rests slot in cc)
-    found slot some (Moving r k) tells e = absurd (let w = tells.waits.1 in let n = rests slot in cc)
-    found slot some (Newest b) tells e = let h = (shows.history.holders slot).block b (tells.blocks b ∙ same b) in (b, h.0, h.1)
-    found slot some Unmade tells e = absurd (let n = sym (open_all slot (slot / 128)) ∙ tells.shut (slot / 128) ∙ same (slot / 128) in cc)
+    found slot some Nothing reports e = absurd (omega (arith, some, e))
+    found slot some (Pending k) reports e = absurd (let w = reports.waits.1 in let n = rests slot in cc)
+    found slot some (Moving r k) reports e = absurd (let w = reports.waits.1 in let n = rests slot in cc)
+    found slot some (Newest b) reports e = let h = (shows.history.holders slot).block b (reports.blocks b ∙ same b) in (b, h.0, h.1)
+    found slot some Unmade reports e = absurd (let n = sym (open_all slot (slot / 128)) ∙ reports.shut (slot / 128) ∙ same (slot / 128) in cc)

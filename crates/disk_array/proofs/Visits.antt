@@ -6,13 +6,13 @@ use Rattle.std.proofs.Math.Seq.{map-set_same, take-suc}
 use Rattle.std.proofs.Math.ListN.{get_or-map}
 use Rattle.std.proofs.lemmas.Option.{get_or_from_slice_get, slice_get-map, same_Some}
 use Rattle.std.proofs.lemmas.List.{length-map}
-use Rattle.extents.specs.Failures.{Failures, Counts, StaysSteady}
+use Rattle.extents.specs.Failures.{Failures, CountsFailure, StaysSteady}
 use Rattle.extent_groups.specs.Calls.{NoPlace, KeepsDrive, KeepsDrives}
 use Rattle.extent_groups.proofs.DriveCalls.{kept_same}
-use Rattle.array_parts.specs.Fit.{IsFit}
-use Rattle.array_parts.specs.Views.{DriveView, drive_units, drive_lost, drive_failures, drive_view, view_of}
-use Rattle.array_parts.proofs.Making.{still_fit}
-use Rattle.array_parts.proofs.Reading.{lent_back, written_back}
+use Rattle.unit_store.specs.Fit.{IsFit}
+use Rattle.unit_store.specs.Views.{DriveView, drive_units, drive_lost, drive_failures, drive_view, view_of}
+use Rattle.unit_store.proofs.Making.{still_fit}
+use Rattle.unit_store.proofs.Reading.{lent_back, written_back}
 use Rattle.slot_tables.specs.Views.{IsWhole}
 use Rattle.disk_array.specs.declared.array.Array.TheInside.{Inside}
 use Rattle.disk_array.specs.Inside.{seen, IsReady}
@@ -46,9 +46,9 @@ module _ {X Y : Type 0} (f : X → Y) where
   views_many xs ys same = sym (length-map ys f) ∙ ap length same ∙ length-map xs f
 
 -- a drive that is lost if it was, and failed as often
-no_loss : (was is : Bool) (before after : Failures) → is ≡ was → after ≡ before → Counts was is before after
-no_loss true is before after same fails = subst (λ b. Counts true b before after) (sym same) (subst (λ f. Counts true true before f) (sym fails) (omega arith))
-no_loss false is before after same fails = subst (λ b. Counts false b before after) (sym same) (subst (λ f. Counts false false before f) (sym fails) (omega arith))
+no_loss : (was is : Bool) (before after : Failures) → is ≡ was → after ≡ before → CountsFailure was is before after
+no_loss true is before after same fails = subst (λ b. CountsFailure true b before after) (sym same) (subst (λ f. CountsFailure true true before f) (sym fails) (omega arith))
+no_loss false is before after same fails = subst (λ b. CountsFailure false b before after) (sym same) (subst (λ f. CountsFailure false false before f) (sym fails) (omega arith))
 
 still_steady : (was is : Bool) (before after : Failures) → is ≡ was → after ≡ before → StaysSteady was is before after
 still_steady was is before after same fails steady = (ap (λ (f : Failures). f.steady) fails ∙ steady, same)
@@ -77,11 +77,11 @@ module _ {D : Type 0} (units : D → List (List ℕ)) (lost : D → Bool) (failu
         (ap (map (drive_view units lost failures)) back ∙ views ∙ ap (map (drive_view units lost failures)) is)
 
     -- all that is always true of an array holds
-    pub shown_stands : {Claims : Type 0} → IsFit units a.parts → IsWhole (seen units lost failures a) × Claims × IsReady units a
+    pub shown_matches : {Claims : Type 0} → IsFit units a.parts → IsWhole (seen units lost failures a) × Claims × IsReady units a
         → IsWhole (seen units lost failures (record a { parts = lent_back a.parts new })) × Claims × IsReady units (record a { parts = lent_back a.parts new })
-    shown_stands fit stands = (
-      subst IsWhole (sym seen_same) stands.0,
-      stands.1,
+    shown_matches fit matches = (
+      subst IsWhole (sym seen_same) matches.0,
+      matches.1,
       parts_ready units a (lent_back a.parts new) refl
-          (still_fit a.parts (lent_back a.parts new) new fit refl refl refl back (subst (λ ds. KeepsDrives units lost failures NoPlace ds new) is (kept_drives lent new views))) stands.2,
+          (still_fit a.parts (lent_back a.parts new) new fit refl refl refl back (subst (λ ds. KeepsDrives units lost failures NoPlace ds new) is (kept_drives lent new views))) matches.2,
     )

@@ -2,9 +2,9 @@
 use Rattle.std.specs.Prelude.{◌≡◌, ℕ, ◌*◌, Bool, List, length, vec_len, None}
 use Rattle.extents.specs.Failures.{Failures}
 use Rattle.extent_groups.specs.Stores.{unit_bytes}
-use Rattle.array_parts.specs.declared.parts.Parts.{Parts}
-use Rattle.array_parts.specs.Fit.{IsFit}
-use Rattle.array_parts.specs.Views.{view_of}
+use Rattle.unit_store.specs.declared.parts.Parts.{Parts}
+use Rattle.unit_store.specs.Fit.{IsFit}
+use Rattle.unit_store.specs.Views.{view_of}
 use Rattle.slot_tables.specs.Views.{ArrayView}
 use Rattle.disk_array.specs.declared.array.Array.TheInside.{Inside}
 use Rattle.disk_array.specs.declared.buffers.Buffers.{Buffers}

@@ -2,7 +2,7 @@
 use Rattle.std.specs.Prelude.{◌≡◌, ℕ, true, length, Option, Some, slice_get, slice_set}
 use Rattle.extents.specs.Failures.{settled, fused}
 use Rattle.flat_machine.specs.Flat.{Stored, put}
-use Rattle.array_parts.specs.Views.{DriveView, PartsView, Shows, SameTables, lost_of, failed_of}
+use Rattle.unit_store.specs.Views.{DriveView, PartsView, Shows, SameTables, lost_of, failed_of}
 
 -- the drive is lost, which counts as no failure of its own, and no such failure lies ahead; nothing else happened
 pub record WasLost (a b : PartsView) (drive : ℕ) : Type 0 where

@@ -3,7 +3,7 @@ use Rattle.std.specs.Prelude.{◌≡◌, ◌⊎◌, ℕ, List, [], Option, Some,
 use Rattle.std.specs.Global.{Global}
 use Rattle.map_join.specs.declared.records.Record.{Record}
 use Rattle.map_join.specs.Record.{record_at}
-use Rattle.array_parts.specs.Views.{WasRead, FoundGone}
+use Rattle.unit_store.specs.Views.{WasRead, FoundGone}
 use Rattle.flat_machine.specs.declared.refusal.Refusal.{Refusal}
 use Rattle.flat_machine.specs.Flat.{Content, Payload, Trim}
 use Rattle.flat_machine.specs.Steps.{Version, Seen, Data, Stale}
@@ -51,7 +51,7 @@ seen_of (at.Stale header) = Stale header
 
 -- what is learned of a record: the record that is returned, and its content
 pub record Lesson : Type 0 where
-  pub told : Record
+  pub reported : Record
   pub content : Content
 
 -- a payload in a vector, or none where it is a trim, as a content

@@ -2,7 +2,7 @@
 use Rattle.std.specs.Prelude.{◌≡◌, Option, Some, None}
 use Rattle.flat_machine.specs.declared.refusal.Refusal.{Refusal}
 use Rattle.flat_machine.specs.declared.refusal.Refusal.TheVariants.{Gone, DriveLost}
-use Rattle.array_parts.specs.Views.{Loses}
+use Rattle.unit_store.specs.Views.{Loses}
 use Rattle.slot_tables.specs.Views.{ArrayView, WorldView, with_parts}
 
 -- all but its drives, of which some may have been lost

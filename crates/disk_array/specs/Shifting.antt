@@ -4,7 +4,7 @@ use Rattle.extents.specs.Owners.{IsExtent}
 use Rattle.extent_groups.specs.declared.class.Member.{Member}
 use Rattle.extent_groups.specs.Faults.{swap_fault}
 use Rattle.extent_groups.specs.Groups.{group_at, members_of}
-use Rattle.array_parts.specs.Views.{PartsView}
+use Rattle.unit_store.specs.Views.{PartsView}
 
 -- there is a member of this number, and an extent against which no test speaks
 pub record CanShift (v : PartsView) (g k : ℕ) (to : Member) : Type 0 where

@@ -2,10 +2,10 @@
 ghost use Rattle.std.specs.Prelude.{◌≡◌, ℕ, ◌+◌, ◌<◌, List, false, IfOk, IfErr, None};
 ghost use Rattle.map_join.specs.Maps.{at};
 ghost use Rattle.extents.specs.declared.shape.TheConstants.{HEADER_BYTES};
-ghost use Rattle.array_parts.specs.Fit.{IsFit};
-ghost use Rattle.array_parts.specs.Views.{view_of};
+ghost use Rattle.unit_store.specs.Fit.{IsFit};
+ghost use Rattle.unit_store.specs.Views.{view_of};
 ghost use Rattle.flat_machine.specs.Flat.{Flat, Shut};
-ghost use Rattle.flat_machine.specs.Restarted.{HasPlaces, TellMap, restarted};
+ghost use Rattle.flat_machine.specs.Restarted.{HasDistinctSlots, ReportMap, restarted};
 ghost use Rattle.slot_tables.specs.Represents.{ShowsArray};
 ghost use Rattle.slot_tables.specs.Views.{key_at};
 ghost use Rattle.slot_tables.specs.Adopted.{IsAdopted, HasParts};
@@ -15,12 +15,12 @@ ghost use Rattle.disk_array.specs.Inside.{AreBuffers, WasTakenApart};
 use crate::array::Array;
 use crate::buffers::Buffers;
 use crate::live::counted;
-use array_parts::Parts;
 use extents::Drive;
 use flat_machine::Refusal;
 use map_join::BlockMap;
 use slot_tables::{Hold, NotAdopted, Ready, Room, prepare, seat_all, unseat_all};
 use std::alloc::Global;
+use unit_store::Parts;
 
 impl<D: Drive, C: Hold> Array<D, C> {
     /// Takes the array apart: into its parts, and the claims of all slots that it kept, those of tickets too, from the last
@@ -70,10 +70,10 @@ impl<D: Drive, C: Hold> Array<D, C> {
     ) -> Result<(Array<D, C>, Vec<C>), (NotAdopted, Parts<D>, BlockMap, Vec<C>)>
         requires fit { IsFit D.units parts }
         requires note { parts.note ≡ None }
-        requires places { HasPlaces parts.groups (at map) }
+        requires places { HasDistinctSlots parts.groups (at map) }
         ensures ok { IfOk result (λ r. IsAdopted (view_of D.units D.lost D.failures parts) (at map) r.0) }
         ensures claims { IfOk result (λ r. AreShared C.names claims.items r.0 r.1.items) }
-        ensures flat { IfOk result (λ r. (F : Flat) → HasParts (view_of D.units D.lost D.failures parts) F → TellMap F.groups F.units (at map)
+        ensures flat { IfOk result (λ r. (F : Flat) → HasParts (view_of D.units D.lost D.failures parts) F → ReportMap F.groups F.units (at map)
             → ShowsArray r.0 (restarted F (at map) r.0.log)) }
         ensures err { IfErr result (λ e. IsNotAdopted C.names claims.items (at map) e.0 × (e.1 ≡ parts) × (e.2 ≡ map) × (e.3 ≡ claims)) }
     {
@@ -94,10 +94,10 @@ impl<D: Drive, C: Hold> Array<D, C> {
         requires buffers { AreBuffers (HEADER_BYTES + parts.shape.payload) buffers }
         requires fit { IsFit D.units parts }
         requires note { parts.note ≡ None }
-        requires places { HasPlaces parts.groups (at map) }
+        requires places { HasDistinctSlots parts.groups (at map) }
         ensures ok { IfOk result (λ r. IsAdopted (view_of D.units D.lost D.failures parts) (at map) r.0) }
         ensures claims { IfOk result (λ r. AreShared C.names claims.items r.0 r.1.items) }
-        ensures flat { IfOk result (λ r. (F : Flat) → HasParts (view_of D.units D.lost D.failures parts) F → TellMap F.groups F.units (at map)
+        ensures flat { IfOk result (λ r. (F : Flat) → HasParts (view_of D.units D.lost D.failures parts) F → ReportMap F.groups F.units (at map)
             → ShowsArray r.0 (restarted F (at map) r.0.log)) }
         ensures err { IfErr result (λ e. IsNotAdopted C.names claims.items (at map) e.0 × (e.1 ≡ parts) × (e.2 ≡ map) × (e.3 ≡ claims)) }
     {
@@ -106,7 +106,7 @@ impl<D: Drive, C: Hold> Array<D, C> {
             Ok(ready) => {
                 let Ready {
                     log,
-                    wanted,
+                    expected,
                     keys,
                     room,
                 } = ready;
@@ -114,7 +114,7 @@ impl<D: Drive, C: Hold> Array<D, C> {
                     mut others,
                     mut places,
                 } = room;
-                seat_all(wanted, claims, &mut places, &mut others);
+                seat_all(expected, claims, &mut places, &mut others);
                 let live = counted(&places);
                 let array = Array {
                     parts,
@@ -140,10 +140,10 @@ impl<D: Drive, C: Hold> Array<D, C> {
     ) -> Result<Array<D, C>, (Refusal, Parts<D>, BlockMap, Vec<C>)>
         requires fit { IsFit D.units parts }
         requires note { parts.note ≡ None }
-        requires places { HasPlaces parts.groups (at map) }
+        requires places { HasDistinctSlots parts.groups (at map) }
         requires claims { AreOfPlaces C.names (at map) claims.items }
         ensures ok { IfOk result (IsAdopted (view_of D.units D.lost D.failures parts) (at map)) }
-        ensures flat { IfOk result (λ a. (F : Flat) → HasParts (view_of D.units D.lost D.failures parts) F → TellMap F.groups F.units (at map)
+        ensures flat { IfOk result (λ a. (F : Flat) → HasParts (view_of D.units D.lost D.failures parts) F → ReportMap F.groups F.units (at map)
             → ShowsArray a (restarted F (at map) a.log)) }
         ensures err { IfErr result (λ e. (e.0 ≡ Refusal.Memory) × (e.1 ≡ parts) × (e.2 ≡ map) × (e.3 ≡ claims)) }
     {
@@ -169,10 +169,10 @@ impl<D: Drive + Drop, C: Hold + Drop> Array<D, C> {
         alloc: Global,
         map: BlockMap,
     ) -> Result<(Array<D, C>, Vec<C>), NotAdopted>
-        requires { HasPlaces self.parts.groups (at map) }
+        requires { HasDistinctSlots self.parts.groups (at map) }
         ensures ok { IfOk result (λ r. IsAdopted self.parts (at map) r.0) }
         ensures claims { IfOk result (λ r. (claims : List C) × AreClaimsOf C.names self claims × AreShared C.names claims r.0 r.1.items) }
-        ensures flat { IfOk result (λ r. (F : Flat) → HasParts self.parts F → TellMap F.groups F.units (at map)
+        ensures flat { IfOk result (λ r. (F : Flat) → HasParts self.parts F → ReportMap F.groups F.units (at map)
             → ShowsArray r.0 (restarted F (at map) r.0.log)) }
         ensures err { IfErr result (IsNotRestarted C.names self (at map)) }
     {

@@ -2,7 +2,7 @@
 ghost use Rattle.std.specs.Prelude.{◌≡◌, ◌≢◌, ℕ, ◌<◌, slice_index_or, true};
 ghost use Rattle.slot_tables.specs.Represents.{ShowsArray};
 ghost use Rattle.slot_tables.specs.Views.{ArrayView, Nothing, kept_at};
-ghost use Rattle.flat_machine.specs.Flat.{Flat, Worker, IsKept};
+ghost use Rattle.flat_machine.specs.Flat.{Flat, Worker, IsArrayHeld};
 ghost use Rattle.disk_array.specs.Claimed.{with_claim};
 ghost use Rattle.slot_tables.specs.Kept.{kepts_of, AreOf};
 
@@ -23,7 +23,7 @@ impl<D: Drive, C: Hold> Array<D, C> {
     /// than one `apart`, and no loop.
     pub fn apart_from<W: Apart<C>>(&mut self, words: &W, claim: &mut C)
         ensures free { kept_at self.old (C.names claim.old) ≡ Nothing }
-        ensures flat { (F : Flat) → ShowsArray self.old F → IsKept F (C.names claim.old) → ⊥ }
+        ensures flat { (F : Flat) → ShowsArray self.old F → IsArrayHeld F (C.names claim.old) → ⊥ }
         ensures same { (self.new ≡ self.old) × (claim.new ≡ claim.old) }
     {
         let slot = claim.slot();

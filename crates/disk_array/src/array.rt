@@ -8,15 +8,14 @@ ghost use Rattle.extents.specs.Shapes.{IsShapeOf};
 ghost use Rattle.extents.specs.Sizes.{extent_units};
 ghost use Rattle.extents.specs.declared.shape.TheConstants.{HEADER_BYTES};
 ghost use Rattle.extent_groups.specs.Calls.{AreSized};
-ghost use Rattle.array_parts.specs.Fit.{HaveUnits};
-ghost use Rattle.array_parts.specs.Views.{drive_view, lost_of, failed_of};
+ghost use Rattle.unit_store.specs.Fit.{HaveUnitCount};
+ghost use Rattle.unit_store.specs.Views.{drive_view, lost_of, failed_of};
 ghost use Rattle.flat_machine.specs.Groups.{class_at, IsEmpty};
-ghost use Rattle.flat_machine.specs.Flat.{Flat, new_flat, put, IsKept, IsNewest};
-ghost use Rattle.slot_tables.specs.Views.{kept_at, key_at, block_in, is_kept, is_waiting, IsWhole};
+ghost use Rattle.flat_machine.specs.Flat.{Flat, new_flat, put, IsArrayHeld, IsNewest};
+ghost use Rattle.slot_tables.specs.Views.{kept_at, key_at, newest_block_in, is_kept, is_waiting, IsWhole};
 ghost use Rattle.slot_tables.specs.Represents.{ShowsArray};
 
 use crate::live::none_live;
-use array_parts::Parts;
 use extent_groups::{GROUPS, GroupTable, SLOTS as SLOTS_OF_A_GROUP};
 use extents::{Drive, ExtentTable, Shape};
 use flat_machine::{Class, Refusal};
@@ -24,6 +23,7 @@ use map_join::{BlockMap, MapRefusal, Record};
 use slot_tables::{Hold, SlotState, new_tables, state_at};
 use std::alloc::Global;
 use std::marker::Model;
+use unit_store::Parts;
 
 /// The array: drives and groups, the log of emitted records, and of each slot what the array keeps.
 #[derive(Drop)]
@@ -62,7 +62,7 @@ impl<D: Drive, C: Hold> Array<D, C> {
         drives: Vec<D>,
     ) -> Result<Array<D, C>, (Refusal, Vec<D>)>
         requires count { (3 ≤ length drives.items) × (length drives.items ≤ 16) }
-        requires units { HaveUnits D.units drives.items (shape.extents * extent_units shape.segments) }
+        requires units { HaveUnitCount D.units drives.items (shape.extents * extent_units shape.segments) }
         requires sized { AreSized D.units (HEADER_BYTES + shape.payload) drives.items }
         ensures sizes { IfOk result (λ array. IsShapeOf shape array.parts.groups.extents array.parts.groups.segments array.parts.groups.payload
             array.parts.groups.blocks) }
@@ -150,7 +150,7 @@ impl<D: Drive, C: Hold> Array<D, C> {
     /// Whether the array itself holds the slot: for a ticket, as a block's newest place, or for a dissolved group.
     pub fn is_held(&self, slot: u16) -> bool
         ensures value { result ≡ is_kept (kept_at self.now slot) }
-        ensures flat { (F : Flat) → ShowsArray self.now F → IsTrue result ↔ IsKept F slot }
+        ensures flat { (F : Flat) → ShowsArray self.now F → IsTrue result ↔ IsArrayHeld F slot }
     {
         self.keeps(slot)
     }
@@ -188,7 +188,7 @@ impl<D: Drive, C: Hold> Array<D, C> {
         ensures value { result ≡ record_at block (key_at self.now block) }
         ensures flat { (F : Flat) → ShowsArray self.now F → IsNewest F.emitted block result }
     {
-        self.told(block)
+        self.reported(block)
     }
 
     /// The block whose newest place the slot is, if any.
@@ -199,7 +199,7 @@ impl<D: Drive, C: Hold> Array<D, C> {
     }
 
     fn placed(&self, slot: u16) -> Option<u32>
-        ensures value { result ≡ block_in (kept_at self.now slot) }
+        ensures value { result ≡ newest_block_in (kept_at self.now slot) }
         ensures whole { IsWhole self.now }
     {
         match state_at(&self.places, slot) {
@@ -212,7 +212,7 @@ impl<D: Drive, C: Hold> Array<D, C> {
         }
     }
 
-    pub(crate) fn told(&self, block: u32) -> Option<Record>
+    pub(crate) fn reported(&self, block: u32) -> Option<Record>
         requires { block < self.now.parts.groups.blocks }
         ensures value { result ≡ record_at block (key_at self.now block) }
         ensures whole { IsWhole self.now }
@@ -267,7 +267,7 @@ impl<D: Drive, C: Hold> Array<D, C> {
         ensures ok { OnOk result (IsSame (at map.new) (put (at map.old) block (key_at self.now block))) }
         ensures there { key_at self.now block ≡ 0 → IsOk result }
     {
-        match self.told(block) {
+        match self.reported(block) {
             None => Ok(()),
             Some(record) => map.take(alloc, record),
         }

@@ -7,13 +7,13 @@ ghost use Rattle.map_join.specs.declared.records.Record.{Record};
 ghost use Rattle.extents.specs.declared.header.Header.TheVariants.{Is};
 ghost use Rattle.flat_machine.specs.Steps as say;
 ghost use Rattle.flat_machine.specs.Flat.{Flat, Ticket as ticket_of};
-ghost use Rattle.flat_machine.specs.Cases.{CommitCase, IsWanted, next_version};
+ghost use Rattle.flat_machine.specs.Cases.{CommitCase, IsAllocating, next_version};
 ghost use Rattle.slot_tables.specs.Views.{Nothing, Newest, is_waiting, kept_at, key_at, with_parts};
-ghost use Rattle.array_parts.specs.Views.{WasCarried};
+ghost use Rattle.unit_store.specs.Views.{WasCarried};
 ghost use Rattle.slot_tables.specs.Kept.{kepts_of, AreOf};
 ghost use Rattle.slot_tables.specs.Counted.{AreCounts};
 ghost use Rattle.disk_array.specs.Refused.{IsRefused};
-ghost use Rattle.slot_tables.specs.Changes.{commit_view, commit_reason, commit_record, kind_given, version_reason, stamp_reason, passed, IsPlaceOf, MayRefuse};
+ghost use Rattle.slot_tables.specs.Changes.{commit_view, commit_reason, commit_record, kind_given, version_reason, stamp_reason, without_old, IsPlaceOf, MayRefuse};
 ghost use Rattle.slot_tables.specs.Represents.{ShowsArray};
 
 use crate::array::Array;
@@ -47,10 +47,10 @@ impl Model for Emitted {
 }
 
 impl Emitted {
-    pub(crate) fn of(told: Record) -> Emitted
-        ensures { result ≡ told }
+    pub(crate) fn of(reported: Record) -> Emitted
+        ensures { result ≡ reported }
     {
-        Emitted { record: told }
+        Emitted { record: reported }
     }
 
     /// The record that was emitted.
@@ -89,7 +89,7 @@ impl<D: Drive, C: Hold> Array<D, C> {
             → MatchResult result
             (λ done. (G : Flat) × CommitCase F w ticket block (say.Committed done.emitted) G × ShowsArray self.new G)
             (λ e. MayRefuse e.0
-            (IsWanted F (say.Commit w ticket block))
+            (IsAllocating F (say.Commit w ticket block))
             ((G : Flat) × CommitCase F w ticket block (say.Refused e.0) G × ShowsArray self.new G)) }
     {
         let slot = ticket.slot();
@@ -168,7 +168,7 @@ pub(crate) fn let_go<C: Hold>(
     requires newest { ForSome found (λ r. slice_index_or (kepts_of places.old.items) r.place Nothing ≡ Newest block) }
     requires claims { AreOf C.names places.old.items }
     requires counts { AreCounts (kepts_of places.old.items) live.old }
-    ensures kept { kepts_of places.new.items ≡ passed (kepts_of places.old.items) found }
+    ensures kept { kepts_of places.new.items ≡ without_old (kepts_of places.old.items) found }
     ensures room { vec_len places.new ≡ vec_len places.old }
     ensures old { IsPlaceOf C.names result found }
     ensures claims { AreOf C.names places.new.items }

@@ -6,7 +6,7 @@ ghost use Rattle.extents.specs.declared.header.Kind.{Kind as KindOf};
 ghost use Rattle.flat_machine.specs.Steps as say;
 ghost use Rattle.flat_machine.specs.Flat.{Flat, Worker};
 ghost use Rattle.flat_machine.specs.Cases.{CopyCase, CopyPasses};
-ghost use Rattle.array_parts.specs.Views.{WasCopied};
+ghost use Rattle.unit_store.specs.Views.{WasCopied};
 ghost use Rattle.slot_tables.specs.Changes.{copy_view, copy_reason, MayRefuse};
 ghost use Rattle.slot_tables.specs.Views.{with_parts, key_at};
 ghost use Rattle.slot_tables.specs.Represents.{ShowsArray};
@@ -42,7 +42,7 @@ impl<D: Drive, C: Hold> Array<D, C> {
             ((G : Flat) × CopyCase F w (C.names claim) block (say.Refused e.0) G × ShowsArray self.new G)) }
     {
         let slot = claim.slot();
-        let source = match self.source(slot, self.told(block)) {
+        let source = match self.source(slot, self.reported(block)) {
             Ok(source) => source,
             Err(refusal) => return Err((refusal, claim)),
         };

@@ -8,9 +8,9 @@ ghost use Rattle.extent_groups.specs.Stores.{unit_bytes, unit_of, header_of, Are
 ghost use Rattle.flat_machine.specs.Flat.{Flat, content_under};
 ghost use Rattle.flat_machine.specs.Cases.{Leaves};
 ghost use Rattle.flat_machine.specs.Groups.{IsLowestFree};
-ghost use Rattle.array_parts.specs.Slots.{IsSlot};
+ghost use Rattle.unit_store.specs.Slots.{IsSlot};
 ghost use Rattle.disk_array.specs.Refused.{OnlyLoses};
-ghost use Rattle.array_parts.specs.Views.{cells_of, FoundGone, WasRead, Entered, FoundLost};
+ghost use Rattle.unit_store.specs.Views.{drive_cells, FoundGone, WasRead, Entered, FoundLost};
 ghost use Rattle.slot_tables.specs.Views.{with_parts, IsWhole};
 ghost use Rattle.slot_tables.specs.Making.{IsMakeReason};
 ghost use Rattle.slot_tables.specs.Changes.{opened_view, IsOpened};
@@ -18,12 +18,12 @@ ghost use Rattle.slot_tables.specs.Represents.{ShowsArray};
 ghost use Rattle.slot_tables.specs.Shut.{AreShutOf};
 
 use crate::array::Array;
-use array_parts::Sight;
 use extent_groups::{Class, Member};
 use extents::{Drive, HEADER_BYTES, Kind};
 use flat_machine::Refusal;
 use map_join::Record;
 use slot_tables::{Hold, grow_to, open_number};
+use unit_store::Sight;
 
 impl<D: Drive, C: Hold> Array<D, C> {
     // Reads what a slot holds: its kind, and the payload.
@@ -79,11 +79,11 @@ impl<D: Drive, C: Hold> Array<D, C> {
     pub(crate) fn unit_at(&mut self, slot: u16, unit: &mut [u8]) -> Result<(), Refusal>
         requires slot { IsSlot self.old.parts.groups slot }
         requires unit { length unit.old ≡ unit_bytes self.old.parts.groups }
-        ensures ok { OnOk result (unit_of self.new.parts.groups (cells_of self.new.parts) slot ≡ Some unit.new) }
-        ensures gone { IfErr result (λ e. (e ≡ Refusal.Gone slot) × (unit_of self.new.parts.groups (cells_of self.new.parts) slot ≡ None)) }
-        ensures units { AreSound self.old.parts.groups (cells_of self.old.parts)
-            → KeepsUnits self.old.parts.groups (cells_of self.old.parts) (cells_of self.new.parts) }
-        ensures sound { AreSound self.old.parts.groups (cells_of self.old.parts) → AreSound self.new.parts.groups (cells_of self.new.parts) }
+        ensures ok { OnOk result (unit_of self.new.parts.groups (drive_cells self.new.parts) slot ≡ Some unit.new) }
+        ensures gone { IfErr result (λ e. (e ≡ Refusal.Gone slot) × (unit_of self.new.parts.groups (drive_cells self.new.parts) slot ≡ None)) }
+        ensures units { AreSound self.old.parts.groups (drive_cells self.old.parts)
+            → KeepsUnits self.old.parts.groups (drive_cells self.old.parts) (drive_cells self.new.parts) }
+        ensures sound { AreSound self.old.parts.groups (drive_cells self.old.parts) → AreSound self.new.parts.groups (drive_cells self.new.parts) }
         ensures loses { OnlyLoses self.old self.new }
     {
         let scratch: &mut [u8] = &mut self.scratch;
@@ -94,11 +94,11 @@ impl<D: Drive, C: Hold> Array<D, C> {
     pub(crate) fn header_at(&mut self, slot: u16, header: &mut [u8]) -> Result<(), Refusal>
         requires slot { IsSlot self.old.parts.groups slot }
         requires header { length header.old ≡ HEADER_BYTES }
-        ensures ok { OnOk result (header_of self.new.parts.groups (cells_of self.new.parts) slot ≡ Some header.new) }
-        ensures gone { IfErr result (λ e. (e ≡ Refusal.Gone slot) × (unit_of self.new.parts.groups (cells_of self.new.parts) slot ≡ None)) }
-        ensures units { AreSound self.old.parts.groups (cells_of self.old.parts)
-            → KeepsUnits self.old.parts.groups (cells_of self.old.parts) (cells_of self.new.parts) }
-        ensures sound { AreSound self.old.parts.groups (cells_of self.old.parts) → AreSound self.new.parts.groups (cells_of self.new.parts) }
+        ensures ok { OnOk result (header_of self.new.parts.groups (drive_cells self.new.parts) slot ≡ Some header.new) }
+        ensures gone { IfErr result (λ e. (e ≡ Refusal.Gone slot) × (unit_of self.new.parts.groups (drive_cells self.new.parts) slot ≡ None)) }
+        ensures units { AreSound self.old.parts.groups (drive_cells self.old.parts)
+            → KeepsUnits self.old.parts.groups (drive_cells self.old.parts) (drive_cells self.new.parts) }
+        ensures sound { AreSound self.old.parts.groups (drive_cells self.old.parts) → AreSound self.new.parts.groups (drive_cells self.new.parts) }
         ensures loses { OnlyLoses self.old self.new }
     {
         let scratch: &mut [u8] = &mut self.scratch;
@@ -109,13 +109,13 @@ impl<D: Drive, C: Hold> Array<D, C> {
     pub(crate) fn headers_at(&mut self, group: u16, headers: &mut [[u8; HEADER_BYTES]]) -> u16
         requires group { group < 512 }
         requires many { length headers.old ≡ slots_in self.old.parts.groups.segments (group_at self.old.parts.groups group) }
-        ensures read { AreSound self.old.parts.groups (cells_of self.old.parts)
-            → AreHeaders self.old.parts.groups (cells_of self.old.parts) group result headers.new }
-        ensures gone { result < length headers.old → unit_of self.new.parts.groups (cells_of self.new.parts) (128 * group + result) ≡ None }
+        ensures read { AreSound self.old.parts.groups (drive_cells self.old.parts)
+            → AreHeaders self.old.parts.groups (drive_cells self.old.parts) group result headers.new }
+        ensures gone { result < length headers.old → unit_of self.new.parts.groups (drive_cells self.new.parts) (128 * group + result) ≡ None }
         ensures within { result ≤ length headers.old }
-        ensures units { AreSound self.old.parts.groups (cells_of self.old.parts)
-            → KeepsUnits self.old.parts.groups (cells_of self.old.parts) (cells_of self.new.parts) }
-        ensures sound { AreSound self.old.parts.groups (cells_of self.old.parts) → AreSound self.new.parts.groups (cells_of self.new.parts) }
+        ensures units { AreSound self.old.parts.groups (drive_cells self.old.parts)
+            → KeepsUnits self.old.parts.groups (drive_cells self.old.parts) (drive_cells self.new.parts) }
+        ensures sound { AreSound self.old.parts.groups (drive_cells self.old.parts) → AreSound self.new.parts.groups (drive_cells self.new.parts) }
         ensures loses { OnlyLoses self.old self.new }
     {
         let scratch: &mut [u8] = &mut self.scratch;

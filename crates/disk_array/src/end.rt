@@ -1,12 +1,12 @@
 // An array ends, and its claims go back to where they came from.
 ghost use Rattle.std.specs.Prelude.{◌≡◌, None};
-ghost use Rattle.array_parts.specs.Fit.{IsFit};
-ghost use Rattle.array_parts.specs.Views.{view_of};
+ghost use Rattle.unit_store.specs.Fit.{IsFit};
+ghost use Rattle.unit_store.specs.Views.{view_of};
 
 use crate::array::Array;
-use array_parts::Parts;
 use extents::Drive;
 use slot_tables::{Hold, SlotState};
+use unit_store::Parts;
 
 /// Takes claims back.
 pub trait TakeBack<C> {

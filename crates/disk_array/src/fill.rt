@@ -4,7 +4,7 @@ ghost use Rattle.flat_machine.specs.Steps as say;
 ghost use Rattle.flat_machine.specs.Flat.{Flat, Worker, Payload, waiting_unit};
 ghost use Rattle.flat_machine.specs.Cases.{FillCase, FillPasses};
 ghost use Rattle.extents.specs.declared.header.Kind.TheVariants as kind;
-ghost use Rattle.array_parts.specs.Views.{WasPut};
+ghost use Rattle.unit_store.specs.Views.{WasPut};
 ghost use Rattle.slot_tables.specs.Changes.{fill_view, fill_reason, MayRefuse};
 ghost use Rattle.slot_tables.specs.Represents.{ShowsArray};
 ghost use Rattle.slot_tables.specs.Views.{with_parts};

@@ -1,10 +1,10 @@
 // A drive more.
 ghost use Rattle.std.specs.Prelude.{◌≡◌, ◌<◌, ◌*◌, length, IfOk, IfErr, MatchResult};
 ghost use Rattle.extents.specs.Sizes.{extent_units};
-ghost use Rattle.extents.specs.Units.{IsSized};
+ghost use Rattle.extents.specs.Units.{AreUnitsSized};
 ghost use Rattle.extent_groups.specs.Stores.{unit_bytes};
-ghost use Rattle.array_parts.specs.Views.{WasAdded};
-ghost use Rattle.flat_machine.specs.Cases.{AddCase, IsWanted, most_drives};
+ghost use Rattle.unit_store.specs.Views.{WasAdded};
+ghost use Rattle.flat_machine.specs.Cases.{AddCase, IsAllocating, most_drives};
 ghost use Rattle.flat_machine.specs.Flat.{Flat};
 ghost use Rattle.flat_machine.specs.Moves.{with_new_drive};
 ghost use Rattle.flat_machine.specs.Steps as say;
@@ -26,14 +26,14 @@ impl<D: Drive, C: Hold> Array<D, C> {
     /// content. If there are sixteen drives (`Full`) or out of memory, it returns the drive.
     pub fn add_drive(&mut self, alloc: Global, drive: D) -> Result<u8, (Refusal, D)>
         requires many { length (D.units drive) ≡ self.old.parts.groups.extents * extent_units self.old.parts.groups.segments }
-        requires sized { IsSized (unit_bytes self.old.parts.groups) (D.units drive) }
+        requires sized { AreUnitsSized (unit_bytes self.old.parts.groups) (D.units drive) }
         ensures ok { IfOk result (λ number. (number ≡ length self.old.parts.drives)
             × WasAdded self.old.parts (D.lost drive) (D.failures drive) self.new.parts) }
         ensures err { IfErr result (λ e. (e.1 ≡ drive) × (self.new ≡ self.old)) }
         ensures rest { self.new ≡ with_parts self.old self.new.parts }
         ensures flat { (F : Flat) → ShowsArray self.old F → MatchResult result
             (λ number. (number ≡ F.drives) × (F.drives < most_drives) × ShowsArray self.new (with_new_drive F (D.lost drive) (D.failures drive)))
-            (λ e. MayRefuse e.0 (IsWanted F say.AddDrive) (AddCase F (say.Refused e.0) F)) }
+            (λ e. MayRefuse e.0 (IsAllocating F say.AddDrive) (AddCase F (say.Refused e.0) F)) }
     {
         let number = self.drive_count();
         if number >= DRIVES {
@@ -49,7 +49,7 @@ impl<D: Drive, C: Hold> Array<D, C> {
     fn attach(&mut self, alloc: Global, drive: D) -> Result<(), D>
         requires room { length self.old.parts.drives < most_drives }
         requires many { length (D.units drive) ≡ self.old.parts.groups.extents * extent_units self.old.parts.groups.segments }
-        requires sized { IsSized (unit_bytes self.old.parts.groups) (D.units drive) }
+        requires sized { AreUnitsSized (unit_bytes self.old.parts.groups) (D.units drive) }
         ensures ok { IfOk result (λ done. WasAdded self.old.parts (D.lost drive) (D.failures drive) self.new.parts) }
         ensures err { IfErr result (λ back. (back ≡ drive) × (self.new ≡ self.old)) }
         ensures rest { self.new ≡ with_parts self.old self.new.parts }

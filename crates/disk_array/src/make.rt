@@ -2,13 +2,13 @@
 ghost use Rattle.std.specs.Prelude.{◌≡◌, ◌↔◌, ◌≤◌, length, IsTrue, IsNone, IfSome, MatchResult, IfOk, IfErr, None};
 ghost use Rattle.extent_groups.specs.Faults.{put_fault};
 ghost use Rattle.extent_groups.specs.Groups.{AreThere};
-ghost use Rattle.array_parts.specs.Views.{Entered};
-ghost use Rattle.flat_machine.specs.Groups.{IsLowestFree, IsFull};
+ghost use Rattle.unit_store.specs.Views.{Entered};
+ghost use Rattle.flat_machine.specs.Groups.{IsLowestFree, IsTableFull};
 ghost use Rattle.flat_machine.specs.Steps as say;
 ghost use Rattle.flat_machine.specs.Flat.{Flat};
-ghost use Rattle.flat_machine.specs.Cases.{IsWanted, MakeCase};
+ghost use Rattle.flat_machine.specs.Cases.{IsAllocating, MakeCase};
 ghost use Rattle.slot_tables.specs.Changes.{opened_view, IsOpened, MayRefuse};
-ghost use Rattle.slot_tables.specs.Making.{told_of, IsMakeReason};
+ghost use Rattle.slot_tables.specs.Making.{reported_of, IsMakeReason};
 ghost use Rattle.slot_tables.specs.Represents.{ShowsArray};
 ghost use Rattle.disk_array.specs.Refused.{IsRefused};
 ghost use Rattle.slot_tables.specs.Shut.{AreShutOf};
@@ -39,7 +39,7 @@ impl<D: Drive, C: Hold> Array<D, C> {
             → MatchResult result
             (λ made. (G : Flat) × MakeCase F class members.now (say.MadeGroup made.0) G × ShowsArray self.new G)
             (λ refusal. MayRefuse refusal
-            (IsWanted F (say.Make class members.now))
+            (IsAllocating F (say.Make class members.now))
             ((G : Flat) × MakeCase F class members.now (say.Refused refusal) G × ShowsArray self.new G)) }
     {
         if let Some(refusal) = self.make_fault(members) {
@@ -73,7 +73,7 @@ impl<D: Drive, C: Hold> Array<D, C> {
         if !are_members(&self.parts.extents, members) {
             return Some(Refusal::BadMember);
         }
-        if let Some(refusal) = told(put_check(&self.parts.extents, members)) {
+        if let Some(refusal) = reported(put_check(&self.parts.extents, members)) {
             return Some(refusal);
         }
         match self.parts.first_lost(members) {
@@ -84,8 +84,8 @@ impl<D: Drive, C: Hold> Array<D, C> {
 }
 
 // The refusal of a fault.
-pub(crate) fn told(fault: Option<GroupRefusal>) -> Option<Refusal>
-    ensures value { result ≡ told_of fault }
+pub(crate) fn reported(fault: Option<GroupRefusal>) -> Option<Refusal>
+    ensures value { result ≡ reported_of fault }
     ensures none { result ≡ None → fault ≡ None }
 {
     match fault {
@@ -105,7 +105,7 @@ fn are_members(extents: &ExtentTable, members: &[Member]) -> bool
 // The lowest number of which there is no group.
 fn lowest_free(groups: &GroupTable) -> Option<u16>
     ensures some { IfSome result (IsLowestFree groups.now) }
-    ensures none { IsNone result → IsFull groups.now }
+    ensures none { IsNone result → IsTableFull groups.now }
 {
     let _members = groups.members(0);
     for number in 0..GROUPS as u16 {

@@ -10,8 +10,8 @@ ghost use Rattle.extent_groups.specs.Calls.{AreSized};
 ghost use Rattle.flat_machine.specs.Flat.{Flat, new_flat};
 ghost use Rattle.flat_machine.specs.Groups.{IsEmpty};
 ghost use Rattle.flat_machine.specs.Moves.{with_fuse};
-ghost use Rattle.array_parts.specs.Fit.{HaveUnits};
-ghost use Rattle.array_parts.specs.Memory.{held_units};
+ghost use Rattle.unit_store.specs.Fit.{HaveUnitCount};
+ghost use Rattle.unit_store.specs.Memory.{held_units};
 ghost use Rattle.slot_tables.specs.Represents.{ShowsArray};
 ghost use Rattle.slot_tables.specs.Views.{with_parts};
 ghost use Rattle.disk_array.specs.Losing.{WasFused};
@@ -25,7 +25,7 @@ use std::alloc::{AllocError, Global};
 // Drives of a shape, all of whose units are zero.
 fn new_drives(alloc: Global, shape: &Shape, count: u8) -> Result<Vec<MemDrive>, AllocError>
     ensures count { IfOk result (λ drives. length drives.items ≡ count) }
-    ensures units { IfOk result (λ drives. HaveUnits held_units drives.items (shape.now.extents * extent_units shape.now.segments)) }
+    ensures units { IfOk result (λ drives. HaveUnitCount held_units drives.items (shape.now.extents * extent_units shape.now.segments)) }
     ensures sized { IfOk result (λ drives. AreSized held_units (HEADER_BYTES + shape.now.payload) drives.items) }
     ensures present { IfOk result (λ drives. (d : ℕ) (m : Held) → slice_get drives.items d ≡ Some m → m.condition ≡ Present) }
 {

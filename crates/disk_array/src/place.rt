@@ -9,9 +9,9 @@ ghost use Rattle.extents.specs.declared.header.Kind.{Kind as KindOf};
 ghost use Rattle.flat_machine.specs.Steps as say;
 ghost use Rattle.flat_machine.specs.Flat.{Flat, Worker, IsSized, content_under};
 ghost use Rattle.flat_machine.specs.Cases.{CopyCase, CopyPasses, FillCase, FillPasses, next_version};
-ghost use Rattle.array_parts.specs.Views.{WasPut, WasMoved, placed_unit};
+ghost use Rattle.unit_store.specs.Views.{WasPut, WasMoved, placed_unit};
 ghost use Rattle.slot_tables.specs.AtOnce.{ArePutAtOnce};
-ghost use Rattle.slot_tables.specs.Changes.{fill_view, copy_view, commit_view, passed, full_reason, version_reason, IsPlaceOf, MayRefuse};
+ghost use Rattle.slot_tables.specs.Changes.{fill_view, copy_view, commit_view, without_old, full_reason, version_reason, IsPlaceOf, MayRefuse};
 ghost use Rattle.slot_tables.specs.Counted.{AreCounts};
 ghost use Rattle.slot_tables.specs.Kept.{kepts_of, AreOf};
 ghost use Rattle.slot_tables.specs.Represents.{ShowsArray};
@@ -60,7 +60,7 @@ impl<D: Drive, C: Hold> Array<D, C> {
         if let Some(refusal) = self.fill_fault(slot) {
             return Err((Some(refusal), claim));
         }
-        let found = self.told(block);
+        let found = self.reported(block);
         let Some(stamp) = self.fresh_record(slot, block, found) else {
             return Err((None, claim));
         };
@@ -108,7 +108,7 @@ impl<D: Drive, C: Hold> Array<D, C> {
             ((G : Flat) × CopyCase F w (C.names claim) block (say.Refused refusal) G × ShowsArray self.new G))) }
     {
         let slot = claim.slot();
-        let source = match self.source(slot, self.told(block)) {
+        let source = match self.source(slot, self.reported(block)) {
             Ok(source) => source,
             Err(refusal) => return Err((Some(refusal), claim)),
         };
@@ -180,7 +180,7 @@ fn keep_placed<C: Hold>(
     requires newest { ForSome found (λ r. slice_index_or (kepts_of places.old.items) r.place Nothing ≡ Newest block) }
     requires claims { AreOf C.names places.old.items }
     requires counts { AreCounts (kepts_of places.old.items) live.old }
-    ensures kept { kepts_of places.new.items ≡ slice_set (passed (kepts_of places.old.items) found) slot (Newest block) }
+    ensures kept { kepts_of places.new.items ≡ slice_set (without_old (kepts_of places.old.items) found) slot (Newest block) }
     ensures room { vec_len places.new ≡ vec_len places.old }
     ensures old { IsPlaceOf C.names result found }
     ensures claims { AreOf C.names places.new.items }

@@ -3,9 +3,9 @@ ghost use Rattle.std.specs.Prelude.{◌≡◌, ◌⊎◌, length, IfOk, IfErr, O
 ghost use Rattle.extent_groups.specs.PlanLists.{listed, parity_listed};
 ghost use Rattle.extent_groups.specs.Stores.{unit_bytes};
 ghost use Rattle.flat_machine.specs.declared.refusal.Refusal.TheVariants as refusal;
-ghost use Rattle.array_parts.specs.Notes.{IsSlotPlan};
-ghost use Rattle.array_parts.specs.Slots.{IsSlot};
-ghost use Rattle.array_parts.specs.Views.{cells_of, FoundGone, IsLost};
+ghost use Rattle.unit_store.specs.Notes.{IsSlotPlan};
+ghost use Rattle.unit_store.specs.Slots.{IsSlot};
+ghost use Rattle.unit_store.specs.Views.{drive_cells, FoundGone, IsLost};
 ghost use Rattle.disk_array.specs.Refused.{OnlyLoses};
 
 use crate::array::Array;
@@ -22,7 +22,7 @@ impl<D: Drive, C: Hold> Array<D, C> {
     pub fn plan(&mut self, alloc: Global, slot: u16, unit: &[u8]) -> Result<Planned, Refusal>
         requires slot { IsSlot self.old.parts.groups slot }
         requires unit { length unit.now ≡ unit_bytes self.old.parts.groups }
-        ensures ok { IfOk result (λ plan. IsSlotPlan self.new.parts.groups (cells_of self.new.parts) slot unit.now (listed plan.writes.items)
+        ensures ok { IfOk result (λ plan. IsSlotPlan self.new.parts.groups (drive_cells self.new.parts) slot unit.now (listed plan.writes.items)
             (parity_listed plan.parity)) }
         ensures there { OnOk result (IsLost self.new.parts slot → ⊥) }
         ensures err { IfErr result (λ e. ((e ≡ refusal.Memory) × (self.new ≡ self.old)) ⊎ FoundGone self.old.parts self.new.parts slot e) }

@@ -1,11 +1,11 @@
 // What a block holds.
 ghost use Rattle.std.specs.Prelude.{◌≡◌, ◌<◌, ◌≤◌, length, IfOk, IfErr, MatchResult, Some};
 ghost use Rattle.map_join.specs.Record.{key_of, record_at};
-ghost use Rattle.array_parts.specs.Views as parts;
-ghost use Rattle.array_parts.specs.Views.{FoundGone};
+ghost use Rattle.unit_store.specs.Views as parts;
+ghost use Rattle.unit_store.specs.Views.{FoundGone};
 ghost use Rattle.flat_machine.specs.Steps as say;
 ghost use Rattle.flat_machine.specs.Flat.{Flat};
-ghost use Rattle.flat_machine.specs.Cases.{IsAhead, IsWanted, ReadCase, ReadAtCase};
+ghost use Rattle.flat_machine.specs.Cases.{IsAhead, IsAllocating, ReadCase, ReadAtCase};
 ghost use Rattle.slot_tables.specs.Changes.{MayRefuse};
 ghost use Rattle.slot_tables.specs.Reads.{WasSeen};
 ghost use Rattle.slot_tables.specs.Represents.{ShowsArray};
@@ -14,12 +14,12 @@ ghost use Rattle.disk_array.specs.Reads.{WasFound, WasFoundIn, WasGone, WasNotFo
 ghost use Rattle.disk_array.specs.Refused.{IsRefused};
 
 use crate::array::Array;
-use array_parts::Sight;
 use extents::{Drive, Kind};
 use flat_machine::Refusal;
 use map_join::Record;
 use slot_tables::Hold;
 use std::alloc::{AllocError, Global};
+use unit_store::Sight;
 
 /// What lies at a record's place: the payload or the trim under exactly that record; else the record in the header that was
 /// found, none where it is blank or the place is in no group.
@@ -41,10 +41,10 @@ impl<D: Drive, C: Hold> Array<D, C> {
         ensures flat { (F : Flat) → ShowsArray self.old F → MatchResult result
             (λ found. (G : Flat) × ReadCase F block (say.Found (version_of found)) G × ShowsArray self.new G)
             (λ refusal. MayRefuse refusal
-            (IsWanted F (say.Read block))
+            (IsAllocating F (say.Read block))
             ((G : Flat) × ReadCase F block (say.Refused refusal) G × ShowsArray self.new G)) }
     {
-        let Some(record) = self.told(block) else {
+        let Some(record) = self.reported(block) else {
             return Ok(None);
         };
         let mut payload = match self.no_payload(alloc) {
@@ -71,7 +71,7 @@ impl<D: Drive, C: Hold> Array<D, C> {
             (λ found. (G : Flat) × ReadCase F block (say.Found (version_in found payload.new)) G × ShowsArray self.new G)
             (λ refusal. (G : Flat) × ReadCase F block (say.Refused refusal) G × ShowsArray self.new G) }
     {
-        let Some(record) = self.told(block) else {
+        let Some(record) = self.reported(block) else {
             return Ok(None);
         };
         match self.payload_at(record.place, payload) {
@@ -91,10 +91,10 @@ impl<D: Drive, C: Hold> Array<D, C> {
         ensures flat { (F : Flat) → ShowsArray self.old F → MatchResult result
             (λ at. (G : Flat) × ReadAtCase F asked (say.FoundAt (seen_of at)) G × ShowsArray self.new G)
             (λ refusal. MayRefuse refusal
-            (IsWanted F (say.ReadAt asked))
+            (IsAllocating F (say.ReadAt asked))
             ((G : Flat) × ReadAtCase F asked (say.Refused refusal) G × ShowsArray self.new G)) }
     {
-        if let Err(refusal) = self.not_behind(asked) {
+        if let Err(refusal) = self.not_ahead(asked) {
             return Err(refusal);
         }
         let mut payload = match self.no_payload(alloc) {
@@ -110,14 +110,14 @@ impl<D: Drive, C: Hold> Array<D, C> {
     }
 
     // The newest record of a block, where the one asked for isn't ahead of it.
-    pub(crate) fn not_behind(&self, asked: Record) -> Result<Record, Refusal>
+    pub(crate) fn not_ahead(&self, asked: Record) -> Result<Record, Refusal>
         requires { asked.block < self.now.parts.groups.blocks }
         ensures ok { IfOk result (λ newest. (record_at asked.block (key_at self.now asked.block) ≡ Some newest) × (key_of asked ≤ key_of newest)) }
         ensures err { IfErr result (λ refusal. (refusal ≡ Refusal.Ahead (record_at asked.block (key_at self.now asked.block)))
             × IsAhead asked (record_at asked.block (key_at self.now asked.block))) }
         ensures whole { IsWhole self.now }
     {
-        let found = self.told(asked.block);
+        let found = self.reported(asked.block);
         let Some(newest) = found else {
             return Err(Refusal::Ahead(found));
         };

@@ -1,7 +1,7 @@
 // What is learned of a record that may be stale.
 ghost use Rattle.std.specs.Prelude.{◌≡◌, ◌<◌, length, IfOk, IfErr, IsErr, IsErrOf, MatchOption, MatchResult};
 ghost use Rattle.flat_machine.specs.Flat.{Flat, Payload, Trim, content_under};
-ghost use Rattle.flat_machine.specs.Cases.{IsBehind};
+ghost use Rattle.flat_machine.specs.Cases.{IsNotAhead};
 ghost use Rattle.flat_machine.specs.Learning.{LearnedCase, UnlearnedCase};
 ghost use Rattle.slot_tables.specs.Changes.{MayRefuse};
 ghost use Rattle.slot_tables.specs.Represents.{ShowsArray};
@@ -9,13 +9,13 @@ ghost use Rattle.slot_tables.specs.Views.{with_parts};
 ghost use Rattle.disk_array.specs.Refused.{IsRefused};
 
 use crate::array::Array;
-use array_parts::Sight;
 use extents::{Drive, Kind};
 use flat_machine::Refusal;
 use map_join::Record;
 use slot_tables::Hold;
 use std::alloc::{AllocError, Global};
 use std::marker::Model;
+use unit_store::Sight;
 
 /// A record with its payload, or with none where it is a trim, as an array returns it: `read_or_learn` and
 /// `read_or_learn_into` alone make one.
@@ -30,12 +30,12 @@ impl Model for Reading {
 
     ghost Value = { Lesson };
 
-    ghost view = { λ reading. record { told = reading.record; content = content_of reading.payload } };
+    ghost view = { λ reading. record { reported = reading.record; content = content_of reading.payload } };
 }
 
 impl Reading {
     fn of(source: Record, kind: Kind, payload: Vec<u8>) -> Reading
-        ensures { result ≡ record { told = source; content = content_under kind payload.items } }
+        ensures { result ≡ record { reported = source; content = content_under kind payload.items } }
     {
         let payload = match kind {
             Kind::Data => Some(payload),
@@ -49,7 +49,7 @@ impl Reading {
 
     /// The record that was asked for, or where that is stale the newest of its block.
     pub fn record(&self) -> Record
-        ensures { result ≡ self.now.told }
+        ensures { result ≡ self.now.reported }
     {
         self.record
     }
@@ -73,9 +73,9 @@ impl<D: Drive, C: Hold> Array<D, C> {
         ensures err { IfErr result (IsRefused self.old self.new) }
         ensures rest { self.new ≡ with_parts self.old self.new.parts }
         ensures flat { (F : Flat) → ShowsArray self.old F → MatchResult result
-            (λ reading. (G : Flat) × LearnedCase F asked reading.told reading.content G × ShowsArray self.new G)
+            (λ reading. (G : Flat) × LearnedCase F asked reading.reported reading.content G × ShowsArray self.new G)
             (λ refusal. MayRefuse refusal
-            (IsBehind F asked)
+            (IsNotAhead F asked)
             ((G : Flat) × UnlearnedCase F asked refusal G × ShowsArray self.new G)) }
     {
         let room = self.no_payload(alloc);
@@ -96,12 +96,12 @@ impl<D: Drive, C: Hold> Array<D, C> {
         ensures memory { IsErrOf result Refusal.Memory → IsErr room }
         ensures rest { self.new ≡ with_parts self.old self.new.parts }
         ensures flat { (F : Flat) → ShowsArray self.old F → MatchResult result
-            (λ reading. (G : Flat) × LearnedCase F asked reading.told reading.content G × ShowsArray self.new G)
+            (λ reading. (G : Flat) × LearnedCase F asked reading.reported reading.content G × ShowsArray self.new G)
             (λ refusal. MayRefuse refusal
-            (IsBehind F asked)
+            (IsNotAhead F asked)
             ((G : Flat) × UnlearnedCase F asked refusal G × ShowsArray self.new G)) }
     {
-        let newest = match self.not_behind(asked) {
+        let newest = match self.not_ahead(asked) {
             Ok(newest) => newest,
             Err(refusal) => return Err(refusal),
         };

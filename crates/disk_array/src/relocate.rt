@@ -1,7 +1,7 @@
 // Moving a member of a group to another extent.
 ghost use Rattle.std.specs.Prelude.{◌≡◌, ◌≢◌, ◌<◌, length, IfErr, OnOk, MatchResult, None};
-ghost use Rattle.array_parts.specs.Views.{NotShifted, Shifted};
-ghost use Rattle.flat_machine.specs.Cases.{IsWanted, MoveCase};
+ghost use Rattle.unit_store.specs.Views.{NotShifted, Shifted};
+ghost use Rattle.flat_machine.specs.Cases.{IsAllocating, MoveCase};
 ghost use Rattle.flat_machine.specs.Flat.{Flat};
 ghost use Rattle.flat_machine.specs.Moves.{IsMoveReason};
 ghost use Rattle.flat_machine.specs.Steps as say;
@@ -12,7 +12,7 @@ ghost use Rattle.disk_array.specs.Refused.{IsRefused};
 ghost use Rattle.disk_array.specs.Shifting.{CanShift};
 
 use crate::array::Array;
-use crate::make::told;
+use crate::make::reported;
 use extent_groups::swap_check;
 use extents::Drive;
 use flat_machine::{Member, Refusal};
@@ -32,7 +32,7 @@ impl<D: Drive, C: Hold> Array<D, C> {
         ensures flat { (F : Flat) → ShowsArray self.old F → MatchResult result
             (λ done. (G : Flat) × MoveCase F group member to say.MovedExtent G × ShowsArray self.new G)
             (λ refusal. MayRefuse refusal
-            (IsWanted F (say.MoveExtent group member to))
+            (IsAllocating F (say.MoveExtent group member to))
             ((G : Flat) × MoveCase F group member to (say.Refused refusal) G × ShowsArray self.new G)) }
     {
         if let Some(refusal) = self.move_fault(group, member, to) {
@@ -56,7 +56,7 @@ impl<D: Drive, C: Hold> Array<D, C> {
         if !self.parts.extents.has_extent(to.drive, to.extent) {
             return Some(Refusal::BadMember);
         }
-        told(swap_check(&self.parts.extents, members, to))
+        reported(swap_check(&self.parts.extents, members, to))
     }
 
     // Moves a member onto an extent against which nothing speaks.

@@ -1,19 +1,19 @@
 // An array's units by slot number, for a scan.
-ghost use Rattle.array_parts.specs.Views.{cells_of};
+ghost use Rattle.unit_store.specs.Views.{drive_cells};
 ghost use Rattle.disk_array.specs.Refused.{OnlyLoses};
 ghost use Rattle.disk_array.specs.Laws.{only_itself, only_more};
 
 use crate::array::Array;
-use array_parts::Units;
 use extent_groups::GroupTable;
 use extents::{Drive, HEADER_BYTES};
 use flat_machine::Refusal;
 use slot_tables::Hold;
+use unit_store::Units;
 
 impl<D: Drive, C: Hold> Units for Array<D, C> {
     ghost groups = { λ a. a.parts.groups };
 
-    ghost cells = { λ a. cells_of a.parts };
+    ghost cells = { λ a. drive_cells a.parts };
 
     ghost fits = { λ a. Unit {0} };
 

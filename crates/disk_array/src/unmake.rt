@@ -4,11 +4,11 @@ ghost use Rattle.extent_groups.specs.Groups.{group_at};
 ghost use Rattle.flat_machine.specs.Steps as say;
 ghost use Rattle.flat_machine.specs.Flat.{Flat};
 ghost use Rattle.flat_machine.specs.Cases.{UnmakeCase};
-ghost use Rattle.array_parts.specs.Views.{WasTaken};
+ghost use Rattle.unit_store.specs.Views.{WasTaken};
 ghost use Rattle.slot_tables.specs.Changes.{opened_view, IsClosed};
 ghost use Rattle.slot_tables.specs.Represents.{ShowsArray};
 ghost use Rattle.slot_tables.specs.Views.{IsWhole};
-ghost use Rattle.slot_tables.specs.Shut.{count_in, CanUnmake, IsUnmakeReason, AreWorkers};
+ghost use Rattle.slot_tables.specs.Shut.{slots_in_group, CanUnmake, IsUnmakeReason, AreWorkers};
 
 use crate::array::Array;
 use extent_groups::SLOTS;
@@ -23,7 +23,7 @@ impl<D: Drive, C: Hold> Array<D, C> {
     /// which there is no claim, or that the array itself holds.
     pub fn unmake_group(&mut self, group: u16, claims: Vec<C>) -> Result<(), (Refusal, Vec<C>)>
         ensures ok { OnOk result (CanUnmake C.names self.old group claims.items) }
-        ensures taken { OnOk result (WasTaken self.old.parts group self.new.parts × IsClosed group (count_in self.old group) self.old.kept self.new.kept) }
+        ensures taken { OnOk result (WasTaken self.old.parts group self.new.parts × IsClosed group (slots_in_group self.old group) self.old.kept self.new.kept) }
         ensures rest { OnOk result (self.new ≡ opened_view self.old self.new.parts self.new.kept) }
         ensures err { IfErr result (λ e. IsUnmakeReason C.names self.old group claims.items e.0 × (e.1 ≡ claims) × (self.new ≡ self.old)) }
         ensures flat { (F : Flat) (w : ℕ) → ShowsArray self.old F → AreWorkers C.names F w group claims.items
@@ -44,7 +44,7 @@ impl<D: Drive, C: Hold> Array<D, C> {
     pub fn slots_in(&self, group: u16) -> Option<u16>
         ensures none { IsNone result → group_at self.now.parts.groups group ≡ None }
         ensures made { IfSome result (λ count. group_at self.now.parts.groups group ≢ None) }
-        ensures count { IfSome result (λ count. (count ≡ count_in self.now group) × (count ≤ 128) × (group < 512)) }
+        ensures count { IfSome result (λ count. (count ≡ slots_in_group self.now group) × (count ≤ 128) × (group < 512)) }
     {
         if self.parts.groups.class_of(group).is_none() {
             return None;
@@ -75,7 +75,7 @@ impl<D: Drive, C: Hold> Array<D, C> {
     fn close(&mut self, group: u16, claims: Vec<C>)
         requires { CanUnmake C.names self.old group claims.items }
         ensures taken { WasTaken self.old.parts group self.new.parts }
-        ensures closed { IsClosed group (count_in self.old group) self.old.kept self.new.kept }
+        ensures closed { IsClosed group (slots_in_group self.old group) self.old.kept self.new.kept }
         ensures rest { self.new ≡ opened_view self.old self.new.parts self.new.kept }
         ensures whole { IsWhole self.old }
     {

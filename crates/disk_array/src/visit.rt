@@ -1,6 +1,6 @@
 // A visit of all drives by one who keeps something of each. For the array nothing happens.
 ghost use Rattle.std.specs.Prelude.{◌≡◌, ◌++◌, ◌∷◌, [], List, map, length, true};
-ghost use Rattle.array_parts.specs.Views.{DriveView, drive_view};
+ghost use Rattle.unit_store.specs.Views.{DriveView, drive_view};
 
 use crate::array::Array;
 use extents::Drive;
@@ -9,7 +9,7 @@ use slot_tables::Hold;
 /// One who is shown the drives of an array, and leaves of each what an array knows of it: its units, and whether it is lost.
 pub trait Visit<D: Drive> {
     ghost use Rattle.std.specs.Prelude.{List};
-    ghost use Rattle.array_parts.specs.Views.{DriveView};
+    ghost use Rattle.unit_store.specs.Views.{DriveView};
 
     /// The drives that it was shown, in their order.
     ghost shown: { Self → List DriveView };

@@ -43,7 +43,7 @@ IsFaultOf size block drives (TooLarge most) =
     (IsDriveCount drives) × (IsPayloadSize block) × (most ≡ largest_size drives block) × (most < size)
 
 -- the sizes of a plan fit one another: each group has a member on each drive, on 8 at most, and there are extents for all of them
-pub record AreWhole (drives members groups mirrored extents : ℕ) : Type 0 where
+pub record AreConsistent (drives members groups mirrored extents : ℕ) : Type 0 where
   pub drive_count : IsDriveCount drives
   pub member_count_is : members ≡ member_count drives
   pub group_count : (2 ≤ groups) × (groups ≤ 512)

@@ -1,5 +1,5 @@
 // The sizes of a disk's array.
-ghost use Rattle.disk_shape.specs.Plans.{AreWhole};
+ghost use Rattle.disk_shape.specs.Plans.{AreConsistent};
 
 use extents::Shape;
 
@@ -18,5 +18,5 @@ pub struct Plan {
     pub mirrored: u16,
     /// Extents of each drive, segments of each extent, bytes of a block, and blocks.
     pub shape: Shape,
-    pub ghost whole: { AreWhole drives members groups mirrored shape.extents },
+    pub ghost whole: { AreConsistent drives members groups mirrored shape.extents },
 }

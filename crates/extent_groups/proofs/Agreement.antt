@@ -3,7 +3,7 @@ use Rattle.std.proofs.Common.{◌≡◌, ◌≢◌, ℕ, zero, suc, ◌<◌, ◌
 use Rattle.std.specs.Prelude.{slice_get, unwrap_or, replicate}
 use Rattle.std.proofs.lemmas.List.{length-set, length-replicate, get_or_append_left, get_or_push}
 use Rattle.std.proofs.lemmas.Option.{same_Some, slice_get_within, slice_get_cases, unwrap_or-slice_get}
-use Rattle.extents.specs.Owners.{Owners, owner_of, row_of, with_drive}
+use Rattle.extents.specs.Owners.{Owners, owner_of, owner_row, with_drive}
 use Rattle.extent_groups.specs.declared.class.Member.{Member}
 use Rattle.extent_groups.specs.Groups.{Group, Groups, group_at, members_in, members_of, with_group, with_owners, AreThere, IsFormed, AreGroups, Agree, IsFree}
 use Rattle.extent_groups.proofs.Places.{same_or_not}
@@ -75,12 +75,12 @@ agree_put t o g group agree free there unowned = record {
           owner_out o group.members m.drive m.extent (Some g) there (λ j a aj d e. owned_or_free o m a h old.1 (unowned j a aj) d e) ∙ old.1,
         ))
   ];
-  stands = λ h x y owned. elim (among group.members x y) [
+  matches = λ h x y owned. elim (among group.members x y) [
     | inl found ↦
         (let same : g ≡ h = same_Some _ _ (sym (owner_in o group.members (Some g) found.0 (record { drive = x; extent = y }) agree.wide there found.1) ∙ owned) in
         (found.0, subst (λ ms. slice_get ms found.0 ≡ Some (record { drive = x; extent = y })) (sym (members_same t g (Some group) free.within) ∙ ap (members_of (with_group t g (Some group))) same) found.1))
     | inr none ↦
-        (let old = agree.stands h x y (sym (owner_out o group.members x y (Some g) there none) ∙ owned) in
+        (let old = agree.matches h x y (sym (owner_out o group.members x y (Some g) there none) ∙ owned) in
         let ne : h ≢ g = λ e. no_members t g old.0 (record { drive = x; extent = y }) free.free (subst (λ n. slice_get (members_of t n) old.0 ≡ Some (record { drive = x; extent = y })) e old.1) in
         (old.0, subst (λ ms. slice_get ms old.0 ≡ Some (record { drive = x; extent = y })) (sym (members_other t g h (Some group) ne)) old.1))
   ];
@@ -108,11 +108,11 @@ agree_take t o g group agree within made =
                   (λ j a aj d e. ne (one_owner o m a h g old.1 (agree.owned g j a (subst (λ ms. slice_get ms j ≡ Some a) (sym (ap members_in made)) aj)).1 d e)) ∙ old.1,
             ))
       ];
-      stands = λ h x y owned. elim (among group.members x y) [
+      matches = λ h x y owned. elim (among group.members x y) [
         | inl found ↦
             (let both : None ≡ Some h = sym (owner_in o group.members None found.0 (record { drive = x; extent = y }) agree.wide there found.1) ∙ owned in absurd cc)
         | inr none ↦
-            (let old = agree.stands h x y (sym (owner_out o group.members x y None there none) ∙ owned) in
+            (let old = agree.matches h x y (sym (owner_out o group.members x y None there none) ∙ owned) in
             let ne : h ≢ g = λ e. none old.0 (record { drive = x; extent = y }) (subst (λ ms. slice_get ms old.0 ≡ Some (record { drive = x; extent = y })) (ap (members_of t) e ∙ ap members_in made) old.1) refl refl in
             (old.0, subst (λ ms. slice_get ms old.0 ≡ Some (record { drive = x; extent = y })) (sym (members_other t g h None ne)) old.1))
       ];
@@ -133,14 +133,14 @@ groups_with t o g x are agree within formed = record {
 }
 
 -- a drive more leaves the rows of the others
-row_kept : (o : Owners) (d : ℕ) → d < length o.rows → row_of (with_drive o) d ≡ row_of o d
+row_kept : (o : Owners) (d : ℕ) → d < length o.rows → owner_row (with_drive o) d ≡ owner_row o d
 row_kept o d within =
     unwrap_or-slice_get (o.rows ++ replicate o.extents None ∷ []) d []
     ∙ get_or_append_left o.rows (replicate o.extents None ∷ []) [] d within
     ∙ sym (unwrap_or-slice_get o.rows d [])
 
 -- and its own row is free throughout
-row_added : (o : Owners) → row_of (with_drive o) (length o.rows) ≡ replicate o.extents None
+row_added : (o : Owners) → owner_row (with_drive o) (length o.rows) ≡ replicate o.extents None
 row_added o = unwrap_or-slice_get (o.rows ++ replicate o.extents None ∷ []) (length o.rows) [] ∙ get_or_push o.rows (replicate o.extents None) [] (length o.rows) refl
 
 -- what is owned then lies on a drive that was there
@@ -148,7 +148,7 @@ owned_before : (o : Owners) (d e g : ℕ) → owner_of (with_drive o) d e ≡ So
 owned_before o d e g owned = elim (slice_get_cases (o.rows ++ replicate o.extents None ∷ []) d).1 [
   | inl there ↦ elim (same_or_not d (length o.rows)) [
     | inl last ↦
-        (let row : row_of (with_drive o) d ≡ replicate o.extents None = rw last (row_added o) in
+        (let row : owner_row (with_drive o) d ≡ replicate o.extents None = rw last (row_added o) in
         let none : None ≡ Some g = sym (ap (λ r. unwrap_or (slice_get r e) None) row ∙ none_of o.extents e) ∙ owned in
         absurd cc)
     | inr apart ↦ omega (arith, apart, there.1, length-append o.rows (replicate o.extents None ∷ []))
@@ -167,9 +167,9 @@ agree_more t o agree = record {
         record { within = omega (arith, was.0.within, length-append o.rows (replicate o.extents None ∷ [])); inside = was.0.inside },
         ap (λ r. unwrap_or (slice_get r m.extent) None) row ∙ was.1,
       );
-  stands = λ g drive extent owned.
+  matches = λ g drive extent owned.
       let within = owned_before o drive extent g owned in
-      agree.stands g drive extent (sym (ap (λ r. unwrap_or (slice_get r extent) None) (row_kept o drive within)) ∙ owned);
+      agree.matches g drive extent (sym (ap (λ r. unwrap_or (slice_get r extent) None) (row_kept o drive within)) ∙ owned);
   wide = λ drive within. elim (same_or_not drive (length o.rows)) [
     | inl last ↦ rw last (ap (λ r. length r) (row_added o) ∙ length-replicate o.extents None)
     | inr apart ↦

@@ -5,7 +5,7 @@ use Rattle.std.proofs.lemmas.List.{length-replicate}
 use Rattle.std.proofs.lemmas.Option.{same_Some, none-some}
 use Rattle.extent_groups.specs.declared.place.Place.{Place}
 use Rattle.extent_groups.specs.Cells.{Cells, held}
-use Rattle.extent_groups.specs.Units.{Site, Pair, InStripe, plus, add, total, put, others, or_else, held_in, row_of, unit_at, unit_in, IsSoundAt}
+use Rattle.extent_groups.specs.Units.{Site, Pair, InStripe, plus, add, xor_total, put, others, or_else, held_in, row_of, unit_at, unit_in, IsSoundAt}
 use Rattle.extent_groups.specs.Layout.{IsOf}
 use Rattle.extent_groups.proofs.Places.{same_or_not}
 use Rattle.extent_groups.proofs.ExclusiveOr.{plus-zeros}
@@ -18,9 +18,9 @@ add_blank n (Some u) (Some w) v h k e =
     let fits : length (replicate {A = ℕ} n 0) ≤ n = omega (arith, length-replicate {A = ℕ} n 0) in
     sym (same_Some (plus u w) v e) ∙ ap (λ z. plus z w) (h u refl) ∙ ap (plus (replicate n 0)) (k w refl) ∙ plus-zeros n (replicate n 0) fits
 
-total_blank : (n m : ℕ) (r : Row) → ((k : ℕ) (u : List ℕ) → r k ≡ Some u → u ≡ replicate n 0) → (v : List ℕ) → total n m r ≡ Some v → v ≡ replicate n 0
+total_blank : (n m : ℕ) (r : Row) → ((k : ℕ) (u : List ℕ) → r k ≡ Some u → u ≡ replicate n 0) → (v : List ℕ) → xor_total n m r ≡ Some v → v ≡ replicate n 0
 total_blank n zero r h v e = sym (same_Some (replicate n 0) v e)
-total_blank n (suc m) r h v e = add_blank n (r m) (total n m r) v (h m) (total_blank n m r h) e
+total_blank n (suc m) r h v e = add_blank n (r m) (xor_total n m r) v (h m) (total_blank n m r h) e
 
 member_zero : (n : ℕ) (c : Cells) (o : Option Place) → ((p : Place) → o ≡ Some p → (u : List ℕ) → held c p ≡ Some u → u ≡ replicate n 0) → (u : List ℕ) → held_in c o ≡ Some u → u ≡ replicate n 0
 member_zero n c None h u e = absurd (none-some u e)

@@ -3,9 +3,9 @@ use Rattle.std.proofs.Common.{◌≡◌, ◌≢◌, ℕ, ◌<◌, ◌⊎◌, inl
 use Rattle.std.specs.Prelude.{slice_get, slice_set, Result, Ok, Err, OnOk, OnErr, is_ok, is_err}
 use Rattle.std.proofs.lemmas.List.{length-set}
 use Rattle.std.proofs.lemmas.Option.{same_Some, none-some, slice_get-get_or, slice_get_within}
-use Rattle.extents.specs.Failures.{Failures, Counts, StaysSteady}
+use Rattle.extents.specs.Failures.{Failures, CountsFailure, StaysSteady}
 use Rattle.extents.proofs.Failures.{counts_same, steady_same, counts_more, steady_more}
-use Rattle.extents.specs.Units.{IsSized}
+use Rattle.extents.specs.Units.{AreUnitsSized}
 use Rattle.extent_groups.specs.declared.place.Place.{Place}
 use Rattle.extent_groups.specs.Cells.{cell, cells, held}
 use Rattle.extent_groups.specs.Calls.{AreSized, IsPlace, DidRead, DidWrite, NoPlace, Only, KeepsDrive, KeepsDrives}
@@ -19,13 +19,13 @@ not_both : (b : Bool) → b ≡ true → b ≡ false → ⊥
 not_both b t f = let both : true ≡ false = sym t ∙ f in absurd cc
 
 -- what holds if an answer is Ok
-pub told_ok : {A E : Type 0} {P : Type 0} (r : Result A E) → OnOk r P → is_ok r ≡ true → P
-told_ok (Ok a) p e = p
-told_ok (Err f) p e = absurd (let both : false ≡ true = e in cc)
+pub reported_ok : {A E : Type 0} {P : Type 0} (r : Result A E) → OnOk r P → is_ok r ≡ true → P
+reported_ok (Ok a) p e = p
+reported_ok (Err f) p e = absurd (let both : false ≡ true = e in cc)
 
-pub told_err : {A E : Type 0} {P : Type 0} (r : Result A E) → OnErr r P → is_ok r ≡ false → P
-told_err (Ok a) p e = absurd (let both : true ≡ false = e in cc)
-told_err (Err f) p e = p
+pub reported_err : {A E : Type 0} {P : Type 0} (r : Result A E) → OnErr r P → is_ok r ≡ false → P
+reported_err (Ok a) p e = absurd (let both : true ≡ false = e in cc)
+reported_err (Err f) p e = p
 
 pub is_err-not : {A E : Type 0} (r : Result A E) → is_err r ≡ not (is_ok r)
 is_err-not (Ok a) = refl
@@ -35,7 +35,7 @@ is_err-not (Err f) = refl
 pub record Called {D : Type 0} (lost : D → Bool) (failures : D → Failures) (x y : D) (ok : Bool) : Type 0 where
   pub lost_is : lost y ≡ not ok
   pub stays : lost x ≡ true → lost y ≡ true
-  pub count : Counts (lost x) (lost y) (failures x) (failures y)
+  pub count : CountsFailure (lost x) (lost y) (failures x) (failures y)
   pub steady : StaysSteady (lost x) (lost y) (failures x) (failures y)
 
 was_present : {D : Type 0} (lost : D → Bool) (failures : D → Failures) (x y : D) → Called lost failures x y true → lost x ≡ false
@@ -113,7 +113,7 @@ did_write units lost failures ds p x y u true inside there low call written =
           ∙ ap (λ us. slice_get us p.address) (written refl) ∙ get-set_same (units x) p.address u low;
       was = λ _ gone. none-some (get_or (units x) p.address u)
           (sym gone ∙ cell_present units lost ds p.drive p.address x there was ∙ slice_get-get_or (units x) p.address u low);
-      beside = λ z ne. inl (elim (same_or_not z.drive p.drive) [
+      nearby = λ z ne. inl (elim (same_or_not z.drive p.drive) [
         | inl e ↦
             ap (λ d. cells units lost (slice_set ds p.drive y) d z.address) e
             ∙ cell_present units lost (slice_set ds p.drive y) p.drive z.address y now call.lost_is
@@ -130,7 +130,7 @@ did_write units lost failures ds p x y u false inside there low call written =
     record {
       here = cell_lost units lost (slice_set ds p.drive y) p.drive p.address y now call.lost_is;
       was = λ e. absurd (let both : false ≡ true = e in cc);
-      beside = λ z _. elim (same_or_not z.drive p.drive) [
+      nearby = λ z _. elim (same_or_not z.drive p.drive) [
         | inl e ↦ inr (ap (λ d. cells units lost (slice_set ds p.drive y) d z.address) e ∙ cell_lost units lost (slice_set ds p.drive y) p.drive z.address y now call.lost_is)
         | inr ne ↦ inl (cell_other units lost ds p.drive z.drive z.address y ne)
       ];
@@ -149,11 +149,11 @@ keeps_same units lost failures touched x = record {
 
 -- a call of a drive that changes no unit
 pub kept_same : {D : Type 0} {units : D → List (List ℕ)} {lost : D → Bool} {failures : D → Failures} {touched : ℕ → Type 0} (x y : D) → units y ≡ units x
-    → (lost x ≡ true → lost y ≡ true) → Counts (lost x) (lost y) (failures x) (failures y) → StaysSteady (lost x) (lost y) (failures x) (failures y)
+    → (lost x ≡ true → lost y ≡ true) → CountsFailure (lost x) (lost y) (failures x) (failures y) → StaysSteady (lost x) (lost y) (failures x) (failures y)
     → KeepsDrive units lost failures touched x y
 kept_same x y same stays count steady = record {
   room = ap length same;
-  sizes = λ n h. subst (IsSized n) (sym same) h;
+  sizes = λ n h. subst (AreUnitsSized n) (sym same) h;
   elsewhere = λ at no. ap (λ us. slice_get us at) same;
   stays = stays;
   count = count;
@@ -166,7 +166,7 @@ pub kept_read : {D : Type 0} (units : D → List (List ℕ)) (lost : D → Bool)
 kept_read units lost failures p x y ok call same = kept_same x y same call.stays call.count call.steady
 
 -- the units with one written have the size of all
-sized-set : (n at : ℕ) (us : List (List ℕ)) (u : List ℕ) → length u ≡ n → IsSized n us → IsSized n (slice_set us at u)
+sized-set : (n at : ℕ) (us : List (List ℕ)) (u : List ℕ) → length u ≡ n → AreUnitsSized n us → AreUnitsSized n (slice_set us at u)
 sized-set n at us u e sized k v ev = elim (same_or_not k at) [
   | inl q ↦ elim (written_or_not us at u) [
     | inl is ↦ (let same : u ≡ v = same_Some _ _ (sym is ∙ ap (slice_get (slice_set us at u)) (sym q) ∙ ev) in ap length (sym same) ∙ e)
@@ -175,7 +175,7 @@ sized-set n at us u e sized k v ev = elim (same_or_not k at) [
   | inr ne ↦ sized k v (sym (get-set_other us at k u ne) ∙ ev)
 ]
 
-same_size : (n m at : ℕ) (us : List (List ℕ)) (u : List ℕ) → IsSized m us → IsSized n us → length u ≡ m → IsSized n (slice_set us at u)
+same_size : (n m at : ℕ) (us : List (List ℕ)) (u : List ℕ) → AreUnitsSized m us → AreUnitsSized n us → length u ≡ m → AreUnitsSized n (slice_set us at u)
 same_size n m at [] u hm hn e = hn
 same_size n m at (v ∷ us) u hm hn e = sized-set n at (v ∷ us) u (e ∙ sym (hm 0 v refl) ∙ hn 0 v refl) hn
 
@@ -186,13 +186,13 @@ written_units units x y at u false w n = inr (n refl)
 
 -- a write of a drive
 pub kept_write : {D : Type 0} (units : D → List (List ℕ)) (lost : D → Bool) (failures : D → Failures) (p : Place) (x y : D) (u : List ℕ) (ok : Bool)
-    → IsSized (length u) (units x) → Called lost failures x y ok
+    → AreUnitsSized (length u) (units x) → Called lost failures x y ok
     → (ok ≡ true → units y ≡ slice_set (units x) p.address u) → (ok ≡ false → units y ≡ units x)
     → KeepsDrive units lost failures (λ at. Only p (record { drive = p.drive; address = at })) x y
 kept_write units lost failures p x y u ok sized call w n = elim (written_units units x y p.address u ok w n) [
   | inl e ↦ record {
     room = ap length e ∙ length-set (units x) p.address u;
-    sizes = λ m h. subst (IsSized m) (sym e) (same_size m (length u) p.address (units x) u sized h refl);
+    sizes = λ m h. subst (AreUnitsSized m) (sym e) (same_size m (length u) p.address (units x) u sized h refl);
     elsewhere = λ at no. ap (λ us. slice_get us at) e ∙ get-set_other (units x) p.address at u
         (λ q. no (ap (λ a. let z : Place = record { drive = p.drive; address = a } in z) q));
     stays = call.stays;
@@ -201,7 +201,7 @@ kept_write units lost failures p x y u ok sized call w n = elim (written_units u
   }
   | inr e ↦ record {
     room = ap length e;
-    sizes = λ m h. subst (IsSized m) (sym e) h;
+    sizes = λ m h. subst (AreUnitsSized m) (sym e) h;
     elsewhere = λ at no. ap (λ us. slice_get us at) e;
     stays = call.stays;
     count = call.count;
@@ -285,11 +285,11 @@ keeps_sizes {a = a} {n = n} h sized d y ey =
     let ex = slice_get-get_or a d y within in
     (h.each d (get_or a d y) y ex ey).sizes n (sized d (get_or a d y) ex)
 
-lost_size : {D : Type 0} (units : D → List (List ℕ)) (n : ℕ) (b : Bool) (x : D) (at : ℕ) → IsSized n (units x) → (u : List ℕ) → (if b then None else slice_get (units x) at) ≡ Some u → length u ≡ n
+lost_size : {D : Type 0} (units : D → List (List ℕ)) (n : ℕ) (b : Bool) (x : D) (at : ℕ) → AreUnitsSized n (units x) → (u : List ℕ) → (if b then None else slice_get (units x) at) ≡ Some u → length u ≡ n
 lost_size units n true x at sized u e = absurd (none-some u e)
 lost_size units n false x at sized u e = sized at u e
 
-held_size : {D : Type 0} (units : D → List (List ℕ)) (lost : D → Bool) (n : ℕ) (o : Option D) (at : ℕ) → ((x : D) → o ≡ Some x → IsSized n (units x)) → (u : List ℕ) → cell units lost o at ≡ Some u → length u ≡ n
+held_size : {D : Type 0} (units : D → List (List ℕ)) (lost : D → Bool) (n : ℕ) (o : Option D) (at : ℕ) → ((x : D) → o ≡ Some x → AreUnitsSized n (units x)) → (u : List ℕ) → cell units lost o at ≡ Some u → length u ≡ n
 held_size units lost n None at sized u e = absurd (none-some u e)
 held_size units lost n (Some x) at sized u e = lost_size units n (lost x) x at (sized x refl) u e
 

@@ -4,13 +4,13 @@ use Rattle.std.specs.Prelude.{replicate, slice_get}
 use Rattle.std.proofs.lemmas.Option.{none-some}
 use Rattle.extent_groups.specs.declared.place.Place.{Place}
 use Rattle.extent_groups.specs.Cells.{Cells, held}
-use Rattle.extent_groups.specs.Units.{Site, Pair, InStripe, plus, add, total, put, others, or_else, held_in, row_of, IsSoundAt}
+use Rattle.extent_groups.specs.Units.{Site, Pair, InStripe, plus, add, xor_total, put, others, or_else, held_in, row_of, IsSoundAt}
 use Rattle.extent_groups.specs.Calls.{Fades, FadesAt}
-use Rattle.extent_groups.specs.Layout.{IsOf, IsWhole}
+use Rattle.extent_groups.specs.Layout.{IsOf, IsDriveDisjoint}
 use Rattle.extent_groups.specs.Stores.{KeepsAt}
 use Rattle.extent_groups.proofs.Places.{same_or_not}
 use Rattle.extent_groups.proofs.ExclusiveOr.{plus_same}
-use Rattle.extent_groups.proofs.Totals.{Row, put_same, put_other, length-total, total_split}
+use Rattle.extent_groups.proofs.Totals.{Row, put_same, put_other, length-xor_total, total_split}
 
 pub fades_trans : (a b c : Option (List ℕ)) → Fades a b → Fades b c → Fades a c
 fades_trans a b c h (inr gone) = inr gone
@@ -38,9 +38,9 @@ fade_add a (Some u) b (Some w) h k v e = ap (λ o. add o b) (faded a (Some u) u 
 abbrev pub RowFades : Row → Row → Type 0
 RowFades r s = (k : ℕ) → Fades (r k) (s k)
 
-pub fade_total : (n m : ℕ) (r s : Row) → RowFades r s → (v : List ℕ) → total n m s ≡ Some v → total n m r ≡ Some v
+pub fade_total : (n m : ℕ) (r s : Row) → RowFades r s → (v : List ℕ) → xor_total n m s ≡ Some v → xor_total n m r ≡ Some v
 fade_total n zero r s h v e = e
-fade_total n (suc m) r s h v e = fade_add (r m) (s m) (total n m r) (total n m s) (h m) (fade_total n m r s h) v e
+fade_total n (suc m) r s h v e = fade_add (r m) (s m) (xor_total n m r) (xor_total n m s) (h m) (fade_total n m r s h) v e
 
 put_fades : (r s : Row) (i : ℕ) (x : Option (List ℕ)) → RowFades r s → RowFades (put r i x) (put s i x)
 put_fades r s i x h k = elim (same_or_not k i) [
@@ -53,7 +53,7 @@ fade_others n m i r s h v e = fade_total n m (put r i (Some (replicate n 0))) (p
 
 -- a row is sound where its exclusive or, if no member is missing, is zero
 abbrev pub IsSoundRow : ℕ → ℕ → Row → Type 0
-IsSoundRow n m r = (v : List ℕ) → total n m r ≡ Some v → v ≡ replicate n 0
+IsSoundRow n m r = (v : List ℕ) → xor_total n m r ≡ Some v → v ≡ replicate n 0
 
 -- the effective unit of a member of a row
 abbrev pub effective : ℕ → ℕ → Row → ℕ → Option (List ℕ)
@@ -63,8 +63,8 @@ effective n m r i = or_else (r i) (others n m r i)
 sound_member : (n m i : ℕ) (r : Row) → i < m → ((u : List ℕ) → r i ≡ Some u → length u ≡ n) → IsSoundRow n m r
     → (u v : List ℕ) → r i ≡ Some u → others n m r i ≡ Some v → u ≡ v
 sound_member n m i r h size sound u v eu ev =
-    let all : total n m r ≡ Some (plus u v) = total_split n m i r h ∙ ap (λ a. add a (others n m r i)) eu ∙ ap (add (Some u)) ev in
-    plus_same n u v (size u eu) (length-total n m (put r i (Some (replicate n 0))) v ev) (sound (plus u v) all)
+    let all : xor_total n m r ≡ Some (plus u v) = total_split n m i r h ∙ ap (λ a. add a (others n m r i)) eu ∙ ap (add (Some u)) ev in
+    plus_same n u v (size u eu) (length-xor_total n m (put r i (Some (replicate n 0))) v ev) (sound (plus u v) all)
 
 pub fade_effective : (n m i : ℕ) (r s : Row) → i < m → ((u : List ℕ) → r i ≡ Some u → length u ≡ n) → IsSoundRow n m r → RowFades r s
     → (v : List ℕ) → effective n m s i ≡ Some v → effective n m r i ≡ Some v
@@ -92,7 +92,7 @@ pub row_sized : (n : ℕ) (c : Cells) (places : List Place) → ((x : Place) (u 
 row_sized n c places sized k u e = member_size n c (slice_get places k) sized u e
 
 -- a sound site whose places fade is kept
-pub site_fades : (n : ℕ) (c new : Cells) (t : Site) → ((x : Place) (u : List ℕ) → held c x ≡ Some u → length u ≡ n) → IsWhole t
+pub site_fades : (n : ℕ) (c new : Cells) (t : Site) → ((x : Place) (u : List ℕ) → held c x ≡ Some u → length u ≡ n) → IsDriveDisjoint t
     → ((x : Place) → IsOf t x → FadesAt c new x) → IsSoundAt n c t → KeepsAt n c new t
 site_fades n c new (Pair p q) sized whole fades sound = record {
   unit = fade_or (held c p) (held new p) (held c q) (held new q) (fades p (inl refl)) (λ v e. faded (held c q) (held new q) v (fades q (inr refl)) e) sound;

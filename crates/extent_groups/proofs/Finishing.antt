@@ -10,8 +10,8 @@ use Rattle.extent_groups.specs.Cells.{Cells, held}
 use Rattle.extent_groups.specs.Calls.{Fades, FadesAt, if_ok, DidWrite}
 use Rattle.extent_groups.specs.Layout.{IsLayout}
 use Rattle.extent_groups.specs.Units.{Site, Pair, InStripe, site_of, unit_at, or_else, IsSoundAt}
-use Rattle.extent_groups.specs.Stores.{unit_bytes, AreSound, IsOwn, IsOwnOf, Wrote, LeavesSites}
-use Rattle.extent_groups.specs.Planned.{Wanted, over, with_unit, after, AreOnce, IsPlanned, IsFinished}
+use Rattle.extent_groups.specs.Stores.{unit_bytes, AreSound, IsOwn, IsOwnOf, WroteSlot, LeavesSites}
+use Rattle.extent_groups.specs.Planned.{Intended, over, with_unit, after, AreOnce, IsWritePlan, IsFinished}
 use Rattle.extent_groups.proofs.Places.{same_or_not}
 use Rattle.extent_groups.proofs.Fading.{fades_trans, site_fades}
 use Rattle.extent_groups.proofs.SlotWrites.{AreSizedCells, slots_fade, slot_leaves, unit_at_site}
@@ -44,37 +44,37 @@ at_other p x apart = elim (same_or_not x.drive p.drive) [
     never false = refl
 
 -- a write gives its place the unit, and leaves other places
-pub write_here : (c : Cells) (w : Wanted) → held (with_unit c w) w.place ≡ over (held c w.place) w.unit
+pub write_here : (c : Cells) (w : Intended) → held (with_unit c w) w.place ≡ over (held c w.place) w.unit
 write_here c w = ap (λ b. if b then over (held c w.place) w.unit else held c w.place) (at_own w.place)
 
-pub write_else : (c : Cells) (w : Wanted) (x : Place) → w.place ≢ x → held (with_unit c w) x ≡ held c x
+pub write_else : (c : Cells) (w : Intended) (x : Place) → w.place ≢ x → held (with_unit c w) x ≡ held c x
 write_else c w x apart = ap (λ b. if b then over (held c x) w.unit else held c x) (at_other w.place x apart)
 
 -- the later writes of a list are among all
-behind : (w : Wanted) (ws : List Wanted) (v : Wanted) → Contains ws v → Contains (w ∷ ws) v
-behind w ws v has = let low = has.1 in (suc has.0, omega arith, has.2)
+following : (w : Intended) (ws : List Intended) (v : Intended) → Contains ws v → Contains (w ∷ ws) v
+following w ws v has = let low = has.1 in (suc has.0, omega arith, has.2)
 
-first : (w : Wanted) (ws : List Wanted) → Contains (w ∷ ws) w
+first : (w : Intended) (ws : List Intended) → Contains (w ∷ ws) w
 first w ws = (0, omega arith, refl)
 
 -- writes to other places leave a place, a prefix of them too
-pub writes_else : (ws : List Wanted) (c : Cells) (x : Place) → ((w : Wanted) → Contains ws w → w.place ≢ x) → held (after c ws) x ≡ held c x
+pub writes_else : (ws : List Intended) (c : Cells) (x : Place) → ((w : Intended) → Contains ws w → w.place ≢ x) → held (after c ws) x ≡ held c x
 writes_else [] c x apart = refl
-writes_else (w ∷ ws) c x apart = writes_else ws (with_unit c w) x (λ v has. apart v (behind w ws v has)) ∙ write_else c w x (apart w (first w ws))
+writes_else (w ∷ ws) c x apart = writes_else ws (with_unit c w) x (λ v has. apart v (following w ws v has)) ∙ write_else c w x (apart w (first w ws))
 
-pub front_else : (ws : List Wanted) (c : Cells) (n : ℕ) (x : Place) → ((w : Wanted) → Contains ws w → w.place ≢ x) → held (after c (take n ws)) x ≡ held c x
+pub front_else : (ws : List Intended) (c : Cells) (n : ℕ) (x : Place) → ((w : Intended) → Contains ws w → w.place ≢ x) → held (after c (take n ws)) x ≡ held c x
 front_else ws c zero x apart = refl
 front_else [] c (suc n) x apart = refl
-front_else (w ∷ ws) c (suc n) x apart = front_else ws (with_unit c w) n x (λ v has. apart v (behind w ws v has)) ∙ write_else c w x (apart w (first w ws))
+front_else (w ∷ ws) c (suc n) x apart = front_else ws (with_unit c w) n x (λ v has. apart v (following w ws v has)) ∙ write_else c w x (apart w (first w ws))
 
 -- after a prefix of the writes a place holds what it held, or what it holds after all of them
-pub front_or_all : (ws : List Wanted) (c : Cells) (n : ℕ) (x : Place) → AreOnce ws
+pub front_or_all : (ws : List Intended) (c : Cells) (n : ℕ) (x : Place) → AreOnce ws
     → (held (after c (take n ws)) x ≡ held c x) ⊎ (held (after c (take n ws)) x ≡ held (after c ws) x)
 front_or_all ws c zero x once = inl refl
 front_or_all [] c (suc n) x once = inl refl
 front_or_all (w ∷ ws) c (suc n) x once = elim (place_or_not w.place x) [
   | inl e ↦
-      let later : (v : Wanted) → Contains ws v → v.place ≢ x = λ v has same. once.0 v has (same ∙ sym e) in
+      let later : (v : Intended) → Contains ws v → v.place ≢ x = λ v has same. once.0 v has (same ∙ sym e) in
       inr (front_else ws (with_unit c w) n x later ∙ sym (writes_else ws (with_unit c w) x later))
   | inr ne ↦ elim (front_or_all ws (with_unit c w) n x once.1) [
     | inl is ↦ inl (is ∙ write_else c w x ne)
@@ -117,21 +117,21 @@ own_or_not groups slot x = go (site_of groups slot) refl
 
 -- for any prefix of the planned writes that was made, and any drives that were lost after it: once they are finished the drives
 -- hold what they hold after all of the writes, but for losses
-pub finished_fades : (groups : Groups) (c d e : Cells) (slot : ℕ) (unit : List ℕ) (wanted : Place → List ℕ) (writes : List Wanted) (n : ℕ)
-    → IsPlanned groups c slot unit wanted writes → ((x : Place) → FadesAt (after c (take n writes)) d x) → IsFinished groups d e slot wanted
+pub finished_fades : (groups : Groups) (c d e : Cells) (slot : ℕ) (unit : List ℕ) (expected : Place → List ℕ) (writes : List Intended) (n : ℕ)
+    → IsWritePlan groups c slot unit expected writes → ((x : Place) → FadesAt (after c (take n writes)) d x) → IsFinished groups d e slot expected
     → (x : Place) → FadesAt (after c writes) e x
-finished_fades groups c d e slot unit wanted writes n planned stopped done x = elim (own_or_not groups slot x) [
+finished_fades groups c d e slot unit expected writes n planned stopped done x = elim (own_or_not groups slot x) [
   | inl own ↦ elim (done.own x own) [
     | inr gone ↦ inr gone
     | inl is ↦
-        let again : over (held (after c (take n writes)) x) (wanted x) ≡ held (after c writes) x = elim (front_or_all writes c n x planned.once) [
-          | inl was ↦ ap (λ o. over o (wanted x)) was ∙ sym (planned.all x own)
-          | inr was ↦ ap (λ o. over o (wanted x)) (was ∙ planned.all x own) ∙ over_twice (held c x) (wanted x) ∙ sym (planned.all x own)
+        let again : over (held (after c (take n writes)) x) (expected x) ≡ held (after c writes) x = elim (front_or_all writes c n x planned.once) [
+          | inl was ↦ ap (λ o. over o (expected x)) was ∙ sym (planned.all x own)
+          | inr was ↦ ap (λ o. over o (expected x)) (was ∙ planned.all x own) ∙ over_twice (held c x) (expected x) ∙ sym (planned.all x own)
         ] in
-        fades_trans _ _ _ (subst (λ o. Fades o (over (held d x) (wanted x))) again (over_fades _ _ (wanted x) (stopped x))) (inl is)
+        fades_trans _ _ _ (subst (λ o. Fades o (over (held d x) (expected x))) again (over_fades _ _ (expected x) (stopped x))) (inl is)
   ]
   | inr never ↦
-      let others : (w : Wanted) → Contains writes w → w.place ≢ x = λ w has same. never (subst (IsOwnOf groups slot) same (planned.own w has).0) in
+      let others : (w : Intended) → Contains writes w → w.place ≢ x = λ w has same. never (subst (IsOwnOf groups slot) same (planned.own w has).0) in
       let same : held (after c (take n writes)) x ≡ held (after c writes) x = front_else writes c n x others ∙ sym (writes_else writes c x others) in
       fades_trans _ _ _ (subst (λ o. Fades o (held d x)) same (stopped x)) (done.others x never)
 ]
@@ -141,23 +141,23 @@ sized_over : (size : ℕ) (a : Option (List ℕ)) (u : List ℕ) → length u �
 sized_over size None u long v e = absurd (none-some v e)
 sized_over size (Some w) u long v e = ap length (sym (same_Some u v e)) ∙ long
 
-pub after_sized : (groups : Groups) (c : Cells) (slot : ℕ) (unit : List ℕ) (wanted : Place → List ℕ) (writes : List Wanted) (size : ℕ)
-    → IsPlanned groups c slot unit wanted writes → ((x : Place) → length (wanted x) ≡ size) → AreSizedCells size c → AreSizedCells size (after c writes)
-after_sized groups c slot unit wanted writes size planned long sized x u e = elim (own_or_not groups slot x) [
-  | inl own ↦ sized_over size (held c x) (wanted x) (long x) u (sym (planned.all x own) ∙ e)
+pub after_sized : (groups : Groups) (c : Cells) (slot : ℕ) (unit : List ℕ) (expected : Place → List ℕ) (writes : List Intended) (size : ℕ)
+    → IsWritePlan groups c slot unit expected writes → ((x : Place) → length (expected x) ≡ size) → AreSizedCells size c → AreSizedCells size (after c writes)
+after_sized groups c slot unit expected writes size planned long sized x u e = elim (own_or_not groups slot x) [
+  | inl own ↦ sized_over size (held c x) (expected x) (long x) u (sym (planned.all x own) ∙ e)
   | inr never ↦
-      let others : (w : Wanted) → Contains writes w → w.place ≢ x = λ w has same. never (subst (IsOwnOf groups slot) same (planned.own w has).0) in
+      let others : (w : Intended) → Contains writes w → w.place ≢ x = λ w has same. never (subst (IsOwnOf groups slot) same (planned.own w has).0) in
       sized x u (sym (writes_else writes c x others) ∙ e)
 ]
 
 -- so the slot was written, for any prefix of the writes that was made before the stop
-pub finished_wrote : (groups : Groups) (c d e : Cells) (slot : ℕ) (unit : List ℕ) (wanted : Place → List ℕ) (writes : List Wanted) (n : ℕ)
-    → IsLayout groups → AreSizedCells (unit_bytes groups) c → ((x : Place) → length (wanted x) ≡ unit_bytes groups)
-    → IsPlanned groups c slot unit wanted writes → ((x : Place) → FadesAt (after c (take n writes)) d x) → IsFinished groups d e slot wanted
-    → AreSound groups c → Wrote groups c e slot unit
-finished_wrote groups c d e slot unit wanted writes n layout sized long planned stopped done sound =
-    let kept = slots_fade groups (after c writes) e layout (after_sized groups c slot unit wanted writes (unit_bytes groups) planned long sized) (planned.wrote.sound sound)
-    (finished_fades groups c d e slot unit wanted writes n planned stopped done) in
+pub finished_wrote : (groups : Groups) (c d e : Cells) (slot : ℕ) (unit : List ℕ) (expected : Place → List ℕ) (writes : List Intended) (n : ℕ)
+    → IsLayout groups → AreSizedCells (unit_bytes groups) c → ((x : Place) → length (expected x) ≡ unit_bytes groups)
+    → IsWritePlan groups c slot unit expected writes → ((x : Place) → FadesAt (after c (take n writes)) d x) → IsFinished groups d e slot expected
+    → AreSound groups c → WroteSlot groups c e slot unit
+finished_wrote groups c d e slot unit expected writes n layout sized long planned stopped done sound =
+    let kept = slots_fade groups (after c writes) e layout (after_sized groups c slot unit expected writes (unit_bytes groups) planned long sized) (planned.wrote.sound sound)
+    (finished_fades groups c d e slot unit expected writes n planned stopped done) in
     record {
       unit = λ v is. planned.wrote.unit v (kept.0 slot v is);
       others = λ _ other v ne is. planned.wrote.others sound other v ne (kept.0 other v is);
@@ -165,13 +165,13 @@ finished_wrote groups c d e slot unit wanted writes n layout sized long planned 
     }
 
 -- the writes of a site's own places that give it the unit are planned ones of its slot
-pub planned_site : (groups : Groups) (c : Cells) (slot : ℕ) (site : Site) (unit : List ℕ) (wanted : Place → List ℕ) (writes : List Wanted) → IsLayout groups → site_of groups slot ≡ Some site
-    → AreOnce writes → ((w : Wanted) → Contains writes w → IsOwn site w.place × (w.unit ≡ wanted w.place))
-    → ((x : Place) → IsOwn site x → held (after c writes) x ≡ over (held c x) (wanted x))
+pub planned_site : (groups : Groups) (c : Cells) (slot : ℕ) (site : Site) (unit : List ℕ) (expected : Place → List ℕ) (writes : List Intended) → IsLayout groups → site_of groups slot ≡ Some site
+    → AreOnce writes → ((w : Intended) → Contains writes w → IsOwn site w.place × (w.unit ≡ expected w.place))
+    → ((x : Place) → IsOwn site x → held (after c writes) x ≡ over (held c x) (expected x))
     → unit_at (unit_bytes groups) (after c writes) site ≡ Some unit
     → (IsSoundAt (unit_bytes groups) c site → LeavesSites (unit_bytes groups) c (after c writes) site)
-    → IsPlanned groups c slot unit wanted writes
-planned_site groups c slot site unit wanted writes layout at once own all is leaves = record {
+    → IsWritePlan groups c slot unit expected writes
+planned_site groups c slot site unit expected writes layout at once own all is leaves = record {
   once = once;
   own = λ w has. ((site, at, (own w has).0), (own w has).1);
   all = λ x mine. all x (subst (λ t. IsOwn t x) (same_Some mine.0 site (sym mine.1 ∙ at)) mine.2);
@@ -183,21 +183,21 @@ planned_site groups c slot site unit wanted writes layout at once own all is lea
 }
 
 -- of two places: the first and the second unit for them
-abbrev pub wanted_of : Place → List ℕ → List ℕ → Place → List ℕ
-wanted_of home unit other x = if (x.drive == home.drive) && (x.address == home.address) then unit else other
+abbrev pub expected_of : Place → List ℕ → List ℕ → Place → List ℕ
+expected_of home unit other x = if (x.drive == home.drive) && (x.address == home.address) then unit else other
 
-pub wanted_here : (home : Place) (unit other : List ℕ) → wanted_of home unit other home ≡ unit
-wanted_here home unit other = ap (λ b. if b then unit else other) (at_own home)
+pub expected_here : (home : Place) (unit other : List ℕ) → expected_of home unit other home ≡ unit
+expected_here home unit other = ap (λ b. if b then unit else other) (at_own home)
 
-pub wanted_else : (home x : Place) (unit other : List ℕ) → home ≢ x → wanted_of home unit other x ≡ other
-wanted_else home x unit other apart = ap (λ b. if b then unit else other) (at_other home x apart)
+pub expected_else : (home x : Place) (unit other : List ℕ) → home ≢ x → expected_of home unit other x ≡ other
+expected_else home x unit other apart = ap (λ b. if b then unit else other) (at_other home x apart)
 
 -- the members of a list of one, and of a list of two
-pub among_one : (v w : Wanted) → Contains (v ∷ []) w → v ≡ w
+pub among_one : (v w : Intended) → Contains (v ∷ []) w → v ≡ w
 among_one v w (zero, low, e) = e
 among_one v w (suc k, low, e) = absurd (omega (arith, low))
 
-pub among_two : (u v w : Wanted) → Contains (u ∷ v ∷ []) w → (u ≡ w) ⊎ (v ≡ w)
+pub among_two : (u v w : Intended) → Contains (u ∷ v ∷ []) w → (u ≡ w) ⊎ (v ≡ w)
 among_two u v w (zero, low, e) = inl e
 among_two u v w (suc zero, low, e) = inr e
 among_two u v w (suc (suc k), low, e) = absurd (omega (arith, low))
@@ -205,12 +205,12 @@ among_two u v w (suc (suc k), low, e) = absurd (omega (arith, low))
 -- both copies of a pair, one of them or both there
 pub planned_pair : (groups : Groups) (c : Cells) (slot : ℕ) (p q : Place) (unit : List ℕ) → IsLayout groups → site_of groups slot ≡ Some (Pair p q) → AreSizedCells (unit_bytes groups) c
     → p.drive ≢ q.drive → ((held c p ≡ None) × (held c q ≡ None) → ⊥)
-    → IsPlanned groups c slot unit (λ x. unit) (record { place = p; unit = unit } ∷ record { place = q; unit = unit } ∷ [])
+    → IsWritePlan groups c slot unit (λ x. unit) (record { place = p; unit = unit } ∷ record { place = q; unit = unit } ∷ [])
 planned_pair groups c slot p q unit layout at sized apart some =
-    planned_site groups c slot (Pair p q) unit (λ x. unit) writes layout at ((λ v has same. differ (sym same ∙ ap (λ (w : Wanted). w.place) (sym (among_one two v has)))), ((λ v has. absurd (none_in v has)), tt))
+    planned_site groups c slot (Pair p q) unit (λ x. unit) writes layout at ((λ v has same. differ (sym same ∙ ap (λ (w : Intended). w.place) (sym (among_one two v has)))), ((λ v has. absurd (none_in v has)), tt))
     (λ w has. (
-      elim (among_two one two w has) [ inl e ↦ inl (ap (λ (v : Wanted). v.place) (sym e)) | inr e ↦ inr (ap (λ (v : Wanted). v.place) (sym e)) ],
-      elim (among_two one two w has) [ inl e ↦ ap (λ (v : Wanted). v.unit) (sym e) | inr e ↦ ap (λ (v : Wanted). v.unit) (sym e) ],
+      elim (among_two one two w has) [ inl e ↦ inl (ap (λ (v : Intended). v.place) (sym e)) | inr e ↦ inr (ap (λ (v : Intended). v.place) (sym e)) ],
+      elim (among_two one two w has) [ inl e ↦ ap (λ (v : Intended). v.unit) (sym e) | inr e ↦ ap (λ (v : Intended). v.unit) (sym e) ],
     ))
     (λ x own. elim own [
       | inl e ↦ subst (λ y. held (after c writes) y ≡ over (held c y) unit) (sym e) first_is
@@ -219,29 +219,29 @@ planned_pair groups c slot p q unit layout at sized apart some =
     (ap (λ o. or_else o (held (after c writes) q)) first_is ∙ ap (or_else (over (held c p) unit)) second_is ∙ one_is (held c p) (held c q) some)
     (λ sound. record {
       sound = λ u v eu ev. sym (only_unit (held c p) u (sym first_is ∙ eu)) ∙ only_unit (held c q) v (sym second_is ∙ ev);
-      others = λ t whole beside ok. elim beside [
+      others = λ t whole nearby ok. elim nearby [
         | inl away ↦ site_fades (unit_bytes groups) c (after c writes) t sized whole
             (λ x of. inl (writes_else writes c x (λ w has same. elim (among_two one two w has) [
-              | inl e ↦ away x (inl (sym same ∙ ap (λ (v : Wanted). v.place) (sym e))) of
-              | inr e ↦ away x (inr (sym same ∙ ap (λ (v : Wanted). v.place) (sym e))) of
+              | inl e ↦ away x (inl (sym same ∙ ap (λ (v : Intended). v.place) (sym e))) of
+              | inr e ↦ away x (inr (sym same ∙ ap (λ (v : Intended). v.place) (sym e))) of
             ]))) ok
         | inr never ↦ absurd never
       ];
     })
   where
-    one : Wanted
+    one : Intended
     one = record { place = p; unit = unit }
 
-    two : Wanted
+    two : Intended
     two = record { place = q; unit = unit }
 
-    writes : List Wanted
+    writes : List Intended
     writes = one ∷ two ∷ []
 
     differ : p ≡ q → ⊥
     differ e = apart (ap (λ (x : Place). x.drive) e)
 
-    none_in : (v : Wanted) → Contains {X = Wanted} [] v → ⊥
+    none_in : (v : Intended) → Contains {X = Intended} [] v → ⊥
     none_in v has = let low = has.1 in absurd (omega arith)
 
     first_is : held (after c writes) p ≡ over (held c p) unit
@@ -260,16 +260,16 @@ planned_pair groups c slot p q unit layout at sized apart some =
     only_unit (Some w) v e = same_Some unit v e
 
 -- one write of a list was made, or its drive is lost: the drives hold what the next prefix of the list leaves, but for losses
-pub fades_more : (c d e : Cells) (ws : List Wanted) (w : Wanted) (ok : Bool) → ((x : Place) → FadesAt (after c ws) d x) → DidWrite d e w.place w.unit ok
+pub fades_more : (c d e : Cells) (ws : List Intended) (w : Intended) (ok : Bool) → ((x : Place) → FadesAt (after c ws) d x) → DidWrite d e w.place w.unit ok
     → (x : Place) → FadesAt (after c (ws ++ w ∷ [])) e x
-fades_more c d e ws w ok stands did x = elim (place_or_not w.place x) [
+fades_more c d e ws w ok matches did x = elim (place_or_not w.place x) [
   | inl same ↦ subst (λ y. FadesAt (after c (ws ++ w ∷ [])) e y) same (subst (λ o. Fades o (held e w.place)) (sym (ap (λ (a : Cells). held a w.place) (after_last ws c w) ∙ write_here (after c ws) w))
-      (here (held (after c ws) w.place) (held d w.place) (held e w.place) ok (stands w.place) did.here did.was))
+      (here (held (after c ws) w.place) (held d w.place) (held e w.place) ok (matches w.place) did.here did.was))
   | inr apart ↦ subst (λ o. Fades o (held e x)) (sym (ap (λ (a : Cells). held a x) (after_last ws c w) ∙ write_else (after c ws) w x apart))
-      (fades_trans _ _ _ (stands x) (did.beside x (λ other. apart (sym other))))
+      (fades_trans _ _ _ (matches x) (did.nearby x (λ other. apart (sym other))))
 ]
   where
-    after_last : (ws : List Wanted) (c : Cells) (w : Wanted) → after c (ws ++ w ∷ []) ≡ with_unit (after c ws) w
+    after_last : (ws : List Intended) (c : Cells) (w : Intended) → after c (ws ++ w ∷ []) ≡ with_unit (after c ws) w
     after_last [] c w = refl
     after_last (v ∷ ws) c w = after_last ws (with_unit c v) w
 
@@ -283,10 +283,10 @@ fades_more c d e ws w ok stands did x = elim (place_or_not w.place x) [
 -- one copy alone, where the other's drive is lost
 pub planned_one : (groups : Groups) (c : Cells) (slot : ℕ) (p q x y : Place) (unit : List ℕ) → IsLayout groups → site_of groups slot ≡ Some (Pair p q) → AreSizedCells (unit_bytes groups) c
     → p.drive ≢ q.drive → ((x ≡ p) × (y ≡ q)) ⊎ ((x ≡ q) × (y ≡ p)) → (held c x ≡ None → ⊥) → held c y ≡ None
-    → IsPlanned groups c slot unit (λ z. unit) (record { place = x; unit = unit } ∷ [])
+    → IsWritePlan groups c slot unit (λ z. unit) (record { place = x; unit = unit } ∷ [])
 planned_one groups c slot p q x y unit layout at sized apart which there gone =
     planned_site groups c slot (Pair p q) unit (λ z. unit) writes layout at ((λ v has. absurd (none_in v has)), tt)
-    (λ w has. (subst (λ (v : Wanted). IsOwn (Pair p q) v.place) (among_one one w has) own, ap (λ (v : Wanted). v.unit) (sym (among_one one w has))))
+    (λ w has. (subst (λ (v : Intended). IsOwn (Pair p q) v.place) (among_one one w has) own, ap (λ (v : Intended). v.unit) (sym (among_one one w has))))
     (λ z mine. elim (same_two z mine) [
       | inl e ↦ subst (λ a. held (after c writes) a ≡ over (held c a) unit) (sym e) here
       | inr e ↦ subst (λ a. held (after c writes) a ≡ over (held c a) unit) (sym e) (away_is ∙ sym (ap (λ o. over o unit) gone))
@@ -294,19 +294,19 @@ planned_one groups c slot p q x y unit layout at sized apart which there gone =
     (both_sides which)
     (λ sound. record {
       sound = λ u v eu ev. sides_equal which u v eu ev;
-      others = λ t whole beside ok. elim beside [
+      others = λ t whole nearby ok. elim nearby [
         | inl off ↦ site_fades (unit_bytes groups) c (after c writes) t sized whole (λ z of. inl (write_else c one z (λ e. off z (subst (IsOwn (Pair p q)) e own) of))) ok
         | inr never ↦ absurd never
       ];
     })
   where
-    one : Wanted
+    one : Intended
     one = record { place = x; unit = unit }
 
-    writes : List Wanted
+    writes : List Intended
     writes = one ∷ []
 
-    none_in : (v : Wanted) → Contains {X = Wanted} [] v → ⊥
+    none_in : (v : Intended) → Contains {X = Intended} [] v → ⊥
     none_in v has = let low = has.1 in absurd (omega arith)
 
     own : IsOwn (Pair p q) x

@@ -3,7 +3,7 @@ use Rattle.std.proofs.Common.{◌≡◌, ℕ, zero, suc, ◌<◌, ◌≤◌, ◌
 use Rattle.std.specs.Prelude.{slice_get, unwrap_or, map, option_map, replicate}
 use Rattle.std.proofs.lemmas.List.{length-replicate}
 use Rattle.std.proofs.lemmas.Option.{slice_get-map}
-use Rattle.extents.specs.Owners.{owner_of, row_of, all_free}
+use Rattle.extents.specs.Owners.{owner_of, owner_row, all_free}
 use Rattle.extents.specs.declared.shape.Shape.{Shape}
 use Rattle.extent_groups.specs.declared.class.Member.{Member}
 use Rattle.extent_groups.specs.declared.table.Kept.{Kept}
@@ -57,7 +57,7 @@ free_owner drives extents d e = elim (or_none drives (replicate {A = Option ℕ}
 ]
 
 -- the rows of owners that are free throughout have one place an extent
-free_wide : (drives extents d : ℕ) → d < length (replicate drives (replicate {A = Option ℕ} extents None)) → length (row_of (all_free drives extents) d) ≡ extents
+free_wide : (drives extents d : ℕ) → d < length (replicate drives (replicate {A = Option ℕ} extents None)) → length (owner_row (all_free drives extents) d) ≡ extents
 free_wide drives extents d h =
     let within : d < drives = rw length-replicate at h in
     ap (λ o. length (unwrap_or o [])) (get-replicate drives (replicate {A = Option ℕ} extents None) d within) ∙ length-replicate {A = Option ℕ} extents None
@@ -66,6 +66,6 @@ free_wide drives extents d h =
 pub free_agree : (groups : Groups) (drives extents : ℕ) → ((g : ℕ) → group_at groups g ≡ None) → Agree groups (all_free drives extents)
 free_agree groups drives extents free = record {
   owned = λ g k m at. absurd (no_members groups g k m (free g) at);
-  stands = λ g d e owned. (let both : None ≡ Some g = sym (free_owner drives extents d e) ∙ owned in absurd cc);
+  matches = λ g d e owned. (let both : None ≡ Some g = sym (free_owner drives extents d e) ∙ owned in absurd cc);
   wide = λ d h. free_wide drives extents d h;
 }

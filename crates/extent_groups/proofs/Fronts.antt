@@ -4,11 +4,11 @@ use Rattle.std.specs.Prelude.{slice_get}
 use Rattle.std.proofs.lemmas.List.{take-replicate, take_all}
 use Rattle.std.proofs.lemmas.Option.{slice_get-map, slice_get-get_or, slice_get_within, same_Some, none-some}
 use Rattle.extents.specs.Failures.{Failures}
-use Rattle.extents.specs.Units.{IsSized, fronts}
+use Rattle.extents.specs.Units.{AreUnitsSized, fronts}
 use Rattle.extent_groups.specs.declared.place.Place.{Place}
 use Rattle.extent_groups.specs.Groups.{Groups}
 use Rattle.extent_groups.specs.Cells.{Cells, cell, cells, held, front, front_units}
-use Rattle.extent_groups.specs.Units.{Site, Pair, InStripe, plus, add, total, put, others, or_else, held_in, row_of, unit_at, unit_in, site_of}
+use Rattle.extent_groups.specs.Units.{Site, Pair, InStripe, plus, add, xor_total, put, others, or_else, held_in, row_of, unit_at, unit_in, site_of}
 use Rattle.extent_groups.specs.Calls.{AreSized, HaveFronts, HaveRoom, NoPlace, KeepsDrives}
 use Rattle.extent_groups.specs.Stores.{unit_bytes, unit_of, IsBuffer, AreDrives}
 use Rattle.extent_groups.proofs.Places.{same_or_not}
@@ -66,10 +66,10 @@ front_add n None b = refl
 front_add n (Some u) None = refl
 front_add n (Some u) (Some v) = ap (λ w. Some w) (sym (front_plus n u v))
 
-front_total : (n b m : ℕ) (r s : Row) → n ≤ b → ((k : ℕ) → s k ≡ front n (r k)) → total n m s ≡ front n (total b m r)
+front_total : (n b m : ℕ) (r s : Row) → n ≤ b → ((k : ℕ) → s k ≡ front n (r k)) → xor_total n m s ≡ front n (xor_total b m r)
 front_total n b zero r s h e = ap (λ u. Some u) (sym (take-replicate n b 0 h))
 front_total n b (suc m) r s h e =
-    ap (λ x. add x (total n m s)) (e m) ∙ ap (add (front n (r m))) (front_total n b m r s h e) ∙ front_add n (r m) (total b m r)
+    ap (λ x. add x (xor_total n m s)) (e m) ∙ ap (add (front n (r m))) (front_total n b m r s h e) ∙ front_add n (r m) (xor_total b m r)
 
 front_put : (n b i : ℕ) (r s : Row) → n ≤ b → ((k : ℕ) → s k ≡ front n (r k)) → (k : ℕ)
     → put s i (Some (replicate n 0)) k ≡ front n (put r i (Some (replicate b 0)) k)
@@ -149,8 +149,8 @@ keeps_fronts {D = D} {a = a} keeps have d y there at u is =
 
 -- a buffer for units of one length serves on all drives
 pub have_room : {D : Type 0} (units : D → List (List ℕ)) (bytes count scratch : ℕ) (ds : List D) → IsBuffer bytes count scratch → AreSized units bytes ds → HaveRoom units count scratch ds
-have_room units bytes count scratch ds (inl same) sized d x there = inl (subst (λ n. IsSized n (units x)) (sym same) (sized d x there))
-have_room units bytes count scratch ds (inr whole) sized d x there = inr (whole.0, subst (λ n. IsSized n (units x)) (sym whole.1) (sized d x there))
+have_room units bytes count scratch ds (inl same) sized d x there = inl (subst (λ n. AreUnitsSized n (units x)) (sym same) (sized d x there))
+have_room units bytes count scratch ds (inr whole) sized d x there = inr (whole.0, subst (λ n. AreUnitsSized n (units x)) (sym whole.1) (sized d x there))
 
 -- and it does after calls
 pub keeps_room : {D : Type 0} {units : D → List (List ℕ)} {lost : D → Bool} {failures : D → Failures} {touched : Place → Type 0} {a b : List D} {count scratch n m : ℕ}
@@ -159,8 +159,8 @@ keeps_room {D = D} {units = units} {a = a} {scratch = scratch} keeps short long 
     let within : d < length a = omega (arith, slice_get_within _ d y there, keeps.many) in
     let x : D = get_or a d y in
     let was = slice_get-get_or a d y within in
-    let sizes : (bytes : ℕ) → IsSized bytes (units x) → IsSized bytes (units y) = (keeps.each d x y was there).sizes in
+    let sizes : (bytes : ℕ) → AreUnitsSized bytes (units x) → AreUnitsSized bytes (units y) = (keeps.each d x y was there).sizes in
     elim (room d x was) [
-      | inl sized ↦ inl (subst (λ k. IsSized k (units y)) (sym long) (sizes scratch sized))
-      | inr whole ↦ inr (long ∙ whole.0, subst (λ k. IsSized k (units y)) (sym short) (sizes _ whole.1))
+      | inl sized ↦ inl (subst (λ k. AreUnitsSized k (units y)) (sym long) (sizes scratch sized))
+      | inr whole ↦ inr (long ∙ whole.0, subst (λ k. AreUnitsSized k (units y)) (sym short) (sizes _ whole.1))
     ]

@@ -14,7 +14,7 @@ use Rattle.extent_groups.specs.Geometry.{slot_count, copies_of, stripe_of, copy_
 use Rattle.extent_groups.specs.Groups.{Group, Groups, group_at, members_in, IsFormed, AreGroups}
 use Rattle.extent_groups.specs.declared.place.Place.{Place}
 use Rattle.extent_groups.specs.Units.{Site, place_of, place_at, site_in, site_of_index}
-use Rattle.extent_groups.specs.Layout.{IsOf, IsApart, AreBeside, IsWhole, IsLayout}
+use Rattle.extent_groups.specs.Layout.{IsOf, IsApart, AreNearby, IsDriveDisjoint, IsLayout}
 use Rattle.extent_groups.proofs.Places.{same_or_not}
 use Rattle.extent_groups.proofs.GeometryLaws.{copies_law, stripe_law}
 
@@ -104,7 +104,7 @@ same_place s m a o p e h k =
 
 -- two slots of one group
 in_group : (s : ℕ) (class : Class) (ms : List Member) (i j : ℕ) → IsFormed ms → i ≢ j → i < slot_count class (length ms) s → j < slot_count class (length ms) s
-    → IsApart (site_in s class ms i) (site_in s class ms j) ⊎ AreBeside (site_in s class ms i) (site_in s class ms j)
+    → IsApart (site_in s class ms i) (site_in s class ms j) ⊎ AreNearby (site_in s class ms i) (site_in s class ms j)
 unfolding Tie
 in_group s Mirrored ms i j formed ne hi hj =
     let two : 2 ≤ length ms = omega (arith, formed.enough) in
@@ -153,7 +153,7 @@ slot_of s (Some group) i a e =
     record { group = group; made = refl; below = is_below _ _ both.0; site = both.1 }
 
 -- the site of an index is whole
-whole_in : (s : ℕ) (class : Class) (ms : List Member) (i : ℕ) → IsFormed ms → i < slot_count class (length ms) s → IsWhole (site_in s class ms i)
+whole_in : (s : ℕ) (class : Class) (ms : List Member) (i : ℕ) → IsFormed ms → i < slot_count class (length ms) s → IsDriveDisjoint (site_in s class ms i)
 whole_in s Mirrored ms i formed h =
     let two : 2 ≤ length ms = omega (arith, formed.enough) in
     let law = copies_law (length ms) s i two h in
@@ -178,7 +178,7 @@ pub layout_law : (t : Groups) → AreGroups t → IsLayout t
 layout_law t are = record {
   whole = λ slot a e.
       (let x = slot_of t.segments (group_at t (slot / 128)) (slot % 128) a e in
-      subst IsWhole x.site (whole_in t.segments x.group.class x.group.members (slot % 128) (are.formed (slot / 128) x.group x.made) x.below));
+      subst IsDriveDisjoint x.site (whole_in t.segments x.group.class x.group.members (slot % 128) (are.formed (slot / 128) x.group x.made) x.below));
   apart = λ slot other a b ne e f.
       (let x = slot_of t.segments (group_at t (slot / 128)) (slot % 128) a e in
       let y = slot_of t.segments (group_at t (other / 128)) (other % 128) b f in
@@ -192,8 +192,8 @@ layout_law t are = record {
             ap (λ (z : Group). site_in t.segments z.class z.members (other % 128)) (sym eq) ∙ y.site in
             let apart : slot % 128 ≢ other % 128 = λ q. ne (omega (arith, q, same)) in
             let r = in_group t.segments x.group.class x.group.members (slot % 128) (other % 128) formed apart x.below below in
-            subst (λ z. IsApart z b ⊎ AreBeside z b) x.site
-            (subst (λ z. IsApart (site_in t.segments x.group.class x.group.members (slot % 128)) z ⊎ AreBeside (site_in t.segments x.group.class x.group.members (slot % 128)) z) site r))
+            subst (λ z. IsApart z b ⊎ AreNearby z b) x.site
+            (subst (λ z. IsApart (site_in t.segments x.group.class x.group.members (slot % 128)) z ⊎ AreNearby (site_in t.segments x.group.class x.group.members (slot % 128)) z) site r))
         | inr apart ↦ inl (λ p pa pb.
             (let two : 2 ≤ length x.group.members = omega (arith, formed.enough) in
             let others : 2 ≤ length y.group.members = omega (arith, (are.formed (other / 128) y.group y.made).enough) in

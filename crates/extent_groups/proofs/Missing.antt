@@ -6,9 +6,9 @@ use Rattle.extent_groups.specs.declared.class.Member.{Member}
 use Rattle.extent_groups.specs.declared.place.Place.{Place}
 use Rattle.extent_groups.specs.Groups.{Groups, group_at, members_in, members_of, AreGroups}
 use Rattle.extent_groups.specs.Cells.{Cells, cell, cells, held}
-use Rattle.extent_groups.specs.Units.{Site, Pair, InStripe, plus, add, total, put, others, or_else, held_in, row_of, unit_at, site_of}
+use Rattle.extent_groups.specs.Units.{Site, Pair, InStripe, plus, add, xor_total, put, others, or_else, held_in, row_of, unit_at, site_of}
 use Rattle.extent_groups.specs.Calls.{IsPlace}
-use Rattle.extent_groups.specs.Layout.{IsOf, IsWhole}
+use Rattle.extent_groups.specs.Layout.{IsOf, IsDriveDisjoint}
 use Rattle.extent_groups.specs.Stores.{unit_bytes, unit_of, AreDrives}
 use Rattle.extent_groups.specs.Missing.{is_missing, missing_of, IsGoneAt, IsGone, MissAtMostOne}
 use Rattle.extent_groups.proofs.Totals.{Row, put_same, put_other}
@@ -24,9 +24,9 @@ none_more m r (Some u) None ra later e = let is = later refl in (is.0, omega (ar
 none_more m r (Some u) (Some v) ra later e = absurd (none-some (plus u v) (sym e))
 
 -- an exclusive or that isn't there misses a member
-pub total_none : (n m : ℕ) (r : Row) → total n m r ≡ None → (k : ℕ) × (k < m) × (r k ≡ None)
+pub total_none : (n m : ℕ) (r : Row) → xor_total n m r ≡ None → (k : ℕ) × (k < m) × (r k ≡ None)
 total_none n zero r e = absurd (none-some (replicate n 0) (sym e))
-total_none n (suc m) r e = none_more m r (r m) (total n m r) refl (λ f. total_none n m r f) e
+total_none n (suc m) r e = none_more m r (r m) (xor_total n m r) refl (λ f. total_none n m r f) e
 
 pub neither : (a b : Option (List ℕ)) → or_else a b ≡ None → (a ≡ None) × (b ≡ None)
 neither None b e = (refl, e)
@@ -45,7 +45,7 @@ missing_if {D = D} units lost ds p is gone = at (slice_get ds p.drive) refl wher
   at (Some x) e = ap (is_missing lost) e ∙ none_is_lost units lost ds p x is e gone
 
 -- a site without an effective unit is lost
-gone_at : {D : Type 0} (units : D → List (List ℕ)) (lost : D → Bool) (ds : List D) (n : ℕ) (site : Site) → IsWhole site → ((x : Place) → IsOf site x → IsPlace units ds x)
+gone_at : {D : Type 0} (units : D → List (List ℕ)) (lost : D → Bool) (ds : List D) (n : ℕ) (site : Site) → IsDriveDisjoint site → ((x : Place) → IsOf site x → IsPlace units ds x)
     → unit_at n (cells units lost ds) site ≡ None → IsGoneAt (missing_of lost ds) site
 gone_at units lost ds n (Pair p q) whole place e =
     let both = neither (held (cells units lost ds) p) (held (cells units lost ds) q) e in
@@ -111,7 +111,7 @@ one_missing t missing slot site x y groups most at of also mx my =
     xa ∙ ap (λ (m : Member). m.drive) same ∙ sym yb
 
 -- no slot is lost then
-pub never_gone : (t : Groups) (missing : ℕ → Bool) (slot : ℕ) (site : Site) → AreGroups t → MissAtMostOne t missing → site_of t slot ≡ Some site → IsWhole site → IsGoneAt missing site → ⊥
+pub never_gone : (t : Groups) (missing : ℕ → Bool) (slot : ℕ) (site : Site) → AreGroups t → MissAtMostOne t missing → site_of t slot ≡ Some site → IsDriveDisjoint site → IsGoneAt missing site → ⊥
 never_gone t missing slot (Pair p q) groups most at whole gone =
     whole (one_missing t missing slot (Pair p q) p q groups most at (inl refl) (inr refl) gone.0 gone.1)
 never_gone t missing slot (InStripe row parity i) groups most at whole gone =

@@ -13,8 +13,8 @@ use Rattle.extent_groups.specs.Geometry.{slot_count, copies_of, stripe_of}
 use Rattle.extent_groups.specs.Groups.{Group, Groups, group_at, with_group, with_member, AreGroups, Agree}
 use Rattle.extent_groups.specs.Cells.{Cells, held}
 use Rattle.extent_groups.specs.Calls.{Fades, FadesAt}
-use Rattle.extent_groups.specs.Units.{Site, Pair, InStripe, total, others, or_else, held_in, row_of, unit_at, unit_in, site_in, site_of, site_of_index, place_of, places_of, place_at, IsSoundAt}
-use Rattle.extent_groups.specs.Layout.{IsOf, IsWhole}
+use Rattle.extent_groups.specs.Units.{Site, Pair, InStripe, xor_total, others, or_else, held_in, row_of, unit_at, unit_in, site_in, site_of, site_of_index, place_of, places_of, place_at, IsSoundAt}
+use Rattle.extent_groups.specs.Layout.{IsOf, IsDriveDisjoint}
 use Rattle.extent_groups.specs.Stores.{unit_bytes, unit_of, AreSound}
 use Rattle.extent_groups.specs.Moving.{member_unit, IsCopied}
 use Rattle.extent_groups.proofs.Places.{get-set_same, get-set_other, same_or_not}
@@ -47,7 +47,7 @@ swapped_in_row n s c new ms k o p i was to at sized sound low fades is =
     (λ w e. is w (sym (ap (held_in new) (get-set_same row k (place_of s o to) inside)) ∙ e)) in
     subst (λ r. Follows n c new (InStripe row p i) (InStripe r p i)) (sym same)
     (record {
-      sound = λ v e. both.0 v (ap (λ z. total n z (row_of new put_in)) (sym wide) ∙ e);
+      sound = λ v e. both.0 v (ap (λ z. xor_total n z (row_of new put_in)) (sym wide) ∙ e);
       unit = λ v e. both.1 i v low (ap (λ z. or_else (row_of new put_in i) (others n z (row_of new put_in) i)) (sym wide) ∙ e);
     })
 
@@ -83,7 +83,7 @@ at_other s ms k j o to ne =
 
 -- two copies, of which one may be the member's
 swapped_copies : (n s : ℕ) (c new : Cells) (ms : List Member) (k a oa b ob : ℕ) (was to : Member) → slice_get ms k ≡ Some was → a ≢ b → oa < 2 * s → ob < 2 * s
-    → AreSizedCells n c → IsWhole (Pair (place_at s ms a oa) (place_at s ms b ob)) → IsSoundAt n c (Pair (place_at s ms a oa) (place_at s ms b ob))
+    → AreSizedCells n c → IsDriveDisjoint (Pair (place_at s ms a oa) (place_at s ms b ob)) → IsSoundAt n c (Pair (place_at s ms a oa) (place_at s ms b ob))
     → ((x : Place) → IsOf (Pair (place_at s ms a oa) (place_at s ms b ob)) x → FadesAt c new x)
     → ((o : ℕ) (w : List ℕ) → o < 2 * s → IsOf (Pair (place_at s ms a oa) (place_at s ms b ob)) (place_of s o was) → held new (place_of s o to) ≡ Some w → unit_at n c (Pair (place_at s ms a oa) (place_at s ms b ob)) ≡ Some w)
     → Follows n c new (Pair (place_at s ms a oa) (place_at s ms b ob)) (Pair (place_at s (slice_set ms k to) a oa) (place_at s (slice_set ms k to) b ob))
@@ -118,7 +118,7 @@ swapped_copies n s c new ms k a oa b ob was to at apart la lb sized whole sound 
     ]
 
 swapped_site : (n s : ℕ) (class : Class) (ms : List Member) (i k : ℕ) (was to : Member) (c new : Cells) → slice_get ms k ≡ Some was → 2 ≤ length ms → i < slot_count class (length ms) s
-    → AreSizedCells n c → IsWhole (site_in s class ms i) → IsSoundAt n c (site_in s class ms i) → ((x : Place) → IsOf (site_in s class ms i) x → FadesAt c new x)
+    → AreSizedCells n c → IsDriveDisjoint (site_in s class ms i) → IsSoundAt n c (site_in s class ms i) → ((x : Place) → IsOf (site_in s class ms i) x → FadesAt c new x)
     → ((o : ℕ) (w : List ℕ) → o < 2 * s → IsOf (site_in s class ms i) (place_of s o was) → held new (place_of s o to) ≡ Some w → member_unit n c (site_in s class ms i) k ≡ Some w)
     → Follows n c new (site_in s class ms i) (site_in s class (slice_set ms k to) i)
 swapped_site n s Mirrored ms i k was to c new at two low sized whole sound fades is =
@@ -157,7 +157,7 @@ swap_keeps t o g k group was to c new are agree within made at free sized sound 
     let t' : Groups = with_group t g (Some (with_member group k to)) in
     let layout = layout_law t are in
     let fades : (slot : ℕ) (site : Site) → site_of t slot ≡ Some site → (x : Place) → IsOf site x → FadesAt c new x =
-    λ slot site there x of. is.beside x (λ hit. free_apart t o to hit.0 slot site are agree free hit.1 there (subst (IsOf site) hit.2 of)) in
+    λ slot site there x of. is.nearby x (λ hit. free_apart t o to hit.0 slot site are agree free hit.1 there (subst (IsOf site) hit.2 of)) in
     let each : (slot : ℕ) (after : Site) → site_of t' slot ≡ Some after → (before : Site) × (site_of t slot ≡ Some before) × Follows n c new before after =
     λ slot after there. elim (same_or_not (slot / 128) g) [
       | inr ne ↦

@@ -3,32 +3,32 @@ use Rattle.std.proofs.Common.{◌≡◌, ◌≢◌, ℕ, zero, suc, ◌<◌, inl
 use Rattle.std.specs.Prelude.{slice_get, slice_set, unwrap_or}
 use Rattle.std.proofs.lemmas.List.{length-set}
 use Rattle.std.proofs.lemmas.Option.{same_Some}
-use Rattle.extents.specs.Owners.{Owners, owner_of, with_owner, row_of, IsExtent}
+use Rattle.extents.specs.Owners.{Owners, owner_of, with_owner, owner_row, IsExtent}
 use Rattle.extent_groups.specs.declared.class.Member.{Member}
 use Rattle.extent_groups.specs.Groups.{AreWide, AreThere, with_owners}
 use Rattle.extent_groups.proofs.Places.{get-set_same, get-set_other, same_or_not}
 
 -- the row of the drive
-row_same : (o : Owners) (d e : ℕ) (w : Option ℕ) → d < length o.rows → row_of (with_owner o d e w) d ≡ slice_set (row_of o d) e w
+row_same : (o : Owners) (d e : ℕ) (w : Option ℕ) → d < length o.rows → owner_row (with_owner o d e w) d ≡ slice_set (owner_row o d) e w
 row_same o d e w h = ap (λ r. unwrap_or r []) (get-set_same o.rows d _ h)
 
 -- the row of another drive
-row_other : (o : Owners) (d e x : ℕ) (w : Option ℕ) → x ≢ d → row_of (with_owner o d e w) x ≡ row_of o x
+row_other : (o : Owners) (d e x : ℕ) (w : Option ℕ) → x ≢ d → owner_row (with_owner o d e w) x ≡ owner_row o x
 row_other o d e x w h = ap (λ r. unwrap_or r []) (get-set_other o.rows d x _ h)
 
 -- the extent has its new owner
 pub owner_same : (o : Owners) (d e : ℕ) (w : Option ℕ) → AreWide o → IsExtent o d e → owner_of (with_owner o d e w) d e ≡ w
 owner_same o d e w wide there =
-    let inside : e < length (row_of o d) = omega (arith, wide d there.within, there.inside) in
+    let inside : e < length (owner_row o d) = omega (arith, wide d there.within, there.inside) in
     ap (λ r. unwrap_or (slice_get r e) None) (row_same o d e w there.within)
-    ∙ ap (λ r. unwrap_or r None) (get-set_same (row_of o d) e w inside)
+    ∙ ap (λ r. unwrap_or r None) (get-set_same (owner_row o d) e w inside)
 
 -- another extent keeps its owner
 pub owner_other : (o : Owners) (d e x y : ℕ) (w : Option ℕ) → d < length o.rows → (x ≡ d → y ≡ e → ⊥) → owner_of (with_owner o d e w) x y ≡ owner_of o x y
 owner_other o d e x y w there h = elim (same_or_not x d) [
   | inl same ↦
-      (let beside : y ≢ e = λ q. h same q in
-      rw same (ap (λ r. unwrap_or (slice_get r y) None) (row_same o d e w there) ∙ ap (λ r. unwrap_or r None) (get-set_other (row_of o d) e y w beside)))
+      (let nearby : y ≢ e = λ q. h same q in
+      rw same (ap (λ r. unwrap_or (slice_get r y) None) (row_same o d e w there) ∙ ap (λ r. unwrap_or r None) (get-set_other (owner_row o d) e y w nearby)))
   | inr apart ↦ ap (λ r. unwrap_or (slice_get r y) None) (row_other o d e x w apart)
 ]
 
@@ -41,7 +41,7 @@ pub wide_stays : (o : Owners) (d e : ℕ) (w : Option ℕ) → AreWide o → d <
 wide_stays o d e w wide there x h =
     let within : x < length o.rows = rw length-set at h in
     elim (same_or_not x d) [
-      | inl same ↦ rw same (ap (λ r. length r) (row_same o d e w there) ∙ length-set (row_of o d) e w ∙ wide d there)
+      | inl same ↦ rw same (ap (λ r. length r) (row_same o d e w there) ∙ length-set (owner_row o d) e w ∙ wide d there)
       | inr apart ↦ ap (λ r. length r) (row_other o d e x w apart) ∙ wide x within
     ]
 

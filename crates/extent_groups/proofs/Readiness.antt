@@ -8,7 +8,7 @@ use Rattle.extents.specs.declared.mem_drive.Condition.TheVariants.{Present, Fuse
 use Rattle.extents.specs.Condition.{is_gone, after_fuse, after_loss}
 use Rattle.extents.specs.Owners.{Owners, with_owner}
 use Rattle.extents.specs.Sizes.{extent_units}
-use Rattle.extents.specs.Units.{IsSized, zero_units}
+use Rattle.extents.specs.Units.{AreUnitsSized, zero_units}
 use Rattle.extent_groups.specs.declared.class.Member.{Member}
 use Rattle.extent_groups.specs.declared.place.Place.{Place}
 use Rattle.extent_groups.specs.Groups.{Groups, AreGroups, Agree, with_owners}
@@ -16,7 +16,7 @@ use Rattle.extent_groups.specs.Cells.{cell, cells, held}
 use Rattle.extent_groups.specs.Units.{Site, site_of}
 use Rattle.extent_groups.specs.Calls.{AreSized}
 use Rattle.extent_groups.specs.Layout.{IsOf, IsLayout}
-use Rattle.extent_groups.specs.Stores.{unit_bytes, unit_of, AreSound, AreDrives, KeepsUnits, IsReady}
+use Rattle.extent_groups.specs.Stores.{unit_bytes, unit_of, AreSound, AreDrives, KeepsUnits, IsConsistent}
 use Rattle.extent_groups.proofs.Places.{get-set_same, get-set_other, same_or_not}
 use Rattle.extent_groups.proofs.Fresh.{or_none}
 use Rattle.extent_groups.proofs.Blank.{blank_site}
@@ -62,7 +62,7 @@ agree_drives t o ds agree rows wide many sized = record {
 
 -- drives of zeros are ready for the groups that agree with the owners, where both count the same drives and extents
 pub new_drives_ready : {D : Type 0} (units : D → List (List ℕ)) (lost : D → Bool) (t : Groups) (o : Owners) (ds : List D) → Agree t o → length o.rows ≡ length ds → o.extents ≡ t.extents
-    → ((d : ℕ) (x : D) → slice_get ds d ≡ Some x → units x ≡ zero_units (unit_bytes t) (t.extents * extent_units t.segments)) → IsReady units lost t ds
+    → ((d : ℕ) (x : D) → slice_get ds d ≡ Some x → units x ≡ zero_units (unit_bytes t) (t.extents * extent_units t.segments)) → IsConsistent units lost t ds
 new_drives_ready units lost t o ds agree rows wide zeros = record {
   drives_are = agree_drives t o ds agree rows wide
       (λ d x e. ap length (zeros d x e) ∙ length-replicate {A = List ℕ} (t.extents * extent_units t.segments) (replicate (unit_bytes t) 0))
@@ -85,7 +85,7 @@ drives_set {D = D} {units = units} t ds d x y are inside there same =
     ] in
     record {
       many = λ e z at. let w = was e z at in ap length w.2 ∙ are.many e w.0 w.1;
-      sized = λ e z at. let w = was e z at in subst (IsSized (unit_bytes t)) (sym w.2) (are.sized e w.0 w.1);
+      sized = λ e z at. let w = was e z at in subst (AreUnitsSized (unit_bytes t)) (sym w.2) (are.sized e w.0 w.1);
       there = λ g k m at. let r = are.there g k m at in (omega (arith, r.0, length-set ds d y), r.1);
     }
 
@@ -111,7 +111,7 @@ each_more P (z ∷ xs) y h p (suc d) x e = each_more P xs y (λ k w f. h (suc k)
 
 -- a drive more, with the array's sizes: the drives are those of the groups, every slot's unit is what it was, and all stays sound
 pub drive_more : {D : Type 0} (units : D → List (List ℕ)) (lost : D → Bool) (t : Groups) (ds : List D) (y : D) → AreGroups t → AreDrives units t ds
-    → length (units y) ≡ t.extents * extent_units t.segments → IsSized (unit_bytes t) (units y)
+    → length (units y) ≡ t.extents * extent_units t.segments → AreUnitsSized (unit_bytes t) (units y)
     → AreDrives units t (ds ++ y ∷ [])
     × ((slot : ℕ) → unit_of t (cells units lost (ds ++ y ∷ [])) slot ≡ unit_of t (cells units lost ds) slot)
     × (AreSound t (cells units lost ds) → AreSound t (cells units lost (ds ++ y ∷ [])))
@@ -121,7 +121,7 @@ drive_more units lost t ds y groups are many sized =
     λ slot site at x of. ap (λ o. cell units lost o x.address) (get-more ds y x.drive (site_places units t ds slot site groups are at x of).inside) in (
       record {
         many = each_more (λ x. length (units x) ≡ t.extents * extent_units t.segments) ds y are.many many;
-        sized = each_more (λ x. IsSized (unit_bytes t) (units x)) ds y are.sized sized;
+        sized = each_more (λ x. AreUnitsSized (unit_bytes t) (units x)) ds y are.sized sized;
         there = λ g k m at. let r = are.there g k m at in (omega (arith, r.0, longer), r.1);
       },
       λ slot. unit_same (unit_bytes t) (cells units lost ds) (cells units lost (ds ++ y ∷ [])) (site_of t slot) (λ site at. same slot site at),

@@ -49,9 +49,9 @@ copy_lies n m o h =
     ]
 
 -- a slot of which a unit lies at a place is the one that the place gives
-copy_told : (n s i m o : ℕ) → 2 ≤ n → i < slot_count Mirrored n s → LiesAt Mirrored n i m o → copy_index n (record { member = m; offset = o }) ≡ i
-copy_told n s i m o two low (inl e) = ap (copy_index n) (sym e) ∙ (copies_law n s i two low).first_back
-copy_told n s i m o two low (inr e) = ap (copy_index n) (sym e) ∙ (copies_law n s i two low).second_back
+copy_reported : (n s i m o : ℕ) → 2 ≤ n → i < slot_count Mirrored n s → LiesAt Mirrored n i m o → copy_index n (record { member = m; offset = o }) ≡ i
+copy_reported n s i m o two low (inl e) = ap (copy_index n) (sym e) ∙ (copies_law n s i two low).first_back
+copy_reported n s i m o two low (inr e) = ap (copy_index n) (sym e) ∙ (copies_law n s i two low).second_back
 
 pub mirrored_is : (n s m o : ℕ) → 2 ≤ n → m < n → IsRole Mirrored n s m o (mirrored_role n (slot_count Mirrored n s) m o)
 mirrored_is n s m o two h = by_test (nat_lt (copy_index n (record { member = m; offset = o })) (slot_count Mirrored n s)) refl where
@@ -63,7 +63,7 @@ mirrored_is n s m o two h = by_test (nat_lt (copy_index n (record { member = m; 
 
   by_test : (b : Bool) → nat_lt (copy_index n (record { member = m; offset = o })) (slot_count Mirrored n s) ≡ b → IsRole Mirrored n s m o (if b then Slot (copy_index n (record { member = m; offset = o })) else Unused)
   by_test true e = (below _ _ e, copy_lies n m o h)
-  by_test false e = λ i low lies. (let told = copy_told n s i m o two low lies in let far = past _ _ e in absurd (omega (arith, told, far, low)))
+  by_test false e = λ i low lies. (let reported = copy_reported n s i m o two low lies in let far = past _ _ e in absurd (omega (arith, reported, far, low)))
 
 -- the data member with this many others before it
 before_is : (n p m : ℕ) → m < n → p < n → m ≢ p → (data_member p (cond (nat_lt m p) m (m - 1)) ≡ m) × (cond (nat_lt m p) m (m - 1) < n - 1)

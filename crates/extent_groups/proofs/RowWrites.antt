@@ -2,10 +2,10 @@
 use Rattle.std.proofs.Common.{◌≡◌, ◌≢◌, ℕ, ◌<◌, ◌≤◌, Option, Some, None, List, length, refl, sym, ◌∙◌, ap, arith}
 use Rattle.std.specs.Prelude.{replicate}
 use Rattle.std.proofs.lemmas.Option.{none-some}
-use Rattle.extent_groups.specs.Units.{plus, add, total, put, others, or_else}
+use Rattle.extent_groups.specs.Units.{plus, add, xor_total, put, others, or_else}
 use Rattle.extent_groups.specs.Calls.{Fades}
 use Rattle.extent_groups.proofs.ExclusiveOr.{plus-comm, plus_difference, plus_twice}
-use Rattle.extent_groups.proofs.Totals.{Row, put_other, total_two, others_split, rest_of, rest_same, total_missing, others_missing, length-total, put_agrees}
+use Rattle.extent_groups.proofs.Totals.{Row, put_other, total_two, others_split, rest_of, rest_same, total_missing, others_missing, length-xor_total, put_agrees}
 use Rattle.extent_groups.proofs.Fading.{RowFades, IsSoundRow, effective, faded, fade_effective, fade_sound}
 
 -- what a write of member i, whose parity is member p, leaves of a row: the unit is its effective one, every other member's that exists afterwards is what it was, and a sound row is sound
@@ -30,10 +30,10 @@ difference d q u (Some r) h = ap (λ t. Some t) (plus_difference d q u r (h r re
 
 -- a row with a unit and its parity's difference has the total that it had
 total_replaced : (n m i p : ℕ) (r s : Row) (d q u : List ℕ) → i < m → p < m → p ≢ i → length u ≡ n → r i ≡ Some d → r p ≡ Some q → s i ≡ Some u → s p ≡ Some (plus (plus q d) u)
-    → ((k : ℕ) → k ≢ i → k ≢ p → r k ≡ s k) → total n m s ≡ total n m r
+    → ((k : ℕ) → k ≢ i → k ≢ p → r k ≡ s k) → xor_total n m s ≡ xor_total n m r
 total_replaced n m i p r s d q u hi hp ne size rd rq su sq same =
     let rest : rest_of n m s i p ≡ rest_of n m r i p = sym (rest_same n m i p r s (λ k _ ni np. same k ni np)) in
-    let short : (v : List ℕ) → rest_of n m r i p ≡ Some v → length v ≤ length u = λ v e. omega (arith, length-total n m _ v e, size) in
+    let short : (v : List ℕ) → rest_of n m r i p ≡ Some v → length v ≤ length u = λ v e. omega (arith, length-xor_total n m _ v e, size) in
     total_two n m i p s hi hp ne
     ∙ ap (λ a. add a (add (s p) (rest_of n m s i p))) su
     ∙ ap (λ a. add (Some u) (add a (rest_of n m s i p))) sq
@@ -75,7 +75,7 @@ data_alone n m i p r s u hi hp ne su sp fades = record {
 }
 
 -- members that are all there
-pub total_present : (n m : ℕ) (r : Row) (v : List ℕ) → total n m r ≡ Some v → (j : ℕ) → j < m → (r j ≡ None → ⊥)
+pub total_present : (n m : ℕ) (r : Row) (v : List ℕ) → xor_total n m r ≡ Some v → (j : ℕ) → j < m → (r j ≡ None → ⊥)
 total_present n m r v e j low gone = none-some v (sym (total_missing n m j r low gone) ∙ e)
 
 pub same_or_missing : (a : Option (List ℕ)) → (a ≡ None → ⊥) → (b c : Option (List ℕ)) → or_else a b ≡ or_else a c

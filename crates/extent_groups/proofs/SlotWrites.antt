@@ -6,7 +6,7 @@ use Rattle.extent_groups.specs.Groups.{Groups}
 use Rattle.extent_groups.specs.Cells.{Cells, held}
 use Rattle.extent_groups.specs.Units.{Site, Pair, InStripe, row_of, unit_at, unit_in, IsSoundAt, site_of}
 use Rattle.extent_groups.specs.Calls.{FadesAt, if_ok, DidWrite}
-use Rattle.extent_groups.specs.Layout.{IsOf, AreBeside, IsWhole, IsLayout}
+use Rattle.extent_groups.specs.Layout.{IsOf, AreNearby, IsDriveDisjoint, IsLayout}
 use Rattle.extent_groups.specs.Stores.{unit_bytes, unit_of, AreSound, KeepsUnits, KeepsOthers, KeepsAt, LeavesSites, IsOwn}
 use Rattle.extent_groups.proofs.Places.{same_or_not}
 use Rattle.extent_groups.proofs.Fading.{fades_trans, site_fades}
@@ -36,7 +36,7 @@ pub slots_fade : (groups : Groups) (c new : Cells) → IsLayout groups → AreSi
 slots_fade groups c new layout sized sound fades = slots_kept groups c new layout sized sound (λ slot t x at of. fades x)
 
 -- a site that all fades on leaves all sites
-pub fades_leave : (n : ℕ) (c new : Cells) (site : Site) → AreSizedCells n c → IsWhole site → IsSoundAt n c site → ((x : Place) → FadesAt c new x) → LeavesSites n c new site
+pub fades_leave : (n : ℕ) (c new : Cells) (site : Site) → AreSizedCells n c → IsDriveDisjoint site → IsSoundAt n c site → ((x : Place) → FadesAt c new x) → LeavesSites n c new site
 fades_leave n c new site sized whole sound fades = record {
   sound = (site_fades n c new site sized whole (λ x _. fades x) sound).sound;
   others = λ t is _ ok. site_fades n c new t sized is (λ x _. fades x) ok;
@@ -70,9 +70,9 @@ pub pair_leaves : (n : ℕ) (c one two : Cells) (p q : Place) (u : List ℕ) (a 
     → LeavesSites n c two (Pair p q)
 pair_leaves n c one two p q u a b drives sized first second = record {
   sound = λ v w ev ew. sym (ok_is a u v (sym (second.elsewhere p drives ∙ first.here) ∙ ev)) ∙ ok_is b u w (sym second.here ∙ ew);
-  others = λ t whole beside sound. elim beside [
+  others = λ t whole nearby sound. elim nearby [
     | inl apart ↦ site_fades n c two t sized whole
-        (λ x of. fades_trans (held c x) (held one x) (held two x) (first.beside x (λ e. apart x (inl e) of)) (second.beside x (λ e. apart x (inr e) of))) sound
+        (λ x of. fades_trans (held c x) (held one x) (held two x) (first.nearby x (λ e. apart x (inl e) of)) (second.nearby x (λ e. apart x (inr e) of))) sound
     | inr never ↦ absurd never
   ];
 }
@@ -82,21 +82,21 @@ own_is_of row p i x (inl e) = (i, e)
 own_is_of row p i x (inr e) = (p, e)
 
 -- the other members of a written row
-beside_kept : (n : ℕ) (c new : Cells) (row : List Place) (p i : ℕ) (u : List ℕ) → WritesRow n (length row) (row_of c row) (row_of new row) i p u → IsSoundAt n c (InStripe row p i)
-    → (t : Site) → IsWhole t → AreBeside (InStripe row p i) t → KeepsAt n c new t
-beside_kept n c new row p i u writes sound (Pair a b) whole never = absurd never
-beside_kept n c new row p i u writes sound (InStripe other wanders j) whole beside =
-    let low : j < length row = subst (λ r. j < length r) beside.0 whole.0 in
-    let ne : j ≢ p = λ e. whole.2 (e ∙ sym beside.1) in
-    subst (λ r. KeepsAt n c new (InStripe r wanders j)) (sym beside.0)
-    (record { unit = writes.others sound j low beside.2 ne; sound = writes.sound sound })
+nearby_kept : (n : ℕ) (c new : Cells) (row : List Place) (p i : ℕ) (u : List ℕ) → WritesRow n (length row) (row_of c row) (row_of new row) i p u → IsSoundAt n c (InStripe row p i)
+    → (t : Site) → IsDriveDisjoint t → AreNearby (InStripe row p i) t → KeepsAt n c new t
+nearby_kept n c new row p i u writes sound (Pair a b) whole never = absurd never
+nearby_kept n c new row p i u writes sound (InStripe other wanders j) whole nearby =
+    let low : j < length row = subst (λ r. j < length r) nearby.0 whole.0 in
+    let ne : j ≢ p = λ e. whole.2 (e ∙ sym nearby.1) in
+    subst (λ r. KeepsAt n c new (InStripe r wanders j)) (sym nearby.0)
+    (record { unit = writes.others sound j low nearby.2 ne; sound = writes.sound sound })
 
 pub stripe_leaves : (n : ℕ) (c new : Cells) (row : List Place) (p i : ℕ) (u : List ℕ) → AreSizedCells n c → WritesRow n (length row) (row_of c row) (row_of new row) i p u
     → IsSoundAt n c (InStripe row p i) → ((x : Place) → (IsOwn (InStripe row p i) x → ⊥) → FadesAt c new x) → LeavesSites n c new (InStripe row p i)
 stripe_leaves n c new row p i u sized writes sound fades = record {
   sound = writes.sound sound;
-  others = λ t whole beside ok. elim beside [
+  others = λ t whole nearby ok. elim nearby [
     | inl apart ↦ site_fades n c new t sized whole (λ x of. fades x (λ own. apart x (own_is_of row p i x own) of)) ok
-    | inr are ↦ beside_kept n c new row p i u writes sound t whole are
+    | inr are ↦ nearby_kept n c new row p i u writes sound t whole are
   ];
 }

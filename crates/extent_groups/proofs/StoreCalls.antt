@@ -7,8 +7,8 @@ use Rattle.extent_groups.specs.Groups.{Groups, AreGroups}
 use Rattle.extent_groups.specs.Cells.{Cells, cells}
 use Rattle.extent_groups.specs.Units.{Site, unit_at, site_of, IsSoundAt}
 use Rattle.extent_groups.specs.Calls.{AreSized, FadesAt, if_ok, NoPlace, KeepsDrives}
-use Rattle.extent_groups.specs.Layout.{IsWhole}
-use Rattle.extent_groups.specs.Stores.{unit_bytes, unit_of, AreSound, AreDrives, KeepsUnits, KeepsOthers, Wrote, LeavesSites}
+use Rattle.extent_groups.specs.Layout.{IsDriveDisjoint}
+use Rattle.extent_groups.specs.Stores.{unit_bytes, unit_of, AreSound, AreDrives, KeepsUnits, KeepsOthers, WroteSlot, LeavesSites}
 use Rattle.extent_groups.proofs.LayoutLaw.{layout_law}
 use Rattle.extent_groups.proofs.DriveCalls.{keeps_sizes, cells_sized}
 use Rattle.extent_groups.proofs.SlotWrites.{AreSizedCells, ok_is, slots_fade, slot_leaves, unit_at_site}
@@ -34,7 +34,7 @@ pub sized_cells : {D : Type 0} (units : D → List (List ℕ)) (lost : D → Boo
 sized_cells units lost t ds are = cells_sized units lost (unit_bytes t) ds are.sized
 
 -- every slot's site is whole and sound
-pub site_whole : (t : Groups) (slot : ℕ) (site : Site) → AreGroups t → site_of t slot ≡ Some site → IsWhole site
+pub site_whole : (t : Groups) (slot : ℕ) (site : Site) → AreGroups t → site_of t slot ≡ Some site → IsDriveDisjoint site
 site_whole t slot site are at = (layout_law t are).whole slot site at
 
 -- what a read leaves
@@ -62,7 +62,7 @@ sound_site t c slot site n at size sound = subst (λ m. IsSoundAt m c site) (sym
 pub site_wrote : {D : Type 0} (units : D → List (List ℕ)) (lost : D → Bool) (t : Groups) (slot : ℕ) (site : Site) (n : ℕ) (old new : List D) (unit : List ℕ) (ok : Bool)
     → AreGroups t → site_of t slot ≡ Some site → n ≡ unit_bytes t → unit_at n (cells units lost new) site ≡ if_ok ok unit
     → (IsSoundAt n (cells units lost old) site → LeavesSites n (cells units lost old) (cells units lost new) site)
-    → Wrote t (cells units lost old) (cells units lost new) slot unit
+    → WroteSlot t (cells units lost old) (cells units lost new) slot unit
 site_wrote units lost t slot site n old new unit ok are at size is leaves =
     let both : AreSound t (cells units lost old) → KeepsOthers t (cells units lost old) (cells units lost new) slot × AreSound t (cells units lost new) =
     λ sound. slot_leaves t (cells units lost old) (cells units lost new) slot site (layout_law t are) sound at

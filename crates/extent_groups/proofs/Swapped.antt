@@ -2,7 +2,7 @@
 use Rattle.std.proofs.Common.{◌≡◌, ◌≢◌, ℕ, ◌<◌, inl, inr, Option, Some, None, List, length, refl, sym, ◌∙◌, ap, subst}
 use Rattle.std.specs.Prelude.{replicate}
 use Rattle.std.proofs.lemmas.Option.{same_Some}
-use Rattle.extent_groups.specs.Units.{plus, add, total, put, others, or_else}
+use Rattle.extent_groups.specs.Units.{plus, add, xor_total, put, others, or_else}
 use Rattle.extent_groups.specs.Calls.{Fades}
 use Rattle.extent_groups.proofs.Places.{same_or_not}
 use Rattle.extent_groups.proofs.ExclusiveOr.{plus-self}
@@ -27,13 +27,13 @@ swapped_row n m k r s low sized sound fades is = at_k (r k) (s k) refl refl wher
   at_k (Some u) (Some w) ra sb = faded_row (inl (sb ∙ sym (sym (ap (λ x. or_else x (others n m r k)) ra) ∙ is w sb) ∙ sym ra))
   at_k None (Some w) ra sb =
       let blank : Option (List ℕ) = Some (replicate n 0) in
-      let told : others n m r k ≡ Some w = sym (ap (λ x. or_else x (others n m r k)) ra) ∙ is w sb in
-      let long : length w ≡ n = total_sized n m (put r k blank) (put_sized n k r sized) w told in
+      let reported : others n m r k ≡ Some w = sym (ap (λ x. or_else x (others n m r k)) ra) ∙ is w sb in
+      let long : length w ≡ n = total_sized n m (put r k blank) (put_sized n k r sized) w reported in
       let whole : Row = put r k (Some w) in
       let mine : whole k ≡ Some w = put_same r k (Some w) in
       let theirs : (j : ℕ) → j ≢ k → whole j ≡ r j = λ j ne. put_other r k j (Some w) ne in
-      let rest : others n m whole k ≡ Some w = total_same n m (put whole k blank) (put r k blank) (λ j _. put_agrees whole r k blank j (theirs j)) ∙ told in
-      let zero_sum : total n m whole ≡ Some (plus w w) = total_split n m k whole low ∙ ap (λ a. add a (others n m whole k)) mine ∙ ap (add (Some w)) rest in
+      let rest : others n m whole k ≡ Some w = total_same n m (put whole k blank) (put r k blank) (λ j _. put_agrees whole r k blank j (theirs j)) ∙ reported in
+      let zero_sum : xor_total n m whole ≡ Some (plus w w) = total_split n m k whole low ∙ ap (λ a. add a (others n m whole k)) mine ∙ ap (add (Some w)) rest in
       let sound' : IsSoundRow n m whole = λ v e. sym (same_Some (plus w w) v (sym zero_sum ∙ e)) ∙ plus-self w ∙ ap (λ l. replicate {A = ℕ} l 0) long in
       let sized' : (j : ℕ) (u : List ℕ) → whole j ≡ Some u → length u ≡ n =
       λ j u e. elim (same_or_not j k) [
@@ -51,7 +51,7 @@ swapped_row n m k r s low sized sound fades is = at_k (r k) (s k) refl refl wher
             let same : w ≡ v = same_Some w v (sym (ap (λ x. or_else x (others n m whole k)) mine) ∙ at) in
             ap (effective n m r) q ∙ is w sb ∙ ap (λ x. Some x) same)
         | inr ne ↦
-            (let there : r j ≡ None → ⊥ = λ gone. total_present n m (put r k blank) w told j below (put_other r k j blank ne ∙ gone) in
+            (let there : r j ≡ None → ⊥ = λ gone. total_present n m (put r k blank) w reported j below (put_other r k j blank ne ∙ gone) in
             same_or_missing (r j) there (others n m r j) (others n m whole j) ∙ ap (λ a. or_else a (others n m whole j)) (sym (theirs j ne)) ∙ e)
       ] in
       (fade_sound n m whole s sound' all, λ j v below e. back j v below (fade_effective n m j whole s below (sized' j) sound' all v e))

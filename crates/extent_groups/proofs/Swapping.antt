@@ -38,10 +38,10 @@ formed_swap ms k to formed away = record {
 pub kept_owner : (o : Owners) (was to m : Member) (g h : ℕ) → IsExtent o was.drive was.extent → IsExtent o to.drive to.extent → owner_of o m.drive m.extent ≡ Some h
     → owner_of o to.drive to.extent ≡ None → (m.drive ≡ was.drive → m.extent ≡ was.extent → ⊥)
     → owner_of (with_owner (with_owner o was.drive was.extent None) to.drive to.extent (Some g)) m.drive m.extent ≡ Some h
-kept_owner o was to m g h there here owned free beside =
+kept_owner o was to m g h there here owned free nearby =
     owner_other (with_owner o was.drive was.extent None) to.drive to.extent m.drive m.extent (Some g) (extent_stays o was.drive was.extent to.drive to.extent None here).within
     (owned_or_free o m to h owned free)
-    ∙ owner_other o was.drive was.extent m.drive m.extent None there.within beside
+    ∙ owner_other o was.drive was.extent m.drive m.extent None there.within nearby
     ∙ owned
 
 -- two extents are one or not
@@ -92,7 +92,7 @@ agree_swap t o g k group was to agree within made formed at_k here free =
                   (λ d x. ne (one_owner o m was h g had.1 (agree.owned g k was (mine k was at_k)).1 d x)),
             ))
       ];
-      stands = λ h x y owned. elim (one_or_two x y to) [
+      matches = λ h x y owned. elim (one_or_two x y to) [
         | inl both ↦
             (let to_owner = owner_same (with_owner o was.drive was.extent None) to.drive to.extent (Some g) wide to_there in
             let moved : owner_of (with_owner (with_owner o was.drive was.extent None) to.drive to.extent (Some g)) to.drive to.extent ≡ Some h =
@@ -113,14 +113,14 @@ agree_swap t o g k group was to agree within made formed at_k here free =
                   ∙ ap (λ d. owner_of (with_owner o was.drive was.extent None) d was.extent) (sym both.0)
                   ∙ ap (λ e. owner_of (with_owner o was.drive was.extent None) x e) (sym both.1) ∙ before in
                   absurd cc)
-              | inr beside ↦
-                  (let old = agree.stands h x y (sym (owner_other o was.drive was.extent x y None was_there.within beside) ∙ before) in
+              | inr nearby ↦
+                  (let old = agree.matches h x y (sym (owner_other o was.drive was.extent x y None was_there.within nearby) ∙ before) in
                   elim (same_or_not h g) [
                     | inl e ↦
                         (let had = subst (λ ms. slice_get ms old.0 ≡ Some (record { drive = x; extent = y })) (ap (members_of t) e ∙ ap members_in made) old.1 in
                         let other : old.0 ≢ k = λ q.
                         (let is : record { drive = x; extent = y } ≡ was = same_Some _ _ (sym had ∙ subst (λ n. slice_get group.members n ≡ Some was) (sym q) at_k) in
-                        beside (ap (λ (m : Member). m.drive) is) (ap (λ (m : Member). m.extent) is)) in (
+                        nearby (ap (λ (m : Member). m.drive) is) (ap (λ (m : Member). m.extent) is)) in (
                           old.0,
                           subst (λ ms. slice_get ms old.0 ≡ Some (record { drive = x; extent = y }))
                               (sym now ∙ ap (members_of (with_group t g (Some (with_member group k to)))) (sym e)) (get-set_other group.members k old.0 to other ∙ had),

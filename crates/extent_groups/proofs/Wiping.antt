@@ -48,7 +48,7 @@ wiped_more units lost failures s o m bytes old mid new has low before did keeps 
             (let less : p < o = omega (arith, below, ne) in
             let within : p < extent_units s = omega (arith, less, low) in
             let apart : place_of s p m ≢ place_of s o m = λ e. (let one = ap (λ (x : Place). x.address) e in ne (omega (arith, one))) in
-            elim (did.beside (place_of s p m) apart) [
+            elim (did.nearby (place_of s p m) apart) [
               | inl e ↦ e ∙ before.wiped p less
               | inr gone ↦
                   (let lost_now = missing_if units lost new (place_of s p m) (keeps_place keeps (keeps_place before.touched (has p within))) gone in

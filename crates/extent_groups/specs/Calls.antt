@@ -1,13 +1,13 @@
 -- One call of a drive, and what any number of them leaves: every unit that is still there is what it was or what was written.
 use Rattle.std.specs.Prelude.{◌≡◌, ◌≢◌, ℕ, ◌<◌, ◌⊎◌, Bool, true, Option, Some, None, List, length, slice_get, if◌then◌else◌}
-use Rattle.extents.specs.Failures.{Failures, Counts, StaysSteady}
-use Rattle.extents.specs.Units.{IsSized, HaveFront, HasRoom}
+use Rattle.extents.specs.Failures.{Failures, CountsFailure, StaysSteady}
+use Rattle.extents.specs.Units.{AreUnitsSized, HaveFront, HasUnitBuffer}
 use Rattle.extent_groups.specs.declared.place.Place.{Place}
 use Rattle.extent_groups.specs.Cells.{Cells, held}
 
 -- every unit of every drive has `bytes` bytes
 abbrev pub AreSized : {D : Type 0} → (D → List (List ℕ)) → ℕ → List D → Type 0
-AreSized {D} units bytes drives = (d : ℕ) (x : D) → slice_get drives d ≡ Some x → IsSized bytes (units x)
+AreSized {D} units bytes drives = (d : ℕ) (x : D) → slice_get drives d ≡ Some x → AreUnitsSized bytes (units x)
 
 -- every unit of every drive has at least `count` bytes
 abbrev pub HaveFronts : {D : Type 0} → (D → List (List ℕ)) → ℕ → List D → Type 0
@@ -15,7 +15,7 @@ HaveFronts {D} units count drives = (d : ℕ) (x : D) → slice_get drives d ≡
 
 -- the first bytes of a unit can be read with a buffer of this length, on every drive
 abbrev pub HaveRoom : {D : Type 0} → (D → List (List ℕ)) → (count scratch : ℕ) → List D → Type 0
-HaveRoom {D} units count scratch drives = (d : ℕ) (x : D) → slice_get drives d ≡ Some x → HasRoom count scratch (units x)
+HaveRoom {D} units count scratch drives = (d : ℕ) (x : D) → slice_get drives d ≡ Some x → HasUnitBuffer count scratch (units x)
 
 -- the place is one of the drives'
 pub record IsPlace {D : Type 0} (units : D → List (List ℕ)) (drives : List D) (p : Place) : Type 0 where
@@ -46,7 +46,7 @@ pub record DidRead (c new : Cells) (p : Place) (unit : List ℕ) (ok : Bool) : T
 pub record DidWrite (c new : Cells) (p : Place) (unit : List ℕ) (ok : Bool) : Type 0 where
   pub here : held new p ≡ if_ok ok unit
   pub was : ok ≡ true → held c p ≡ None → ⊥
-  pub beside : (x : Place) → x ≢ p → FadesAt c new x
+  pub nearby : (x : Place) → x ≢ p → FadesAt c new x
   pub elsewhere : (x : Place) → x.drive ≢ p.drive → held new x ≡ held c x
 
 -- no place
@@ -66,10 +66,10 @@ SameBut used old new = (d : ℕ) → (used d → ⊥) → slice_get new d ≡ sl
 -- them, and stays steady.
 pub record KeepsDrive {D : Type 0} (units : D → List (List ℕ)) (lost : D → Bool) (failures : D → Failures) (touched : ℕ → Type 0) (x y : D) : Type 0 where
   pub room : length (units y) ≡ length (units x)
-  pub sizes : (bytes : ℕ) → IsSized bytes (units x) → IsSized bytes (units y)
+  pub sizes : (bytes : ℕ) → AreUnitsSized bytes (units x) → AreUnitsSized bytes (units y)
   pub elsewhere : (at : ℕ) → (touched at → ⊥) → slice_get (units y) at ≡ slice_get (units x) at
   pub stays : lost x ≡ true → lost y ≡ true
-  pub count : Counts (lost x) (lost y) (failures x) (failures y)
+  pub count : CountsFailure (lost x) (lost y) (failures x) (failures y)
   pub steady : StaysSteady (lost x) (lost y) (failures x) (failures y)
 
 -- what calls leave of all drives

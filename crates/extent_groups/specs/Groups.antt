@@ -1,6 +1,6 @@
 -- The groups: which numbers are made, with which class and members, and what is true of every table of them.
 use Rattle.std.specs.Prelude.{Bool, ◌==◌, ◌&&◌, ◌≡◌, ℕ, ◌<◌, ◌≤◌, Option, Some, None, List, [], ◌∷◌, length, map, slice_get, slice_set, unwrap_or}
-use Rattle.extents.specs.Owners.{Owners, owner_of, with_owner, row_of, IsExtent}
+use Rattle.extents.specs.Owners.{Owners, owner_of, with_owner, owner_row, IsExtent}
 use Rattle.extent_groups.specs.declared.class.Class.{Class}
 use Rattle.extent_groups.specs.declared.class.Class.TheVariants.{Mirrored, Parity}
 use Rattle.extent_groups.specs.declared.class.Member.{Member}
@@ -75,7 +75,7 @@ pub record AreGroups (groups : Groups) : Type 0 where
 
 -- every row of the owners has the number of extents that the owners state
 abbrev pub AreWide : Owners → Type 0
-AreWide owners = (drive : ℕ) → drive < length owners.rows → length (row_of owners drive) ≡ owners.extents
+AreWide owners = (drive : ℕ) → drive < length owners.rows → length (owner_row owners drive) ≡ owners.extents
 
 -- a number of a group that is free
 pub record IsFree (groups : Groups) (g : ℕ) : Type 0 where
@@ -91,18 +91,18 @@ abbrev pub is_extent : ℕ → ℕ → Member → Bool
 is_extent drive extent m = (m.drive == drive) && (m.extent == extent)
 
 -- one of the members is this extent
-abbrev pub Stands : List Member → ℕ → ℕ → Type 0
-Stands members drive extent = (k : ℕ) × (slice_get members k ≡ Some (record { drive = drive; extent = extent }))
+abbrev pub HasMemberAt : List Member → ℕ → ℕ → Type 0
+HasMemberAt members drive extent = (k : ℕ) × (slice_get members k ≡ Some (record { drive = drive; extent = extent }))
 
 -- each extent of a drive's row that is owned is a member of its owner
-abbrev pub RowStands : Groups → List (Option ℕ) → ℕ → Type 0
-RowStands groups row drive = (extent g : ℕ) → slice_get row extent ≡ Some (Some g) → Stands (members_of groups g) drive extent
+abbrev pub RowMatches : Groups → List (Option ℕ) → ℕ → Type 0
+RowMatches groups row drive = (extent g : ℕ) → slice_get row extent ≡ Some (Some g) → HasMemberAt (members_of groups g) drive extent
 
 -- the groups and the owners agree: each extent of a group is there and owned by that group, and each owned extent is a member of
 -- its owner
 pub record Agree (groups : Groups) (owners : Owners) : Type 0 where
   pub owned : (g : ℕ) → AreOwned owners (members_of groups g) g
-  pub stands : (g drive extent : ℕ) → owner_of owners drive extent ≡ Some g → Stands (members_of groups g) drive extent
+  pub matches : (g drive extent : ℕ) → owner_of owners drive extent ≡ Some g → HasMemberAt (members_of groups g) drive extent
   pub wide : AreWide owners
 
 -- each of the members is an extent that is there

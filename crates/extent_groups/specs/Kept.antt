@@ -19,6 +19,6 @@ groups_in shape kept = record {
 }
 
 -- what is true of what is kept: the groups are well formed, and next to them is kept how many slots each parity group has
-pub record IsKept (shape : Shape) (kept : List (Option Kept)) (parity_slots : List ℕ) : Type 0 where
+pub record IsSoundTable (shape : Shape) (kept : List (Option Kept)) (parity_slots : List ℕ) : Type 0 where
   pub groups : AreGroups (groups_in shape kept)
   pub slots : parity_slots ≡ parity_slots_of (groups_in shape kept)

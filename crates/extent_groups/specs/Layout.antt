@@ -14,18 +14,18 @@ abbrev pub IsApart : Site → Site → Type 0
 IsApart a b = (x : Place) → IsOf a x → IsOf b x → ⊥
 
 -- two sites are different members of one row, with one parity
-abbrev pub AreBeside : Site → Site → Type 0
-AreBeside (InStripe row parity i) (InStripe other wanders j) = (other ≡ row) × (wanders ≡ parity) × (j ≢ i)
-AreBeside _ _ = ⊥
+abbrev pub AreNearby : Site → Site → Type 0
+AreNearby (InStripe row parity i) (InStripe other wanders j) = (other ≡ row) × (wanders ≡ parity) × (j ≢ i)
+AreNearby _ _ = ⊥
 
 -- a site lies on different drives: its two places do, or all of its row, in which it isn't the parity's member
-abbrev pub IsWhole : Site → Type 0
-IsWhole (Pair p q) = p.drive ≢ q.drive
-IsWhole (InStripe row parity i) =
+abbrev pub IsDriveDisjoint : Site → Type 0
+IsDriveDisjoint (Pair p q) = p.drive ≢ q.drive
+IsDriveDisjoint (InStripe row parity i) =
     (i < length row) × (parity < length row) × (i ≢ parity)
     × ((j k : ℕ) (x y : Place) → slice_get row j ≡ Some x → slice_get row k ≡ Some y → x.drive ≡ y.drive → j ≡ k)
 
 -- every slot's site is whole, and those of two slots have no place in common, or are different members of one row
 pub record IsLayout (groups : Groups) : Type 0 where
-  pub whole : (slot : ℕ) (a : Site) → site_of groups slot ≡ Some a → IsWhole a
-  pub apart : (slot other : ℕ) (a b : Site) → slot ≢ other → site_of groups slot ≡ Some a → site_of groups other ≡ Some b → IsApart a b ⊎ AreBeside a b
+  pub whole : (slot : ℕ) (a : Site) → site_of groups slot ≡ Some a → IsDriveDisjoint a
+  pub apart : (slot other : ℕ) (a b : Site) → slot ≢ other → site_of groups slot ≡ Some a → site_of groups other ≡ Some b → IsApart a b ⊎ AreNearby a b

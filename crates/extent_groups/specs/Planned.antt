@@ -5,10 +5,10 @@ use Rattle.extent_groups.specs.Groups.{Groups}
 use Rattle.extent_groups.specs.Cells.{Cells, held}
 use Rattle.extent_groups.specs.Calls.{FadesAt}
 use Rattle.extent_groups.specs.Units.{Site, Pair, InStripe, site_of}
-use Rattle.extent_groups.specs.Stores.{unit_bytes, IsOwnOf, Wrote}
+use Rattle.extent_groups.specs.Stores.{unit_bytes, IsOwnOf, WroteSlot}
 
 -- a unit for a place
-pub record Wanted : Type 0 where
+pub record Intended : Type 0 where
   pub place : Place
   pub unit : List ℕ
 
@@ -18,29 +18,29 @@ over None unit = None
 over (Some old) unit = Some unit
 
 -- what the drives hold after one write, and after a list of them in their order
-abbrev pub with_unit : Cells → Wanted → Cells
+abbrev pub with_unit : Cells → Intended → Cells
 with_unit c w drive at = if (drive == w.place.drive) && (at == w.place.address) then over (c drive at) w.unit else c drive at
 
-abbrev pub after : Cells → List Wanted → Cells
+abbrev pub after : Cells → List Intended → Cells
 after c [] = c
 after c (w ∷ ws) = after (with_unit c w) ws
 
 -- no place is written twice
-abbrev pub AreOnce : List Wanted → Type 0
+abbrev pub AreOnce : List Intended → Type 0
 AreOnce [] = Unit {0}
-AreOnce (w ∷ ws) = ((v : Wanted) → Contains ws v → v.place ≢ w.place) × AreOnce ws
+AreOnce (w ∷ ws) = ((v : Intended) → Contains ws v → v.place ≢ w.place) × AreOnce ws
 
 -- the writes that give a slot a unit: each of the slot's places that is there gets what is wanted for it, and no other place is
 -- written; all of them together write the slot
-pub record IsPlanned (groups : Groups) (c : Cells) (slot : ℕ) (unit : List ℕ) (wanted : Place → List ℕ) (writes : List Wanted) : Type 0 where
+pub record IsWritePlan (groups : Groups) (c : Cells) (slot : ℕ) (unit : List ℕ) (expected : Place → List ℕ) (writes : List Intended) : Type 0 where
   pub once : AreOnce writes
-  pub own : (w : Wanted) → Contains writes w → IsOwnOf groups slot w.place × (w.unit ≡ wanted w.place)
-  pub all : (x : Place) → IsOwnOf groups slot x → held (after c writes) x ≡ over (held c x) (wanted x)
-  pub wrote : Wrote groups c (after c writes) slot unit
+  pub own : (w : Intended) → Contains writes w → IsOwnOf groups slot w.place × (w.unit ≡ expected w.place)
+  pub all : (x : Place) → IsOwnOf groups slot x → held (after c writes) x ≡ over (held c x) (expected x)
+  pub wrote : WroteSlot groups c (after c writes) slot unit
 
 -- the slot's places that are there got what is wanted for them, and drives may have been lost
-pub record IsFinished (groups : Groups) (c new : Cells) (slot : ℕ) (wanted : Place → List ℕ) : Type 0 where
-  pub own : (x : Place) → IsOwnOf groups slot x → (held new x ≡ over (held c x) (wanted x)) ⊎ (held new x ≡ None)
+pub record IsFinished (groups : Groups) (c new : Cells) (slot : ℕ) (expected : Place → List ℕ) : Type 0 where
+  pub own : (x : Place) → IsOwnOf groups slot x → (held new x ≡ over (held c x) (expected x)) ⊎ (held new x ≡ None)
   pub others : (x : Place) → (IsOwnOf groups slot x → ⊥) → FadesAt c new x
 
 -- a place before others, if it is one
@@ -59,41 +59,41 @@ places_in None = []
 places_in (Some site) = own_places site
 
 -- a write before others, where its place holds a unit
-abbrev pub if_held : Option (List ℕ) → Wanted → List Wanted → List Wanted
+abbrev pub if_held : Option (List ℕ) → Intended → List Intended → List Intended
 if_held None w ws = ws
 if_held (Some old) w ws = w ∷ ws
 
 -- what is wanted of those of the places that hold a unit, in the order of the places
-abbrev pub present : Cells → (Place → List ℕ) → List Place → List Wanted
-present c wanted [] = []
-present c wanted (x ∷ xs) = if_held (held c x) (record { place = x; unit = wanted x }) (present c wanted xs)
+abbrev pub present : Cells → (Place → List ℕ) → List Place → List Intended
+present c expected [] = []
+present c expected (x ∷ xs) = if_held (held c x) (record { place = x; unit = expected x }) (present c expected xs)
 
 -- the writes are those of exactly the slot's places that hold a unit: the first copy before the second, the data before the
 -- parity
-abbrev pub IsListed : Groups → Cells → ℕ → (Place → List ℕ) → List Wanted → Type 0
-IsListed groups c slot wanted writes = writes ≡ present c wanted (places_in (site_of groups slot))
+abbrev pub IsListed : Groups → Cells → ℕ → (Place → List ℕ) → List Intended → Type 0
+IsListed groups c slot expected writes = writes ≡ present c expected (places_in (site_of groups slot))
 
 -- what is wanted of an optional place, where it holds a unit
-abbrev pub wanted_in : Cells → (Place → List ℕ) → Option Place → Option (List ℕ)
-wanted_in c wanted None = None
-wanted_in c wanted (Some x) = over (held c x) (wanted x)
+abbrev pub expected_in : Cells → (Place → List ℕ) → Option Place → Option (List ℕ)
+expected_in c expected None = None
+expected_in c expected (Some x) = over (held c x) (expected x)
 
 -- what is wanted of the parity's place, where the site has one and it holds a unit
-abbrev pub wanted_parity : Cells → (Place → List ℕ) → Option Site → Option (List ℕ)
-wanted_parity c wanted (Some (InStripe row parity i)) = wanted_in c wanted (slice_get row parity)
-wanted_parity c wanted _ = None
+abbrev pub expected_parity : Cells → (Place → List ℕ) → Option Site → Option (List ℕ)
+expected_parity c expected (Some (InStripe row parity i)) = expected_in c expected (slice_get row parity)
+expected_parity c expected _ = None
 
 -- the plan of a slot's unit: planned writes in their order, each of a unit's size
-pub record IsPlan (groups : Groups) (c : Cells) (slot : ℕ) (unit : List ℕ) (wanted : Place → List ℕ) (writes : List Wanted) : Type 0 where
-  pub sized : (x : Place) → length (wanted x) ≡ unit_bytes groups
-  pub planned : IsPlanned groups c slot unit wanted writes
-  pub listed : IsListed groups c slot wanted writes
+pub record IsPlan (groups : Groups) (c : Cells) (slot : ℕ) (unit : List ℕ) (expected : Place → List ℕ) (writes : List Intended) : Type 0 where
+  pub sized : (x : Place) → length (expected x) ≡ unit_bytes groups
+  pub planned : IsWritePlan groups c slot unit expected writes
+  pub listed : IsListed groups c slot expected writes
 
 -- a slot was written by a plan: worked out of what the drives held after reads, and carried out, but for losses
 pub record WroteByPlan (groups : Groups) (c new : Cells) (slot : ℕ) (unit : List ℕ) : Type 0 where
   pub mid : Cells
-  pub wanted : Place → List ℕ
-  pub writes : List Wanted
+  pub expected : Place → List ℕ
+  pub writes : List Intended
   pub read : (x : Place) → FadesAt c mid x
-  pub plan : IsPlan groups mid slot unit wanted writes
+  pub plan : IsPlan groups mid slot unit expected writes
   pub written : (x : Place) → FadesAt (after mid writes) new x

@@ -11,8 +11,8 @@ use Rattle.extent_groups.specs.declared.refusal.StoreRefusal.TheVariants.{Gone}
 use Rattle.extent_groups.specs.Groups.{Groups, AreGroups, group_at, class_in, slots_in, members_of}
 use Rattle.extent_groups.specs.Cells.{Cells, cells, front, held}
 use Rattle.extent_groups.specs.Calls.{AreSized, NoPlace, SameBut, KeepsDrives}
-use Rattle.extent_groups.specs.Units.{Site, Pair, InStripe, site_of, unit_at, effective_unit, IsSoundAt, IsSound}
-use Rattle.extent_groups.specs.Layout.{IsOf, IsApart, AreBeside, IsWhole}
+use Rattle.extent_groups.specs.Units.{Site, Pair, InStripe, site_of, unit_at, effective_unit, IsSoundAt, HasSoundSites}
+use Rattle.extent_groups.specs.Layout.{IsOf, IsApart, AreNearby, IsDriveDisjoint}
 
 -- bytes of a unit: its header and its payload
 abbrev pub unit_bytes : Groups → ℕ
@@ -36,7 +36,7 @@ AreHeaders groups c group count headers = (i : ℕ) → i < count → header_of 
 
 -- every slot of these groups is sound
 abbrev pub AreSound : Groups → Cells → Type 0
-AreSound groups c = IsSound (unit_bytes groups) groups c
+AreSound groups c = HasSoundSites (unit_bytes groups) groups c
 
 -- a slot of a made group of this class
 pub record IsSlotOf (class : Class) (groups : Groups) (slot : ℕ) : Type 0 where
@@ -50,7 +50,7 @@ pub record AreDrives {D : Type 0} (units : D → List (List ℕ)) (groups : Grou
   pub there : (g k : ℕ) (m : Member) → slice_get (members_of groups g) k ≡ Some m → (m.drive < length drives) × (m.extent < groups.extents)
 
 -- the stores may be called: the drives are those of the groups, and every slot is sound
-pub record IsReady {D : Type 0} (units : D → List (List ℕ)) (lost : D → Bool) (groups : Groups) (drives : List D) : Type 0 where
+pub record IsConsistent {D : Type 0} (units : D → List (List ℕ)) (lost : D → Bool) (groups : Groups) (drives : List D) : Type 0 where
   pub drives_are : AreDrives units groups drives
   pub sound : AreSound groups (cells units lost drives)
 
@@ -64,7 +64,7 @@ KeepsOthers groups c new slot = (other : ℕ) (unit : List ℕ) → other ≢ sl
 
 -- a write of a slot, however it ended: its effective unit, if it has one afterwards, is these bytes; where all slots were sound
 -- they are, and each other slot's effective unit that exists afterwards is what it was
-pub record Wrote (groups : Groups) (c new : Cells) (slot : ℕ) (bytes : List ℕ) : Type 0 where
+pub record WroteSlot (groups : Groups) (c new : Cells) (slot : ℕ) (bytes : List ℕ) : Type 0 where
   pub unit : (v : List ℕ) → unit_of groups new slot ≡ Some v → v ≡ bytes
   pub others : AreSound groups c → KeepsOthers groups c new slot
   pub sound : AreSound groups c → AreSound groups new
@@ -117,4 +117,4 @@ pub record KeepsAt (bytes : ℕ) (c new : Cells) (t : Site) : Type 0 where
 -- effective unit, if it has one afterwards, is what it was
 pub record LeavesSites (bytes : ℕ) (c new : Cells) (site : Site) : Type 0 where
   pub sound : IsSoundAt bytes new site
-  pub others : (t : Site) → IsWhole t → IsApart site t ⊎ AreBeside site t → IsSoundAt bytes c t → KeepsAt bytes c new t
+  pub others : (t : Site) → IsDriveDisjoint t → IsApart site t ⊎ AreNearby site t → IsSoundAt bytes c t → KeepsAt bytes c new t

@@ -25,9 +25,9 @@ add (Some u) (Some v) = Some (plus u v)
 add _ _ = None
 
 -- the exclusive or of the units of members 0 to m - 1, each of `bytes` bytes; none where one is missing
-abbrev pub total : ℕ → ℕ → (ℕ → Option (List ℕ)) → Option (List ℕ)
-total bytes zero row = Some (replicate bytes 0)
-total bytes (suc m) row = add (row m) (total bytes m row)
+abbrev pub xor_total : ℕ → ℕ → (ℕ → Option (List ℕ)) → Option (List ℕ)
+xor_total bytes zero row = Some (replicate bytes 0)
+xor_total bytes (suc m) row = add (row m) (xor_total bytes m row)
 
 -- a row with one member's unit put in the place of what it holds
 abbrev pub put : (ℕ → Option (List ℕ)) → ℕ → Option (List ℕ) → ℕ → Option (List ℕ)
@@ -35,7 +35,7 @@ put row i unit k = if k == i then unit else row k
 
 -- the exclusive or of the units of all members but one: that one counts as zeros
 abbrev pub others : ℕ → ℕ → (ℕ → Option (List ℕ)) → ℕ → Option (List ℕ)
-others bytes m row i = total bytes m (put row i (Some (replicate bytes 0)))
+others bytes m row i = xor_total bytes m (put row i (Some (replicate bytes 0)))
 
 -- the first of two that is there
 abbrev pub or_else : Option (List ℕ) → Option (List ℕ) → Option (List ℕ)
@@ -61,7 +61,7 @@ unit_at bytes c (InStripe places parity i) = or_else (row_of c places i) (others
 -- throughout, or a member is missing
 abbrev pub IsSoundAt : ℕ → Cells → Site → Type 0
 IsSoundAt bytes c (Pair p q) = (u v : List ℕ) → held c p ≡ Some u → held c q ≡ Some v → u ≡ v
-IsSoundAt bytes c (InStripe places parity i) = (v : List ℕ) → total bytes (length places) (row_of c places) ≡ Some v → v ≡ replicate bytes 0
+IsSoundAt bytes c (InStripe places parity i) = (v : List ℕ) → xor_total bytes (length places) (row_of c places) ≡ Some v → v ≡ replicate bytes 0
 
 -- the place of an offset of a member's extent
 abbrev pub place_of : ℕ → ℕ → Member → Place
@@ -103,5 +103,5 @@ abbrev pub effective_unit : ℕ → Groups → Cells → ℕ → Option (List �
 effective_unit bytes groups c slot = unit_in bytes c (site_of groups slot)
 
 -- the drives are sound: every slot's site is
-abbrev pub IsSound : ℕ → Groups → Cells → Type 0
-IsSound bytes groups c = (slot : ℕ) (site : Site) → site_of groups slot ≡ Some site → IsSoundAt bytes c site
+abbrev pub HasSoundSites : ℕ → Groups → Cells → Type 0
+HasSoundSites bytes groups c = (slot : ℕ) (site : Site) → site_of groups slot ≡ Some site → IsSoundAt bytes c site

@@ -13,8 +13,8 @@ abbrev pub HasExtent : {D : Type 0} → (D → List (List ℕ)) → ℕ → List
 HasExtent units segments drives member = (offset : ℕ) → offset < extent_units segments → IsPlace units drives (place_of segments offset member)
 
 -- the place is one of the extent's
-abbrev pub IsIn : ℕ → Member → Place → Type 0
-IsIn segments member x = (offset : ℕ) × (offset < extent_units segments) × (x ≡ place_of segments offset member)
+abbrev pub IsInExtent : ℕ → Member → Place → Type 0
+IsInExtent segments member x = (offset : ℕ) × (offset < extent_units segments) × (x ≡ place_of segments offset member)
 
 -- the extent's places below an offset hold these bytes
 abbrev pub HoldBelow : ℕ → Member → List ℕ → ℕ → Cells → Type 0
@@ -24,4 +24,4 @@ HoldBelow segments member bytes bound c = (offset : ℕ) → offset < bound → 
 pub record IsWipedTo {D : Type 0} (units : D → List (List ℕ)) (lost : D → Bool) (failures : D → Failures) (segments : ℕ) (member : Member) (bytes : List ℕ) (bound : ℕ) (old new : List D) : Type 0 where
   pub wiped : HoldBelow segments member bytes bound (cells units lost new)
   pub others : SameBut (λ d. d ≡ member.drive) old new
-  pub touched : KeepsDrives units lost failures (IsIn segments member) old new
+  pub touched : KeepsDrives units lost failures (IsInExtent segments member) old new

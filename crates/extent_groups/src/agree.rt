@@ -1,8 +1,8 @@
 // Whether groups and owners agree, for tables that come from outside.
 ghost use Rattle.std.specs.Prelude.{◌≡◌, ◌↔◌, IsTrue, ℕ, ◌<◌, Option, Some, List, length, slice_get};
 ghost use Rattle.std.specs.List.{list_any};
-ghost use Rattle.extents.specs.Owners.{IsExtent, owner_of, row_of};
-ghost use Rattle.extent_groups.specs.Groups.{members_of, AreOwned, Stands, RowStands, Agree, is_extent};
+ghost use Rattle.extents.specs.Owners.{IsExtent, owner_of, owner_row};
+ghost use Rattle.extent_groups.specs.Groups.{members_of, AreOwned, HasMemberAt, RowMatches, Agree, is_extent};
 
 use crate::{GROUPS, GroupTable, Member};
 use extents::ExtentTable;
@@ -30,7 +30,7 @@ fn are_owned(extents: &ExtentTable, members: &[Member], group: u16) -> bool
 }
 
 /// Whether one of the members is this extent.
-fn stands(members: &[Member], drive: usize, extent: usize) -> bool
+fn matches(members: &[Member], drive: usize, extent: usize) -> bool
     ensures { result ≡ list_any (is_extent drive extent) members.now }
 {
     members.iter().any(|member| member.drive as usize == drive && member.extent as usize == extent)
@@ -53,17 +53,17 @@ impl GroupTable {
     /// Whether the group that owns an extent of a drive's row, if one does, has it as a member.
     fn has_owned(&self, row: &[Option<u16>], drive: usize, extent: usize) -> bool
         requires { extent < length row.now }
-        ensures { IsTrue result ↔ ((g : ℕ) → slice_get row.now extent ≡ Some (Some g) → Stands (members_of self.now g) drive extent) }
+        ensures { IsTrue result ↔ ((g : ℕ) → slice_get row.now extent ≡ Some (Some g) → HasMemberAt (members_of self.now g) drive extent) }
     {
         match row[extent] {
             None => true,
-            Some(group) => stands(self.members(group), drive, extent),
+            Some(group) => matches(self.members(group), drive, extent),
         }
     }
 
     /// Whether each owned extent of a drive's row is a member of its owner.
     fn has_row(&self, row: &[Option<u16>], drive: usize) -> bool
-        ensures { IsTrue result ↔ RowStands self.now row.now drive }
+        ensures { IsTrue result ↔ RowMatches self.now row.now drive }
     {
         for extent in 0..row.len() {
             if !self.has_owned(row, drive, extent) {
@@ -75,7 +75,7 @@ impl GroupTable {
 
     /// Whether each owned extent is a member of its owner.
     fn has_what_is_owned(&self, extents: &ExtentTable) -> bool
-        ensures { IsTrue result ↔ ((drive : ℕ) → drive < length extents.now.rows → RowStands self.now (row_of extents.now drive) drive) }
+        ensures { IsTrue result ↔ ((drive : ℕ) → drive < length extents.now.rows → RowMatches self.now (owner_row extents.now drive) drive) }
     {
         for drive in 0..extents.drives() {
             if !self.has_row(extents.owners(drive), drive) {

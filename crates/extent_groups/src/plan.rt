@@ -4,7 +4,7 @@ ghost use Rattle.std.specs.Bool.{MatchBool};
 ghost use Rattle.extent_groups.specs.Cells.{cells, held};
 ghost use Rattle.extent_groups.specs.Calls.{IsPlace};
 ghost use Rattle.extent_groups.specs.Numbers.{plan_number};
-ghost use Rattle.extent_groups.specs.PlanLists.{as_wanted};
+ghost use Rattle.extent_groups.specs.PlanLists.{as_expected};
 
 use crate::place::Place;
 use extents::Drive;
@@ -41,7 +41,7 @@ impl PlanRefusal {
 
 /// A write of a place with a copy of the unit; refused where that allocation fails.
 pub fn write_of(alloc: Global, place: Place, unit: &[u8]) -> Result<(u8, u32, Vec<u8>), AllocError>
-    ensures { IfOk result (λ w. as_wanted w ≡ record { place = place; unit = unit.now }) }
+    ensures { IfOk result (λ w. as_expected w ≡ record { place = place; unit = unit.now }) }
 {
     Ok((place.drive, place.address, unit.to_vec(alloc)?))
 }

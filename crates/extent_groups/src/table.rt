@@ -36,11 +36,11 @@ impl Model for GroupTable {
 
     ghost Value = { Groups };
 
-    ghost use Rattle.extent_groups.specs.Kept.{IsKept, groups_in};
+    ghost use Rattle.extent_groups.specs.Kept.{IsSoundTable, groups_in};
 
     ghost view = { λ t. groups_in t.shape t.groups.items };
 
-    ghost invariant = { λ t. IsKept t.shape t.groups.items t.parity_slots.items };
+    ghost invariant = { λ t. IsSoundTable t.shape t.groups.items t.parity_slots.items };
 }
 
 /// `count` numbers that are free.

@@ -5,7 +5,7 @@ ghost use Rattle.extent_groups.specs.Cells.{cells};
 ghost use Rattle.extent_groups.specs.Calls.{AreSized, SameBut, KeepsDrives};
 ghost use Rattle.extent_groups.specs.Missing.{missing_of};
 ghost use Rattle.extent_groups.specs.Units.{place_of};
-ghost use Rattle.extent_groups.specs.Wiping.{HasExtent, IsIn, HoldBelow};
+ghost use Rattle.extent_groups.specs.Wiping.{HasExtent, IsInExtent, HoldBelow};
 
 use crate::{Member, Place, write_place};
 use extents::{Drive, Shape};
@@ -28,7 +28,7 @@ pub fn wipe_extent<D: Drive>(drives: &mut [D], shape: &Shape, member: Member, ze
     ensures wiped { IsTrue result → HoldBelow shape.now.segments member zeros.now (extent_units shape.now.segments) (cells D.units D.lost drives.new) }
     ensures lost { result ≡ false → missing_of D.lost drives.new member.drive ≡ true }
     ensures others { SameBut (λ d. d ≡ member.drive) drives.old drives.new }
-    ensures touched { KeepsDrives D.units D.lost D.failures (IsIn shape.now.segments member) drives.old drives.new }
+    ensures touched { KeepsDrives D.units D.lost D.failures (IsInExtent shape.now.segments member) drives.old drives.new }
 {
     for offset in 0..shape.extent_units() as u16 {
         if !write_place(drives, place_in(shape, member, offset), zeros) {

@@ -1,6 +1,6 @@
 -- How drives fare over several calls.
 use Rattle.std.proofs.Common.{◌≡◌, ◌+◌, Bool, true, false, refl, ◌∙◌, arith}
-use Rattle.extents.specs.Failures.{Failures, Counts, StaysSteady}
+use Rattle.extents.specs.Failures.{Failures, CountsFailure, StaysSteady}
 use Rattle.extents.specs.Units.{loss}
 
 loss_same : (b : Bool) → loss b b ≡ 0
@@ -18,14 +18,14 @@ loss_more false false true h k = refl
 loss_more false false false h k = refl
 
 -- where nothing happened
-pub counts_same : (b : Bool) (f : Failures) → Counts b b f f
+pub counts_same : (b : Bool) (f : Failures) → CountsFailure b b f f
 counts_same b f = omega (arith, loss_same b)
 
 pub steady_same : (b : Bool) (f : Failures) → StaysSteady b b f f
 steady_same b f h = (h, refl)
 
 -- one after another
-pub counts_more : (a b c : Bool) (f g h : Failures) → (a ≡ true → b ≡ true) → (b ≡ true → c ≡ true) → Counts a b f g → Counts b c g h → Counts a c f h
+pub counts_more : (a b c : Bool) (f g h : Failures) → (a ≡ true → b ≡ true) → (b ≡ true → c ≡ true) → CountsFailure a b f g → CountsFailure b c g h → CountsFailure a c f h
 counts_more a b c f g h stays still one two = omega (arith, one, two, loss_more a b c stays still)
 
 pub steady_more : (a b c : Bool) (f g h : Failures) → StaysSteady a b f g → StaysSteady b c g h → StaysSteady a c f h

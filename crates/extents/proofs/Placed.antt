@@ -5,8 +5,8 @@ use Rattle.std.specs.Prelude.{slice_get, slice_set, option_map}
 use Rattle.std.proofs.lemmas.List.{take-take, take-replicate, take-append-le, drop-append-le, length-map, map-set, length-replicate, get_or_append_left, get_or-set_same, get_or-set_other, length-set, set-get_or, length-append}
 use Rattle.std.proofs.lemmas.Option.{slice_get-map, slice_get-get_or, slice_get_within, same_Some}
 use Rattle.std.proofs.lemmas.Bool.{cases_eq}
-use Rattle.extents.specs.Units.{IsSized, HaveFront, fronts, units_in, zero_units}
-use Rattle.extents.specs.Thin.{unit_of, units_of, blanks, IsThin}
+use Rattle.extents.specs.Units.{AreUnitsSized, HaveFront, fronts, units_in, zero_units}
+use Rattle.extents.specs.Thin.{thin_unit, units_of, blanks, IsThin}
 use Rattle.extents.proofs.Fronts.{have_whole}
 use Rattle.extents.proofs.UnitsIn.{length-units_in, get-units_in, sized_units_in, units_in-written, unit_within}
 
@@ -54,7 +54,7 @@ abbrev IsIn : ℕ → ℕ → Type 0
 IsIn stored place = (number : ℕ) → place ≡ suc number → number < stored
 
 -- the unit of such a place has the size
-sized_unit : (size stored place : ℕ) (bytes : List ℕ) → length bytes ≡ stored * size → IsIn stored place → length (unit_of size (units_in size stored bytes) place) ≡ size
+sized_unit : (size stored place : ℕ) (bytes : List ℕ) → length bytes ≡ stored * size → IsIn stored place → length (thin_unit size (units_in size stored bytes) place) ≡ size
 sized_unit size stored zero bytes l h = length-replicate size 0
 sized_unit size stored (suc number) bytes l h =
     let inside : number < length (units_in size stored bytes) = subst (λ n. number < n) (sym (length-units_in size stored bytes)) (h number refl) in
@@ -110,41 +110,41 @@ thin_first size count capacity small room = record {
 
 module _ {size count stored capacity : ℕ} {bytes places : List ℕ} (thin : IsThin size count stored capacity bytes places) where
   -- one of them is the unit of its place
-  pub unit_at : (at : ℕ) → at < length places → slice_get (units_of size stored bytes places) at ≡ Some (unit_of size (units_in size stored bytes) (get_or places at 0))
+  pub unit_at : (at : ℕ) → at < length places → slice_get (units_of size stored bytes places) at ≡ Some (thin_unit size (units_in size stored bytes) (get_or places at 0))
   unit_at at h =
-      slice_get-map (unit_of size (units_in size stored bytes)) places at
-      ∙ ap (option_map (unit_of size (units_in size stored bytes))) (slice_get-get_or places at 0 h)
+      slice_get-map (thin_unit size (units_in size stored bytes)) places at
+      ∙ ap (option_map (thin_unit size (units_in size stored bytes))) (slice_get-get_or places at 0 h)
 
   -- what fits each unit has the drive's size, and the address is one of the drive's
-  pub fitting : (m at : ℕ) → at < length (units_of size stored bytes places) → IsSized m (units_of size stored bytes places) → (m ≡ size) × (at < length places)
+  pub fitting : (m at : ℕ) → at < length (units_of size stored bytes places) → AreUnitsSized m (units_of size stored bytes places) → (m ≡ size) × (at < length places)
   fitting m at h sized =
-      let inside : at < length places = omega (arith, h, length-map places (unit_of size (units_in size stored bytes))) in
+      let inside : at < length places = omega (arith, h, length-map places (thin_unit size (units_in size stored bytes))) in
       (sym (sized at _ (unit_at at inside)) ∙ sized_unit size stored (get_or places at 0) bytes thin.whole (thin.below at), inside)
 
   -- what the table of places says of a unit whose first bytes are asked for
   pub found_front : (units : List (List ℕ)) (n at place : ℕ) → units_of size stored bytes places ≡ units → at < length units → HaveFront n units → place ≡ get_or places at place
       → (n ≤ size) × (at < length places) × (get_or places at 0 ≡ place)
-  found_front units n at place told h have e =
-      let inside : at < length places = omega (arith, h, ap length told, length-map places (unit_of size (units_in size stored bytes))) in
-      let short : n ≤ length (unit_of size (units_in size stored bytes) (get_or places at 0)) = have at _ (subst (λ us. slice_get us at ≡ Some (unit_of size (units_in size stored bytes) (get_or places at 0))) told (unit_at at inside)) in (
+  found_front units n at place reported h have e =
+      let inside : at < length places = omega (arith, h, ap length reported, length-map places (thin_unit size (units_in size stored bytes))) in
+      let short : n ≤ length (thin_unit size (units_in size stored bytes) (get_or places at 0)) = have at _ (subst (λ us. slice_get us at ≡ Some (thin_unit size (units_in size stored bytes) (get_or places at 0))) reported (unit_at at inside)) in (
         subst (λ m. n ≤ m) (sized_unit size stored (get_or places at 0) bytes thin.whole (thin.below at)) short,
         inside,
         same_Some _ _ (sym (slice_get-get_or places at 0 inside) ∙ slice_get-get_or places at place inside) ∙ sym e,
       )
 
   -- what it says of a whole unit
-  pub found : (units : List (List ℕ)) (m at place : ℕ) → units_of size stored bytes places ≡ units → at < length units → IsSized m units → place ≡ get_or places at place
+  pub found : (units : List (List ℕ)) (m at place : ℕ) → units_of size stored bytes places ≡ units → at < length units → AreUnitsSized m units → place ≡ get_or places at place
       → (m ≡ size) × (at < length places) × (get_or places at 0 ≡ place)
-  found units m at place told h are e =
-      let fits = fitting m at (subst (λ us. at < length us) (sym told) h) (subst (IsSized m) (sym told) are) in
-      let front = found_front units m at place told h (have_whole m units are) e in
+  found units m at place reported h are e =
+      let fits = fitting m at (subst (λ us. at < length us) (sym reported) h) (subst (AreUnitsSized m) (sym reported) are) in
+      let front = found_front units m at place reported h (have_whole m units are) e in
       (fits.0, front.1, front.2)
 
   -- each has the size
-  pub sized : IsSized size (units_of size stored bytes places)
+  pub sized : AreUnitsSized size (units_of size stored bytes places)
   sized at unit there =
-      let inside : at < length places = omega (arith, slice_get_within (units_of size stored bytes places) at unit there, length-map places (unit_of size (units_in size stored bytes))) in
-      let same : unit ≡ unit_of size (units_in size stored bytes) (get_or places at 0) = same_Some _ _ (sym there ∙ unit_at at inside) in
+      let inside : at < length places = omega (arith, slice_get_within (units_of size stored bytes places) at unit there, length-map places (thin_unit size (units_in size stored bytes))) in
+      let same : unit ≡ thin_unit size (units_in size stored bytes) (get_or places at 0) = same_Some _ _ (sym there ∙ unit_at at inside) in
       ap length same ∙ sized_unit size stored (get_or places at 0) bytes thin.whole (thin.below at)
 
   -- the bytes of a kept unit lie within those of all
@@ -158,13 +158,13 @@ module _ {size count stored capacity : ℕ} {bytes places : List ℕ} (thin : Is
       let below = thin.below at number e in
       let inside : number < length (units_in size stored bytes) = subst (λ n. number < n) (sym (length-units_in size stored bytes)) below in
       unit_at at h
-      ∙ ap (λ place. Some (unit_of size (units_in size stored bytes) place)) e
+      ∙ ap (λ place. Some (thin_unit size (units_in size stored bytes) place)) e
       ∙ sym (slice_get-get_or (units_in size stored bytes) number [] inside)
       ∙ get-units_in size stored number (number * size) bytes below refl
 
   -- a unit that isn't kept is zeros
   pub blank_unit : (at : ℕ) → at < length places → get_or places at 0 ≡ 0 → slice_get (units_of size stored bytes places) at ≡ Some (replicate size 0)
-  blank_unit at h e = unit_at at h ∙ ap (λ place. Some (unit_of size (units_in size stored bytes) place)) e
+  blank_unit at h e = unit_at at h ∙ ap (λ place. Some (thin_unit size (units_in size stored bytes) place)) e
 
   -- the first bytes of a kept unit
   pub kept_front : (n at number : ℕ) → n ≤ size → at < length places → get_or places at 0 ≡ suc number
@@ -191,13 +191,13 @@ module _ {size count stored capacity : ℕ} {bytes places : List ℕ} (thin : Is
       let inside : number < length kept = subst (λ n. number < n) (sym (length-units_in size stored bytes)) below in
       let now : units_in size stored (take start bytes ++ (unit ++ drop (start + length unit) bytes)) ≡ set kept number unit =
       units_in-written size stored number start bytes unit below s (omega (arith, thin.whole)) l in
-      ap (λ k. map (unit_of size k) places) now
-      ∙ map_but_one (unit_of size kept) (unit_of size (set kept number unit)) places at unit h
-      (ap (unit_of size (set kept number unit)) e ∙ get_or-set_same kept number unit [] inside)
+      ap (λ k. map (thin_unit size k) places) now
+      ∙ map_but_one (thin_unit size kept) (thin_unit size (set kept number unit)) places at unit h
+      (ap (thin_unit size (set kept number unit)) e ∙ get_or-set_same kept number unit [] inside)
       (λ j within other. at_other j (get_or places j 0) refl other)
     where
       at_other : (j place : ℕ) → get_or places j 0 ≡ place → j ≢ at
-          → unit_of size (set (units_in size stored bytes) number unit) place ≡ unit_of size (units_in size stored bytes) place
+          → thin_unit size (set (units_in size stored bytes) number unit) place ≡ thin_unit size (units_in size stored bytes) place
       at_other j zero p other = refl
       at_other j (suc there) p other =
           get_or-set_other (units_in size stored bytes) number there unit []
@@ -206,9 +206,9 @@ module _ {size count stored capacity : ℕ} {bytes places : List ℕ} (thin : Is
   -- zeros written to a unit that isn't kept change nothing
   pub left_blank : (at : ℕ) → get_or places at 0 ≡ 0 → units_of size stored bytes places ≡ slice_set (units_of size stored bytes places) at (replicate size 0)
   left_blank at e =
-      sym (ap (λ p. set (units_of size stored bytes places) at (unit_of size (units_in size stored bytes) p)) (sym e)
-      ∙ sym (map-set (unit_of size (units_in size stored bytes)) places at (get_or places at 0))
-      ∙ ap (map (unit_of size (units_in size stored bytes))) (set-get_or places at 0))
+      sym (ap (λ p. set (units_of size stored bytes places) at (thin_unit size (units_in size stored bytes) p)) (sym e)
+      ∙ sym (map-set (thin_unit size (units_in size stored bytes)) places at (get_or places at 0))
+      ∙ ap (map (thin_unit size (units_in size stored bytes))) (set-get_or places at 0))
 
   -- a first write
   pub written_first : (at : ℕ) (unit : List ℕ) → at < length places → get_or places at 0 ≡ 0 → length unit ≡ size
@@ -218,13 +218,13 @@ module _ {size count stored capacity : ℕ} {bytes places : List ℕ} (thin : Is
       let now : units_in size (suc stored) (bytes ++ unit) ≡ kept ++ unit ∷ [] = units_in-more size stored bytes unit thin.whole l in
       let last : get_or (kept ++ unit ∷ []) stored [] ≡ unit =
       subst (λ n. get_or (kept ++ unit ∷ []) n [] ≡ unit) (length-units_in size stored bytes) (get_or-append_seam kept unit [] []) in
-      ap (λ k. map (unit_of size k) (set places at (suc stored))) now
-      ∙ map-set (unit_of size (kept ++ unit ∷ [])) places at (suc stored)
-      ∙ ap (λ u. set (map (unit_of size (kept ++ unit ∷ [])) places) at u) last
-      ∙ ap (λ us. set us at unit) (same_map (unit_of size kept) (unit_of size (kept ++ unit ∷ [])) places (λ j within. at_all (get_or places j 0) (thin.below j)))
+      ap (λ k. map (thin_unit size k) (set places at (suc stored))) now
+      ∙ map-set (thin_unit size (kept ++ unit ∷ [])) places at (suc stored)
+      ∙ ap (λ u. set (map (thin_unit size (kept ++ unit ∷ [])) places) at u) last
+      ∙ ap (λ us. set us at unit) (same_map (thin_unit size kept) (thin_unit size (kept ++ unit ∷ [])) places (λ j within. at_all (get_or places j 0) (thin.below j)))
     where
       at_all : (place : ℕ) → IsIn stored place
-          → unit_of size (units_in size stored bytes ++ unit ∷ []) place ≡ unit_of size (units_in size stored bytes) place
+          → thin_unit size (units_in size stored bytes ++ unit ∷ []) place ≡ thin_unit size (units_in size stored bytes) place
       at_all zero below = refl
       at_all (suc there) below =
           get_or_append_left (units_in size stored bytes) (unit ∷ []) [] there

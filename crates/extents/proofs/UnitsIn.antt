@@ -5,7 +5,7 @@ use Rattle.std.proofs.Math.Nat.{mul-le-mul_right}
 use Rattle.std.specs.Prelude.{slice_get, slice_set}
 use Rattle.std.proofs.lemmas.List.{drop-drop, take_at, drop_at, length-take-le, length-append}
 use Rattle.std.proofs.lemmas.Option.{slice_get_within, same_Some}
-use Rattle.extents.specs.Units.{IsSized, units_in}
+use Rattle.extents.specs.Units.{AreUnitsSized, units_in}
 
 -- there are `count` units
 pub length-units_in : (size count : ℕ) (bytes : List ℕ) → length (units_in size count bytes) ≡ count
@@ -38,21 +38,21 @@ written_later size start bytes unit room =
     rw (take-add size start bytes, append_assoc, drop-drop (start + length unit) size bytes, same)
 
 -- two pieces written one after the other are written at once
-pub written_behind : (start : ℕ) (bytes front rest : List ℕ) → start + (length front + length rest) ≤ length bytes
+pub written_following : (start : ℕ) (bytes front rest : List ℕ) → start + (length front + length rest) ≤ length bytes
     → take (start + length front) (take start bytes ++ (front ++ drop (start + length front) bytes)) ++ (rest ++ drop (start + length front + length rest) (take start bytes ++ (front ++ drop (start + length front) bytes)))
     ≡ take start bytes ++ ((front ++ rest) ++ drop (start + length (front ++ rest)) bytes)
-written_behind start bytes front rest room =
+written_following start bytes front rest room =
     let before = take start bytes ++ front in
-    let behind = drop (start + length front) bytes in
+    let following = drop (start + length front) bytes in
     let long : length before ≡ start + length front = omega (arith, length-append (take start bytes) front, length-take-le start bytes (omega arith)) in
-    let once : take start bytes ++ (front ++ behind) ≡ before ++ behind = sym (append_assoc (take start bytes) front behind) in
+    let once : take start bytes ++ (front ++ following) ≡ before ++ following = sym (append_assoc (take start bytes) front following) in
     let all : start + length front + length rest ≡ start + length (front ++ rest) = omega (arith, length-append front rest) in
-    let left : drop (start + length front + length rest) (before ++ behind) ≡ drop (start + length (front ++ rest)) bytes =
-    sym (drop-drop (length rest) (start + length front) (before ++ behind))
-    ∙ ap (drop (length rest)) (drop_at before behind (start + length front) long)
+    let left : drop (start + length front + length rest) (before ++ following) ≡ drop (start + length (front ++ rest)) bytes =
+    sym (drop-drop (length rest) (start + length front) (before ++ following))
+    ∙ ap (drop (length rest)) (drop_at before following (start + length front) long)
     ∙ drop-drop (length rest) (start + length front) bytes
     ∙ ap (λ n. drop n bytes) all in
-    rw (once, take_at before behind (start + length front) long, left, append_assoc, append_assoc) refl
+    rw (once, take_at before following (start + length front) long, left, append_assoc, append_assoc) refl
 
 -- a unit written over its run of bytes
 pub units_in-written : (size count at start : ℕ) (bytes unit : List ℕ) → at < count → start ≡ at * size → count * size ≤ length bytes → length unit ≡ size
@@ -76,23 +76,23 @@ pub unit_within : (size count at : ℕ) → at < count → at * size + size ≤ 
 unit_within size count at h = let below : suc at ≤ count = omega arith in omega (arith, mul-le-mul_right size below)
 
 -- what fits a unit of a drive has the drive's size
-pub unit_size : (m size count at : ℕ) (bytes : List ℕ) → IsSized m (units_in size count bytes) → at < count → count * size ≤ length bytes → m ≡ size
+pub unit_size : (m size count at : ℕ) (bytes : List ℕ) → AreUnitsSized m (units_in size count bytes) → at < count → count * size ≤ length bytes → m ≡ size
 unit_size m size count at bytes sized h room =
     let one = get-units_in size count at (at * size) bytes h refl in
     let left : size ≤ length (drop (at * size) bytes) = omega (arith, length-drop (at * size) bytes, unit_within size count at h) in
     sym (sized at _ one) ∙ length-take-le size (drop (at * size) bytes) left
 
 -- a drive's units, given by its bytes: what fits one of them has the drive's size, and the address is one of the drive's
-pub one_of : (units : List (List ℕ)) (m size count at : ℕ) (bytes : List ℕ) → units_in size count bytes ≡ units → length bytes ≡ count * size → at < length units → IsSized m units
+pub one_of : (units : List (List ℕ)) (m size count at : ℕ) (bytes : List ℕ) → units_in size count bytes ≡ units → length bytes ≡ count * size → at < length units → AreUnitsSized m units
     → (m ≡ size) × (at < count) × (at * size + m ≤ length bytes)
-one_of units m size count at bytes told room h sized =
-    let many : length units ≡ count = sym (ap length told) ∙ length-units_in size count bytes in
+one_of units m size count at bytes reported room h sized =
+    let many : length units ≡ count = sym (ap length reported) ∙ length-units_in size count bytes in
     let below : at < count = omega arith in
-    let same : m ≡ size = unit_size m size count at bytes (subst (IsSized m) (sym told) sized) below (omega arith) in
+    let same : m ≡ size = unit_size m size count at bytes (subst (AreUnitsSized m) (sym reported) sized) below (omega arith) in
     (same, below, omega (arith, unit_within size count at below))
 
 -- each unit of a drive has the drive's size
-pub sized_units_in : (size count : ℕ) (bytes : List ℕ) → count * size ≤ length bytes → IsSized size (units_in size count bytes)
+pub sized_units_in : (size count : ℕ) (bytes : List ℕ) → count * size ≤ length bytes → AreUnitsSized size (units_in size count bytes)
 sized_units_in size count bytes room at unit there =
     let below : at < count = subst (λ n. at < n) (length-units_in size count bytes) (slice_get_within (units_in size count bytes) at unit there) in
     let one = get-units_in size count at (at * size) bytes below refl in

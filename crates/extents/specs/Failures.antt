@@ -24,8 +24,8 @@ abbrev pub fused : Bool → Failures → Failures
 fused lost f = record f { steady = lost }
 
 -- one failure more where the drive is lost now and wasn't, and else not
-abbrev pub Counts : Bool → Bool → Failures → Failures → Type 0
-Counts was is before after = after.count ≡ before.count + loss was is
+abbrev pub CountsFailure : Bool → Bool → Failures → Failures → Type 0
+CountsFailure was is before after = after.count ≡ before.count + loss was is
 
 -- a steady drive stays steady, and isn't lost now if it wasn't
 abbrev pub StaysSteady : Bool → Bool → Failures → Failures → Type 0

@@ -2,7 +2,7 @@
 use Rattle.std.specs.Prelude.{◌≡◌, ℕ, ◌<◌, Option, Some, None, List, replicate}
 use Rattle.map_join.specs.declared.records.Record.{Record}
 use Rattle.map_join.specs.Record.{IsRecord}
-use Rattle.extents.specs.Stamp.{SpellsRecord, TellsKind, stamped_bytes}
+use Rattle.extents.specs.Stamp.{SpellsRecord, ReportsKind, stamped_bytes}
 use Rattle.extents.specs.declared.header.Kind.{Kind}
 use Rattle.extents.specs.declared.header.Kind.TheVariants.{Data}
 use Rattle.extents.specs.declared.header.Header.{Header}
@@ -13,12 +13,12 @@ use Rattle.extents.specs.declared.header.HeaderFault.TheVariants.{BadHeader}
 -- the bytes spell the header: 32 zeros for a blank one, else its record, and its kind in either layout
 abbrev pub Spells : List ℕ → Header → Type 0
 Spells bytes Blank = bytes ≡ replicate 32 0
-Spells bytes (Is r kind) = SpellsRecord bytes r × TellsKind bytes kind
+Spells bytes (Is r kind) = SpellsRecord bytes r × ReportsKind bytes kind
 
 -- a header that a commit may write: its version is at least 1
-abbrev pub IsWritten : Header → Type 0
-IsWritten Blank = Unit {0}
-IsWritten (Is r kind) = 0 < r.version
+abbrev pub IsCommittable : Header → Type 0
+IsCommittable Blank = Unit {0}
+IsCommittable (Is r kind) = 0 < r.version
 
 -- the 32 bytes of a header as it is written, in the second layout
 abbrev pub header_bytes : Header → List ℕ

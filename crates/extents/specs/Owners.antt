@@ -7,12 +7,12 @@ pub record Owners : Type 0 where
   pub rows : List (List (Option ℕ))
 
 -- the owners of one drive's extents, none where there is no such drive
-abbrev pub row_of : Owners → ℕ → List (Option ℕ)
-row_of owners drive = unwrap_or (slice_get owners.rows drive) []
+abbrev pub owner_row : Owners → ℕ → List (Option ℕ)
+owner_row owners drive = unwrap_or (slice_get owners.rows drive) []
 
 -- the group that owns an extent, none where it is free or isn't there
 abbrev pub owner_of : Owners → ℕ → ℕ → Option ℕ
-owner_of owners drive extent = unwrap_or (slice_get (row_of owners drive) extent) None
+owner_of owners drive extent = unwrap_or (slice_get (owner_row owners drive) extent) None
 
 -- there is such an extent
 pub record IsExtent (owners : Owners) (drive extent : ℕ) : Type 0 where
@@ -21,16 +21,16 @@ pub record IsExtent (owners : Owners) (drive extent : ℕ) : Type 0 where
 
 -- how many extents of a drive are in groups
 abbrev pub load_of : Owners → ℕ → ℕ
-load_of owners drive = count_by is_some (row_of owners drive)
+load_of owners drive = count_by is_some (owner_row owners drive)
 
 -- the lowest extent of a drive that no group owns
 abbrev pub lowest_free_of : Owners → ℕ → Option ℕ
-lowest_free_of owners drive = position is_none (row_of owners drive)
+lowest_free_of owners drive = position is_none (owner_row owners drive)
 
 -- the owners, with one extent given to another group or to none
 abbrev pub with_owner : Owners → ℕ → ℕ → Option ℕ → Owners
 with_owner owners drive extent owner =
-    record owners { rows = slice_set owners.rows drive (slice_set (row_of owners drive) extent owner) }
+    record owners { rows = slice_set owners.rows drive (slice_set (owner_row owners drive) extent owner) }
 
 -- the owners of `drives` drives of `extents` extents, none of which is owned
 abbrev pub all_free : ℕ → ℕ → Owners

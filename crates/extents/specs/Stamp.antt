@@ -2,7 +2,7 @@
 use Rattle.std.specs.Prelude.{◌≡◌, ◌⊎◌, ℕ, ◌<◌, List, [], ◌∷◌, ◌++◌, length, take, drop, replicate}
 use Rattle.byteorder.specs.Endian.{big_number}
 use Rattle.map_join.specs.declared.records.Record.{Record}
-use Rattle.map_join.specs.Record.{bytes_of}
+use Rattle.map_join.specs.Record.{record_bytes}
 use Rattle.extents.specs.declared.header.Kind.{Kind}
 use Rattle.extents.specs.declared.header.Kind.TheVariants.{Data, Trim}
 
@@ -28,17 +28,17 @@ pub record SpellsRecord (bytes : List ℕ) (r : Record) : Type 0 where
   pub written : 0 < r.version
 
 -- what lies around a record of a kind in the first layout: its mark, and sixteen zeros; each of its records is of data
-abbrev pub IsFirst : List ℕ → Kind → Type 0
-IsFirst bytes kind = (take 4 bytes ≡ first_mark) × (drop 16 bytes ≡ replicate 16 0) × (kind ≡ Data)
+abbrev pub IsFirstLayout : List ℕ → Kind → Type 0
+IsFirstLayout bytes kind = (take 4 bytes ≡ first_mark) × (drop 16 bytes ≡ replicate 16 0) × (kind ≡ Data)
 
 -- and in the second: its mark, the kind's byte, and fifteen zeros
-abbrev pub IsSecond : List ℕ → Kind → Type 0
-IsSecond bytes kind = (take 4 bytes ≡ second_mark) × (drop 16 bytes ≡ kind_byte kind ∷ replicate 15 0)
+abbrev pub IsSecondLayout : List ℕ → Kind → Type 0
+IsSecondLayout bytes kind = (take 4 bytes ≡ second_mark) × (drop 16 bytes ≡ kind_byte kind ∷ replicate 15 0)
 
 -- the bytes around the record are of one of the layouts
-abbrev pub TellsKind : List ℕ → Kind → Type 0
-TellsKind bytes kind = IsFirst bytes kind ⊎ IsSecond bytes kind
+abbrev pub ReportsKind : List ℕ → Kind → Type 0
+ReportsKind bytes kind = IsFirstLayout bytes kind ⊎ IsSecondLayout bytes kind
 
 -- the 32 bytes of the header of a record and its kind, in the second layout
 abbrev pub stamped_bytes : Record → Kind → List ℕ
-stamped_bytes r kind = second_mark ++ (bytes_of r ++ kind_byte kind ∷ replicate 15 0)
+stamped_bytes r kind = second_mark ++ (record_bytes r ++ kind_byte kind ∷ replicate 15 0)

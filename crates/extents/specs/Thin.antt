@@ -3,13 +3,13 @@ use Rattle.std.specs.Prelude.{◌≡◌, ◌≤◌, ◌<◌, ◌+◌, ◌*◌, �
 use Rattle.extents.specs.Units.{units_in}
 
 -- the unit of a place: zeros at 0, and else the kept unit that the place counts from 1
-abbrev pub unit_of : ℕ → List (List ℕ) → ℕ → List ℕ
-unit_of size kept zero = replicate size 0
-unit_of size kept (suc number) = slice_index_or kept number []
+abbrev pub thin_unit : ℕ → List (List ℕ) → ℕ → List ℕ
+thin_unit size kept zero = replicate size 0
+thin_unit size kept (suc number) = slice_index_or kept number []
 
 -- the units at these places, where `stored` units are kept in the bytes
 abbrev pub units_of : ℕ → ℕ → List ℕ → List ℕ → List (List ℕ)
-units_of size stored bytes places = map (unit_of size (units_in size stored bytes)) places
+units_of size stored bytes places = map (thin_unit size (units_in size stored bytes)) places
 
 -- how many of the places name no kept unit
 abbrev pub blanks : List ℕ → ℕ

@@ -2,16 +2,16 @@
 use Rattle.std.specs.Prelude.{◌≡◌, ◌≤◌, ◌⊎◌, ℕ, zero, suc, Bool, true, false, Some, List, [], ◌∷◌, length, map, take, drop, slice_get, replicate}
 
 -- every unit has `size` bytes
-abbrev pub IsSized : ℕ → List (List ℕ) → Type 0
-IsSized size units = (at : ℕ) (unit : List ℕ) → slice_get units at ≡ Some unit → length unit ≡ size
+abbrev pub AreUnitsSized : ℕ → List (List ℕ) → Type 0
+AreUnitsSized size units = (at : ℕ) (unit : List ℕ) → slice_get units at ≡ Some unit → length unit ≡ size
 
 -- every unit has at least `count` bytes
 abbrev pub HaveFront : ℕ → List (List ℕ) → Type 0
 HaveFront count units = (at : ℕ) (unit : List ℕ) → slice_get units at ≡ Some unit → count ≤ length unit
 
 -- a buffer with which the first bytes of a unit can be read: it has a unit's length, or it is empty and these bytes are all
-abbrev pub HasRoom : (front scratch : ℕ) → List (List ℕ) → Type 0
-HasRoom front scratch units = IsSized scratch units ⊎ ((scratch ≡ 0) × IsSized front units)
+abbrev pub HasUnitBuffer : (front scratch : ℕ) → List (List ℕ) → Type 0
+HasUnitBuffer front scratch units = AreUnitsSized scratch units ⊎ ((scratch ≡ 0) × AreUnitsSized front units)
 
 -- the first `count` bytes of each unit
 abbrev pub fronts : ℕ → List (List ℕ) → List (List ℕ)

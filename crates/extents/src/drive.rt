@@ -1,7 +1,7 @@
 // What a drive promises.
 ghost use Rattle.std.specs.Prelude.{◌≡◌, ℕ, ◌+◌, ◌<◌, Bool, true, List, length, slice_get, slice_set, Some, ◌++◌, OnOk, OnErr, is_err};
-ghost use Rattle.extents.specs.Failures.{Failures, Counts, StaysSteady};
-ghost use Rattle.extents.specs.Units.{IsSized, HaveFront, HasRoom, fronts};
+ghost use Rattle.extents.specs.Failures.{Failures, CountsFailure, StaysSteady};
+ghost use Rattle.extents.specs.Units.{AreUnitsSized, HaveFront, HasUnitBuffer, fronts};
 
 /// The drive is lost, and stays so.
 #[derive(Clone, Copy, Debug, PartialEq, Eq)]
@@ -24,7 +24,7 @@ pub trait Drive {
 
     /// Bytes of each of the drive's units.
     fn unit_bytes(&self) -> usize
-        ensures { IsSized result (units self.now) };
+        ensures { AreUnitsSized result (units self.now) };
 
     /// Whether the drive is lost.
     fn is_lost(&self) -> bool
@@ -33,12 +33,12 @@ pub trait Drive {
     /// Reads the unit at an address; refused where the drive is lost or fails now, and then it is lost.
     fn read_unit(&mut self, at: u32, unit: &mut [u8]) -> Result<(), DriveLost>
         requires at { at < length (units self.old) }
-        requires size { IsSized (length unit.old) (units self.old) }
+        requires size { AreUnitsSized (length unit.old) (units self.old) }
         ensures read { OnOk result (slice_get (units self.old) at ≡ Some unit.new) }
         ensures units { units self.new ≡ units self.old }
         ensures lost { lost self.new ≡ is_err result }
         ensures stays { lost self.old ≡ true → lost self.new ≡ true }
-        ensures count { Counts (lost self.old) (lost self.new) (failures self.old) (failures self.new) }
+        ensures count { CountsFailure (lost self.old) (lost self.new) (failures self.old) (failures self.new) }
         ensures steady { StaysSteady (lost self.old) (lost self.new) (failures self.old) (failures self.new) };
 
     /// Reads the first bytes of the unit at an address: `front.len()` of them, at most a unit's length. Counts as one read and
@@ -47,12 +47,12 @@ pub trait Drive {
     fn read_front(&mut self, at: u32, front: &mut [u8], scratch: &mut [u8]) -> Result<(), DriveLost>
         requires at { at < length (units self.old) }
         requires size { HaveFront (length front.old) (units self.old) }
-        requires scratch { HasRoom (length front.old) (length scratch.old) (units self.old) }
+        requires scratch { HasUnitBuffer (length front.old) (length scratch.old) (units self.old) }
         ensures read { OnOk result (slice_get (fronts (length front.old) (units self.old)) at ≡ Some front.new) }
         ensures units { units self.new ≡ units self.old }
         ensures lost { lost self.new ≡ is_err result }
         ensures stays { lost self.old ≡ true → lost self.new ≡ true }
-        ensures count { Counts (lost self.old) (lost self.new) (failures self.old) (failures self.new) }
+        ensures count { CountsFailure (lost self.old) (lost self.new) (failures self.old) (failures self.new) }
         ensures steady { StaysSteady (lost self.old) (lost self.new) (failures self.old) (failures self.new) }
     {
         if scratch.is_empty() {
@@ -67,12 +67,12 @@ pub trait Drive {
     /// Writes the unit at an address, whole or not at all; refused where the drive is lost or fails now, and then it is lost.
     fn write_unit(&mut self, at: u32, unit: &[u8]) -> Result<(), DriveLost>
         requires at { at < length (units self.old) }
-        requires size { IsSized (length unit.now) (units self.old) }
+        requires size { AreUnitsSized (length unit.now) (units self.old) }
         ensures written { OnOk result (units self.new ≡ slice_set (units self.old) at unit.now) }
         ensures unwritten { OnErr result (units self.new ≡ units self.old) }
         ensures lost { lost self.new ≡ is_err result }
         ensures stays { lost self.old ≡ true → lost self.new ≡ true }
-        ensures count { Counts (lost self.old) (lost self.new) (failures self.old) (failures self.new) }
+        ensures count { CountsFailure (lost self.old) (lost self.new) (failures self.old) (failures self.new) }
         ensures steady { StaysSteady (lost self.old) (lost self.new) (failures self.old) (failures self.new) };
 
     /// Writes the unit at an address, given as `front` and the bytes after it, `rest`, together of a unit's length; either may
@@ -86,13 +86,13 @@ pub trait Drive {
         scratch: &mut [u8],
     ) -> Result<(), DriveLost>
         requires at { at < length (units self.old) }
-        requires size { IsSized (length front.now + length rest.now) (units self.old) }
-        requires scratch { IsSized (length scratch.old) (units self.old) }
+        requires size { AreUnitsSized (length front.now + length rest.now) (units self.old) }
+        requires scratch { AreUnitsSized (length scratch.old) (units self.old) }
         ensures written { OnOk result (units self.new ≡ slice_set (units self.old) at (front.now ++ rest.now)) }
         ensures unwritten { OnErr result (units self.new ≡ units self.old) }
         ensures lost { lost self.new ≡ is_err result }
         ensures stays { lost self.old ≡ true → lost self.new ≡ true }
-        ensures count { Counts (lost self.old) (lost self.new) (failures self.old) (failures self.new) }
+        ensures count { CountsFailure (lost self.old) (lost self.new) (failures self.old) (failures self.new) }
         ensures steady { StaysSteady (lost self.old) (lost self.new) (failures self.old) (failures self.new) }
     {
         join(scratch, front, rest);
@@ -105,7 +105,7 @@ pub trait Drive {
         ensures units { units self.new ≡ units self.old }
         ensures lost { lost self.new ≡ is_err result }
         ensures stays { lost self.old ≡ true → lost self.new ≡ true }
-        ensures count { Counts (lost self.old) (lost self.new) (failures self.old) (failures self.new) }
+        ensures count { CountsFailure (lost self.old) (lost self.new) (failures self.old) (failures self.new) }
         ensures steady { StaysSteady (lost self.old) (lost self.new) (failures self.old) (failures self.new) }
     {
         if self.is_lost() {

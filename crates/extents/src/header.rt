@@ -5,7 +5,7 @@
 ghost use Rattle.std.specs.Prelude.{◌≡◌, ◌-◌, ◌≤◌, ◌<◌, ◌↔◌, ◌⊎◌, IsTrue, IfOk, Some, length, take, drop, replicate};
 ghost use Rattle.extents.specs.declared.shape.TheConstants.{HEADER_BYTES};
 ghost use Rattle.extents.specs.declared.header.Kind.TheVariants as kind;
-ghost use Rattle.extents.specs.Stamp.{first_mark, second_mark, kind_byte, stamped_bytes, SpellsRecord, TellsKind};
+ghost use Rattle.extents.specs.Stamp.{first_mark, second_mark, kind_byte, stamped_bytes, SpellsRecord, ReportsKind};
 
 use map_join::Record;
 
@@ -108,15 +108,15 @@ fn have_mark(bytes: &[u8; 32]) -> bool
 
 /// Whether the bytes around the record are those of a trim: layout 2's mark, the byte 1, and fifteen zeros.
 fn are_trim(bytes: &[u8; 32]) -> bool
-    ensures { IsTrue result ↔ TellsKind bytes.now kind.Trim }
+    ensures { IsTrue result ↔ ReportsKind bytes.now kind.Trim }
 {
     bytes[KIND_AT] == 1 && begin_with(bytes, &SECOND_MARK) && end_in_zeros(bytes, REST_AT)
 }
 
 /// The kind that a header's mark and its bytes 16 to 31 spell; none where they are of neither layout. Sixteen zeros are
 /// tested first: one vector's comparison settles all headers of data.
-fn told_kind(bytes: &[u8; 32]) -> Option<Kind>
-    ensures { (kind : Kind) → (result ≡ Some kind) ↔ TellsKind bytes.now kind }
+fn reported_kind(bytes: &[u8; 32]) -> Option<Kind>
+    ensures { (kind : Kind) → (result ≡ Some kind) ↔ ReportsKind bytes.now kind }
 {
     if end_in_zeros(bytes, KIND_AT) {
         return if have_mark(bytes) {
@@ -135,7 +135,7 @@ fn told_kind(bytes: &[u8; 32]) -> Option<Kind>
 /// The header of a record and its kind.
 fn stamped(stamp: &Record, kind: Kind) -> [u8; 32]
     ensures bytes { result ≡ stamped_bytes stamp.now kind }
-    ensures spelled { 0 < stamp.now.version → SpellsRecord result stamp.now × TellsKind result kind }
+    ensures spelled { 0 < stamp.now.version → SpellsRecord result stamp.now × ReportsKind result kind }
 {
     let mut bytes = ZEROS;
     bytes[KIND_AT] = kind.byte();
@@ -145,7 +145,7 @@ fn stamped(stamp: &Record, kind: Kind) -> [u8; 32]
 }
 
 impl Header {
-    ghost use Rattle.extents.specs.Header.{Spells, header_bytes, IsWritten, record_in, kind_in};
+    ghost use Rattle.extents.specs.Header.{Spells, header_bytes, IsCommittable, record_in, kind_in};
 
     /// The record that the unit was committed with, if any.
     pub fn record(&self) -> Option<Record>
@@ -181,7 +181,7 @@ impl Header {
     /// The 32 bytes of the header, in layout 2.
     pub fn encode(&self) -> [u8; 32]
         ensures bytes { result ≡ header_bytes self.now }
-        ensures spelled { IsWritten self.now → Spells result self.now }
+        ensures spelled { IsCommittable self.now → Spells result self.now }
     {
         match self {
             Header::Blank => ZEROS,
@@ -199,7 +199,7 @@ impl Header {
         if is_blank(bytes) {
             return Ok(Header::Blank);
         }
-        let Some(kind) = told_kind(bytes) else {
+        let Some(kind) = reported_kind(bytes) else {
             return Err(HeaderFault::BadHeader);
         };
         match Record::of_bytes(&bytes[RECORD_AT..KIND_AT]) {

@@ -1,8 +1,8 @@
 // A drive in memory, which can be lost from outside or by a fuse.
 ghost use Rattle.std.specs.Prelude.{◌≡◌, ℕ, ◌+◌, ◌*◌, ◌-◌, ◌≤◌, ◌<◌, not, true, List, length};
 ghost use Rattle.std.specs.Prelude.{slice_get, slice_set, Some, take, drop, ◌++◌, IfOk, OnOk, OnErr, is_err, vec_len};
-ghost use Rattle.extents.specs.Failures.{Counts, StaysSteady};
-ghost use Rattle.extents.specs.Units.{IsSized, HaveFront, HasRoom, fronts, zero_units};
+ghost use Rattle.extents.specs.Failures.{CountsFailure, StaysSteady};
+ghost use Rattle.extents.specs.Units.{AreUnitsSized, HaveFront, HasUnitBuffer, fronts, zero_units};
 ghost use Rattle.extents.specs.Condition.{is_gone, failures_of, after_call};
 ghost use Rattle.extents.specs.declared.shape.TheConstants.{HEADER_BYTES};
 
@@ -110,7 +110,7 @@ impl MemDrive {
     #[inline(always)]
     fn answer_write(&mut self, at: u32, front: &[u8], rest: &[u8]) -> Result<(), DriveLost>
         requires at { at < length self.old.units }
-        requires size { IsSized (length front.now + length rest.now) self.old.units }
+        requires size { AreUnitsSized (length front.now + length rest.now) self.old.units }
         ensures written { OnOk result (self.new.units ≡ slice_set self.old.units at (front.now ++ rest.now)) }
         ensures unwritten { OnErr result (self.new.units ≡ self.old.units) }
         ensures lost { is_gone self.new.condition ≡ is_err result }
@@ -145,12 +145,12 @@ impl Drive for MemDrive {
 
     fn read_unit(&mut self, at: u32, unit: &mut [u8]) -> Result<(), DriveLost>
         requires at { at < length self.old.units }
-        requires size { IsSized (length unit.old) self.old.units }
+        requires size { AreUnitsSized (length unit.old) self.old.units }
         ensures read { OnOk result (slice_get self.old.units at ≡ Some unit.new) }
         ensures units { self.new.units ≡ self.old.units }
         ensures lost { is_gone self.new.condition ≡ is_err result }
         ensures stays { is_gone self.old.condition ≡ true → is_gone self.new.condition ≡ true }
-        ensures count { Counts (is_gone self.old.condition) (is_gone self.new.condition) (failures_of self.old.condition) (failures_of self.new.condition) }
+        ensures count { CountsFailure (is_gone self.old.condition) (is_gone self.new.condition) (failures_of self.old.condition) (failures_of self.new.condition) }
         ensures steady { StaysSteady (is_gone self.old.condition) (is_gone self.new.condition) (failures_of self.old.condition)
             (failures_of self.new.condition) }
         ensures condition { self.new.condition ≡ after_call self.old.condition }
@@ -166,12 +166,12 @@ impl Drive for MemDrive {
     ) -> Result<(), DriveLost>
         requires at { at < length self.old.units }
         requires size { HaveFront (length front.old) self.old.units }
-        requires scratch { HasRoom (length front.old) (length _scratch.old) self.old.units }
+        requires scratch { HasUnitBuffer (length front.old) (length _scratch.old) self.old.units }
         ensures read { OnOk result (slice_get (fronts (length front.old) self.old.units) at ≡ Some front.new) }
         ensures units { self.new.units ≡ self.old.units }
         ensures lost { is_gone self.new.condition ≡ is_err result }
         ensures stays { is_gone self.old.condition ≡ true → is_gone self.new.condition ≡ true }
-        ensures count { Counts (is_gone self.old.condition) (is_gone self.new.condition) (failures_of self.old.condition) (failures_of self.new.condition) }
+        ensures count { CountsFailure (is_gone self.old.condition) (is_gone self.new.condition) (failures_of self.old.condition) (failures_of self.new.condition) }
         ensures steady { StaysSteady (is_gone self.old.condition) (is_gone self.new.condition) (failures_of self.old.condition)
             (failures_of self.new.condition) }
         ensures condition { self.new.condition ≡ after_call self.old.condition }
@@ -183,12 +183,12 @@ impl Drive for MemDrive {
     #[inline(always)]
     fn write_unit(&mut self, at: u32, unit: &[u8]) -> Result<(), DriveLost>
         requires at { at < length self.old.units }
-        requires size { IsSized (length unit.now) self.old.units }
+        requires size { AreUnitsSized (length unit.now) self.old.units }
         ensures written { OnOk result (self.new.units ≡ slice_set self.old.units at unit.now) }
         ensures unwritten { OnErr result (self.new.units ≡ self.old.units) }
         ensures lost { is_gone self.new.condition ≡ is_err result }
         ensures stays { is_gone self.old.condition ≡ true → is_gone self.new.condition ≡ true }
-        ensures count { Counts (is_gone self.old.condition) (is_gone self.new.condition) (failures_of self.old.condition) (failures_of self.new.condition) }
+        ensures count { CountsFailure (is_gone self.old.condition) (is_gone self.new.condition) (failures_of self.old.condition) (failures_of self.new.condition) }
         ensures steady { StaysSteady (is_gone self.old.condition) (is_gone self.new.condition) (failures_of self.old.condition)
             (failures_of self.new.condition) }
         ensures condition { self.new.condition ≡ after_call self.old.condition }
@@ -206,13 +206,13 @@ impl Drive for MemDrive {
         _scratch: &mut [u8],
     ) -> Result<(), DriveLost>
         requires at { at < length self.old.units }
-        requires size { IsSized (length front.now + length rest.now) self.old.units }
-        requires scratch { IsSized (length _scratch.old) self.old.units }
+        requires size { AreUnitsSized (length front.now + length rest.now) self.old.units }
+        requires scratch { AreUnitsSized (length _scratch.old) self.old.units }
         ensures written { OnOk result (self.new.units ≡ slice_set self.old.units at (front.now ++ rest.now)) }
         ensures unwritten { OnErr result (self.new.units ≡ self.old.units) }
         ensures lost { is_gone self.new.condition ≡ is_err result }
         ensures stays { is_gone self.old.condition ≡ true → is_gone self.new.condition ≡ true }
-        ensures count { Counts (is_gone self.old.condition) (is_gone self.new.condition) (failures_of self.old.condition) (failures_of self.new.condition) }
+        ensures count { CountsFailure (is_gone self.old.condition) (is_gone self.new.condition) (failures_of self.old.condition) (failures_of self.new.condition) }
         ensures steady { StaysSteady (is_gone self.old.condition) (is_gone self.new.condition) (failures_of self.old.condition)
             (failures_of self.new.condition) }
         ensures condition { self.new.condition ≡ after_call self.old.condition }

@@ -76,7 +76,7 @@ impl Model for ExtentTable {
 }
 
 impl ExtentTable {
-    ghost use Rattle.extents.specs.Owners.{IsExtent, row_of, owner_of, load_of, lowest_free_of, with_owner, with_drive, all_free};
+    ghost use Rattle.extents.specs.Owners.{IsExtent, owner_row, owner_of, load_of, lowest_free_of, with_owner, with_drive, all_free};
 
     /// The table of `drives` drives of this shape, all extents free; refused if out of memory.
     pub fn new(alloc: Global, drives: u8, shape: &Shape) -> Result<ExtentTable, AllocError>
@@ -105,7 +105,7 @@ impl ExtentTable {
     /// How many drives the table has.
     pub fn drives(&self) -> usize
         ensures count { result ≡ length self.now.rows }
-        ensures wide { (drive : ℕ) → drive < length self.now.rows → length (row_of self.now drive) ≡ self.now.extents }
+        ensures wide { (drive : ℕ) → drive < length self.now.rows → length (owner_row self.now drive) ≡ self.now.extents }
     {
         self.rows.len()
     }
@@ -113,7 +113,7 @@ impl ExtentTable {
     /// The owners of a drive's extents, in order.
     pub fn owners(&self, drive: usize) -> &[Option<u16>]
         requires { drive < length self.now.rows }
-        ensures { result.now ≡ row_of self.now drive }
+        ensures { result.now ≡ owner_row self.now drive }
     {
         &self.rows[drive].owners
     }

@@ -1,6 +1,6 @@
 // The units of a drive in memory, of which only those that were written take memory.
 ghost use Rattle.std.specs.Prelude.{◌≡◌, ◌+◌, ◌<◌, ◌≤◌, ◌++◌, ℕ, true, List, length, replicate, slice_get, slice_set, Some, take, drop, IfOk, vec_capacity};
-ghost use Rattle.extents.specs.Units.{IsSized, HaveFront, fronts, zero_units};
+ghost use Rattle.extents.specs.Units.{AreUnitsSized, HaveFront, fronts, zero_units};
 
 use std::alloc::{AllocError, Global};
 use std::marker::Model;
@@ -47,7 +47,7 @@ impl ThinUnits {
 
     /// Bytes of each unit.
     pub fn size(&self) -> usize
-        ensures { IsSized result self.now }
+        ensures { AreUnitsSized result self.now }
     {
         self.size
     }
@@ -77,7 +77,7 @@ impl ThinUnits {
     #[inline(always)]
     pub fn write(&mut self, at: u32, front: &[u8], rest: &[u8])
         requires at { at < length self.old }
-        requires size { IsSized (length front.now + length rest.now) self.old }
+        requires size { AreUnitsSized (length front.now + length rest.now) self.old }
         ensures { self.new ≡ slice_set self.old at (front.now ++ rest.now) }
     {
         let place = self.places[at as usize];

@@ -8,22 +8,22 @@ use step_core::{Answer, At, Refusal};
 const NO_NUMBER: u32 = 256;
 
 /// Whether an answer is the one that a line spells.
-pub(crate) fn is_answer(wanted: &Words<'_>, answer: &Answer) -> bool {
-    let (verb, numbers) = told(answer);
-    wanted.verb == verb && wanted.numbers == numbers
+pub(crate) fn is_answer(expected: &Words<'_>, answer: &Answer) -> bool {
+    let (verb, numbers) = reported(answer);
+    expected.verb == verb && expected.numbers == numbers
 }
 
 /// Whether there is one answer for each line, and each answer is the one that its line spells.
-pub(crate) fn are_answers(wanted: &[Words<'_>], answers: &[Answer]) -> bool {
-    for (line, answer) in wanted.iter().zip(answers) {
+pub(crate) fn are_answers(expected: &[Words<'_>], answers: &[Answer]) -> bool {
+    for (line, answer) in expected.iter().zip(answers) {
         if !is_answer(line, answer) {
             return false;
         }
     }
-    wanted.len() == answers.len()
+    expected.len() == answers.len()
 }
 
-fn told(answer: &Answer) -> (&'static str, [u32; NUMBERS]) {
+fn reported(answer: &Answer) -> (&'static str, [u32; NUMBERS]) {
     match answer {
         Answer::Claimed(slot) => ("claimed", one(*slot)),
         Answer::Taken(slot) => ("taken", one(*slot)),

@@ -9,7 +9,7 @@ use step_core::{Shape, Step, World};
 #[derive(Drop)]
 pub(crate) struct Part<'a> {
     pub(crate) steps: Vec<Step>,
-    pub(crate) wanted: Vec<Words<'a>>,
+    pub(crate) expected: Vec<Words<'a>>,
 }
 
 /// The steps before the line at which a trial begins, and those after it.
@@ -18,18 +18,18 @@ pub(crate) struct Case<'a> {
     /// Drives, extents of each, segments, bytes of a payload, and blocks.
     sizes: Words<'a>,
     pub(crate) before: Part<'a>,
-    pub(crate) behind: Part<'a>,
+    pub(crate) following: Part<'a>,
 }
 
 /// Reads a file: `array` and its sizes, then lines of a step and its answer with ` > ` between them, and maybe between
 /// those lines a line `--`, at which the trial begins.
 pub(crate) fn read_case(alloc: Global, text: &str) -> Result<Case<'_>, Trouble> {
     let (sizes, lines) = text.split_once('\n').ok_or(Trouble::Input)?;
-    let (before, behind) = lines.split_once("--\n").unwrap_or(("", lines));
+    let (before, following) = lines.split_once("--\n").unwrap_or(("", lines));
     Ok(Case {
         sizes: words_of(sizes)?,
         before: steps_of(alloc, before, '\n')?,
-        behind: steps_of(alloc, behind, '\n')?,
+        following: steps_of(alloc, following, '\n')?,
     })
 }
 
@@ -37,7 +37,7 @@ pub(crate) fn read_case(alloc: Global, text: &str) -> Result<Case<'_>, Trouble> 
 pub(crate) fn steps_of(alloc: Global, text: &str, end: char) -> Result<Part<'_>, Trouble> {
     let mut part = Part {
         steps: Vec::new(alloc),
-        wanted: Vec::new(alloc),
+        expected: Vec::new(alloc),
     };
     for line in text.split(end) {
         if line != "" {
@@ -48,9 +48,9 @@ pub(crate) fn steps_of(alloc: Global, text: &str, end: char) -> Result<Part<'_>,
 }
 
 fn push<'a>(alloc: Global, part: &mut Part<'a>, line: &'a str) -> Result<(), Trouble> {
-    let (asked, wanted) = line.split_once(" > ").ok_or(Trouble::Input)?;
+    let (asked, expected) = line.split_once(" > ").ok_or(Trouble::Input)?;
     part.steps.push(step(alloc, &words_of(asked)?)?)?;
-    part.wanted.push(words_of(wanted)?)?;
+    part.expected.push(words_of(expected)?)?;
     Ok(())
 }
 

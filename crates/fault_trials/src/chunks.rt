@@ -18,7 +18,7 @@ pub(crate) enum Then {
 pub(crate) struct Feed<'a> {
     pub(crate) front: &'a [u8],
     pub(crate) then: Then,
-    pub(crate) behind: &'a [u8],
+    pub(crate) following: &'a [u8],
     pub(crate) piece: usize,
 }
 
@@ -30,7 +30,7 @@ impl Read for Feed<'_> {
                 Then::Fail => return Err(io::Error::from(ErrorKind::BrokenPipe)),
                 Then::FailOnce => {
                     self.then = Then::End;
-                    self.front = self.behind;
+                    self.front = self.following;
                     return Err(io::Error::from(ErrorKind::Interrupted));
                 }
             }

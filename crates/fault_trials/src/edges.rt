@@ -19,8 +19,8 @@ pub(crate) fn break_off(alloc: Global, script: &[u8], answers: &[u8]) -> Result<
         writers: 0,
     };
     for count in 0..script.len() {
-        let (front, behind) = script.split_at_checked(count).ok_or(Trouble::Input)?;
-        let wanted = lines_of(answers, front);
+        let (front, following) = script.split_at_checked(count).ok_or(Trouble::Input)?;
+        let expected = lines_of(answers, front);
         for (then, piece) in [
             (Then::Fail, 3),
             (Then::Fail, 4_096),
@@ -31,18 +31,18 @@ pub(crate) fn break_off(alloc: Global, script: &[u8], answers: &[u8]) -> Result<
                 Feed {
                     front,
                     then,
-                    behind,
+                    following,
                     piece,
                 },
-                wanted,
+                expected,
             )?;
             counts.readers = counts.readers.saturating_add(1);
         }
     }
     for room in 0..answers.len() {
-        let wanted = answers.get(..room).ok_or(Trouble::Input)?;
+        let expected = answers.get(..room).ok_or(Trouble::Input)?;
         for (fails, goes_on) in [(false, false), (false, true), (true, false), (true, true)] {
-            write_breaks(alloc, script, wanted, fails, goes_on)?;
+            write_breaks(alloc, script, expected, fails, goes_on)?;
             counts.writers = counts.writers.saturating_add(1);
         }
     }
@@ -66,11 +66,11 @@ fn lines_of<'a>(answers: &'a [u8], front: &[u8]) -> &'a [u8] {
     answers.get(..length).unwrap_or(answers)
 }
 
-fn read_breaks(alloc: Global, reader: Feed<'_>, wanted: &[u8]) -> Result<(), Trouble> {
+fn read_breaks(alloc: Global, reader: Feed<'_>, expected: &[u8]) -> Result<(), Trouble> {
     let mut reader = reader;
     let mut bytes = Vec::new(alloc);
     match run_script(alloc, &mut reader, &mut bytes) {
-        End::ReadFault if bytes.as_slice() == wanted => Ok(()),
+        End::ReadFault if bytes.as_slice() == expected => Ok(()),
         End::Memory => Err(Trouble::Memory),
         _ => Err(Trouble::Wrong),
     }
@@ -79,25 +79,25 @@ fn read_breaks(alloc: Global, reader: Feed<'_>, wanted: &[u8]) -> Result<(), Tro
 fn write_breaks(
     alloc: Global,
     script: &[u8],
-    wanted: &[u8],
+    expected: &[u8],
     fails: bool,
     goes_on: bool,
 ) -> Result<(), Trouble> {
     let mut reader = Feed {
         front: script,
         then: Then::End,
-        behind: &[],
+        following: &[],
         piece: 4_096,
     };
     let mut writer = Sink {
         taken: Vec::new(alloc),
-        room: wanted.len(),
+        room: expected.len(),
         piece: 5,
         fails,
         goes_on,
     };
     match run_script(alloc, &mut reader, &mut writer) {
-        End::WriteFault if writer.taken.as_slice() == wanted => Ok(()),
+        End::WriteFault if writer.taken.as_slice() == expected => Ok(()),
         End::Memory => Err(Trouble::Memory),
         _ => Err(Trouble::Wrong),
     }

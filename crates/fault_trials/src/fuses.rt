@@ -1,7 +1,7 @@
 // Each drive fused at each call of a case, until the fuse isn't reached.
+use crate::allocations::{Memory, map_of};
 use crate::answers::is_answer;
 use crate::case::{Case, Part};
-use crate::growths::{Memory, map_of};
 use crate::runs::run;
 use crate::trouble::Trouble;
 use crate::words::Words;
@@ -55,21 +55,21 @@ fn fuse_once(alloc: Global, case: &Case<'_>, drive: u8, call: u64) -> Result<(bo
         return Err(Trouble::Input);
     }
     world.fuse(drive, call);
-    let refused = run_fused(alloc, &mut world, &case.behind, drive)?;
+    let refused = run_fused(alloc, &mut world, &case.following, drive)?;
     Ok((world.array().is_lost(drive), refused))
 }
 
 // The case's world at its line `--`.
 fn begun(alloc: Global, case: &Case<'_>) -> Result<World, Trouble> {
     let part = &case.before;
-    run(alloc, case.world(alloc)?, &part.steps, &part.wanted)
+    run(alloc, case.world(alloc)?, &part.steps, &part.expected)
 }
 
 // Runs the rest of the case: how many moves were refused since their target, the fused drive, was lost.
 fn run_fused(alloc: Global, world: &mut World, part: &Part<'_>, drive: u8) -> Result<u64, Trouble> {
     let mut refused = 0u64;
-    for (step, wanted) in part.steps.iter().zip(part.wanted.iter()) {
-        if !is_as_wanted(alloc, world, step, wanted, drive)? {
+    for (step, expected) in part.steps.iter().zip(part.expected.iter()) {
+        if !is_as_expected(alloc, world, step, expected, drive)? {
             refused = refused.saturating_add(1);
         }
     }
@@ -78,34 +78,34 @@ fn run_fused(alloc: Global, world: &mut World, part: &Part<'_>, drive: u8) -> Re
 
 // Whether a step is answered as without the loss. A move onto the fused drive may be refused as lost instead, and then
 // group, map and log are as they were.
-fn is_as_wanted(
+fn is_as_expected(
     alloc: Global,
     world: &mut World,
     step: &Step,
-    wanted: &Words<'_>,
+    expected: &Words<'_>,
     drive: u8,
 ) -> Result<bool, Trouble> {
     let kept = Kept::of(alloc, world, step)?;
-    let is_wanted = is_wanted_or_lost(alloc, world, step, wanted, drive)?;
-    if !is_wanted && !kept.is_same(&Kept::of(alloc, world, step)?) {
+    let is_expected = is_expected_or_lost(alloc, world, step, expected, drive)?;
+    if !is_expected && !kept.is_same(&Kept::of(alloc, world, step)?) {
         return Err(Trouble::Wrong);
     }
-    Ok(is_wanted)
+    Ok(is_expected)
 }
 
 // Whether a step is answered as without the loss. If not, it is a move that is refused because of the loss.
-fn is_wanted_or_lost(
+fn is_expected_or_lost(
     alloc: Global,
     world: &mut World,
     step: &Step,
-    wanted: &Words<'_>,
+    expected: &Words<'_>,
     drive: u8,
 ) -> Result<bool, Trouble> {
     if !world.fits(step) {
         return Err(Trouble::Input);
     }
     let answer = world.step(alloc, step)?;
-    if is_answer(wanted, &answer) {
+    if is_answer(expected, &answer) {
         Ok(true)
     } else if is_onto(step, drive) && is_lost(&answer, drive) {
         Ok(false)

@@ -117,11 +117,11 @@ fn check(alloc: Global, slots: &mut Slots, counts: &mut Headers) -> Result<(), T
             counts.maps = counts.maps.saturating_add(1);
         }
         Err(ScanFault::Memory) => return Err(Trouble::Memory),
-        Err(wanted) => {
-            if scanned.err() != Some(wanted) {
+        Err(expected) => {
+            if scanned.err() != Some(expected) {
                 return Err(Trouble::Wrong);
             }
-            note(counts, wanted);
+            note(counts, expected);
         }
     }
     Ok(())

@@ -1,12 +1,12 @@
 //! Hostile use of the array and of its script: each line of standard input names a trial, and is answered by its counts.
 #![tactic(auto)]
 
+mod allocations;
 mod answers;
 mod case;
 mod chunks;
 mod edges;
 mod fuses;
-mod growths;
 mod headers;
 mod mutants;
 mod noise;

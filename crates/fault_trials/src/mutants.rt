@@ -86,7 +86,7 @@ fn run(alloc: Global, script: &[u8], piece: usize) -> Said {
     let mut reader = Feed {
         front: script,
         then: Then::End,
-        behind: &[],
+        following: &[],
         piece,
     };
     let end = run_script(alloc, &mut reader, &mut bytes);
@@ -151,8 +151,8 @@ fn changed_once(alloc: Global, noise: &mut Noise, script: &[u8]) -> Result<Vec<u
     let (front, back) = script.split_at(at);
     let end = memchr(b'\n', back).unwrap_or(back.len());
     let rest = back.get(..end).unwrap_or(back);
-    let behind = back.get(end..).unwrap_or(&[]);
-    let next = behind.get(1..).unwrap_or(&[]);
+    let following = back.get(end..).unwrap_or(&[]);
+    let next = following.get(1..).unwrap_or(&[]);
     match noise.below(4) {
         0 => spliced(alloc, front, &[noise.byte()], back.get(1..).unwrap_or(&[])),
         1 => {
@@ -161,9 +161,9 @@ fn changed_once(alloc: Global, noise: &mut Noise, script: &[u8]) -> Result<Vec<u
                 None => front,
             };
             let twice = spliced(alloc, rest, b"\n", begun)?;
-            spliced(alloc, front, &spliced(alloc, &twice, rest, b"")?, behind)
+            spliced(alloc, front, &spliced(alloc, &twice, rest, b"")?, following)
         }
-        2 => spliced(alloc, front, b"", behind),
+        2 => spliced(alloc, front, b"", following),
         _ => spliced(alloc, front, rest, next),
     }
 }
@@ -172,10 +172,10 @@ fn spliced(
     alloc: Global,
     front: &[u8],
     middle: &[u8],
-    behind: &[u8],
+    following: &[u8],
 ) -> Result<Vec<u8>, AllocError> {
     let mut bytes = front.to_vec(alloc)?;
     bytes.extend_from_slice(middle)?;
-    bytes.extend_from_slice(behind)?;
+    bytes.extend_from_slice(following)?;
     Ok(bytes)
 }

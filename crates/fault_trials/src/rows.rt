@@ -1,7 +1,7 @@
 // Restarts over units that are written manually, in both layouts.
+use crate::allocations::map_of;
 use crate::answers::is_answer;
 use crate::case::steps_of;
-use crate::growths::map_of;
 use crate::payloads::payload_of;
 use crate::runs::run;
 use crate::slots::Slots;
@@ -66,7 +66,7 @@ fn restart_row(alloc: Global, row: &str) -> Result<bool, Trouble> {
         Ok(world) => {
             let world = found(alloc, world, answer)?;
             let part = steps_of(alloc, items(steps), ';')?;
-            let world = run(alloc, world, &part.steps, &part.wanted)?;
+            let world = run(alloc, world, &part.steps, &part.expected)?;
             are_left(alloc, world, items(left))?;
             Ok(false)
         }
@@ -99,25 +99,25 @@ fn number(word: &str) -> Result<u32, Trouble> {
 }
 
 // Whether the fault is the expected one.
-fn is_fault(fault: ScanFault, wanted: &str) -> Result<bool, Trouble> {
-    let told: [u32; 4] = match fault {
+fn is_fault(fault: ScanFault, expected: &str) -> Result<bool, Trouble> {
+    let reported: [u32; 4] = match fault {
         ScanFault::BadHeader(slot) => [2, u32::from(slot), 0, 0],
-        ScanFault::WrongSlot(slot, told) => [3, u32::from(slot), u32::from(told), 0],
+        ScanFault::WrongSlot(slot, reported) => [3, u32::from(slot), u32::from(reported), 0],
         ScanFault::Twice(block, slot, other) => [4, block, u32::from(slot), u32::from(other)],
         ScanFault::Gone(slot) => [5, u32::from(slot), 0, 0],
         ScanFault::NoClaim(slot) => [6, u32::from(slot), 0, 0],
         ScanFault::BadNote(slot) => [7, u32::from(slot), 0, 0],
         ScanFault::Memory => return Err(Trouble::Memory),
     };
-    let words = words_of(wanted)?;
-    Ok(words.verb == "fault" && &words.numbers[..4] == &told[..])
+    let words = words_of(expected)?;
+    Ok(words.verb == "fault" && &words.numbers[..4] == &reported[..])
 }
 
 // The world, whose map has these records, and whose blocks read as these contents.
-fn found(alloc: Global, world: World, wanted: &str) -> Result<World, Trouble> {
+fn found(alloc: Global, world: World, expected: &str) -> Result<World, Trouble> {
     let mut world = world;
     let mut records = Vec::new(alloc);
-    for block in wanted.split(';') {
+    for block in expected.split(';') {
         records.push(read_block(alloc, &mut world, block)?)?;
     }
     let list = map_of(alloc, world.array())?.to_list(alloc)?;
@@ -128,8 +128,8 @@ fn found(alloc: Global, world: World, wanted: &str) -> Result<World, Trouble> {
 }
 
 // The record that a block's numbers spell; the block reads as the content after them.
-fn read_block(alloc: Global, world: &mut World, wanted: &str) -> Result<Record, Trouble> {
-    let (block, rest) = wanted.split_once(' ').ok_or(Trouble::Input)?;
+fn read_block(alloc: Global, world: &mut World, expected: &str) -> Result<Record, Trouble> {
+    let (block, rest) = expected.split_once(' ').ok_or(Trouble::Input)?;
     let block = number(block)?;
     let mut words = rest.split(' ');
     let mut next = || match words.next() {
@@ -181,14 +181,14 @@ fn are_left(alloc: Global, world: World, units: &str) -> Result<(), Trouble> {
 
 fn is_left(slots: &mut Slots, unit: &str) -> Result<(), Trouble> {
     let (slot, digits) = unit.split_once(' ').ok_or(Trouble::Input)?;
-    let mut wanted = <[u8; 40] as FromHex>::from_hex(digits)
+    let mut expected = <[u8; 40] as FromHex>::from_hex(digits)
         .ok()
         .ok_or(Trouble::Input)?;
-    if wanted[32] != 0 {
-        let payload = payload_of(wanted[32]);
-        wanted[32..].copy_from_slice(&payload);
+    if expected[32] != 0 {
+        let payload = payload_of(expected[32]);
+        expected[32..].copy_from_slice(&payload);
     }
-    if slots.unit(short(number(slot)?)?)? == wanted {
+    if slots.unit(short(number(slot)?)?)? == expected {
         Ok(())
     } else {
         Err(Trouble::Wrong)

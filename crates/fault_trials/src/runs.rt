@@ -22,17 +22,17 @@ pub(crate) fn run(
     alloc: Global,
     world: World,
     steps: &[Step],
-    wanted: &[Words<'_>],
+    expected: &[Words<'_>],
 ) -> Result<World, Trouble> {
     match run_once(alloc, world, steps)? {
-        Ok(run) => answered(run, wanted),
+        Ok(run) => answered(run, expected),
         Err(_) => Err(Trouble::Memory),
     }
 }
 
 /// The world of a run. An error unless its answers are the expected ones.
-pub(crate) fn answered(run: Run, wanted: &[Words<'_>]) -> Result<World, Trouble> {
-    if are_answers(wanted, &run.answers) {
+pub(crate) fn answered(run: Run, expected: &[Words<'_>]) -> Result<World, Trouble> {
+    if are_answers(expected, &run.answers) {
         Ok(run.world)
     } else {
         Err(Trouble::Wrong)

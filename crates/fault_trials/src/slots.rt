@@ -1,20 +1,20 @@
 // Drives whose units are written manually, and scans of them.
 ghost use Rattle.std.specs.Prelude.{◌≡◌, IsTrue};
 ghost use Rattle.extent_groups.specs.Stores.{unit_bytes};
-ghost use Rattle.array_parts.specs.Fit.{IsFit};
-ghost use Rattle.array_parts.specs.Memory.{held_units};
-ghost use Rattle.array_parts.specs.Slots.{IsSlot};
+ghost use Rattle.unit_store.specs.Fit.{IsFit};
+ghost use Rattle.unit_store.specs.Memory.{held_units};
+ghost use Rattle.unit_store.specs.Slots.{IsSlot};
 
 use crate::case::read_case;
 use crate::runs::run;
 use crate::trouble::Trouble;
 use crate::walk::Placed;
-use array_parts::Parts;
 use extent_groups::{GroupTable, SLOTS};
 use header_scan::{ScanFault, restart, scan};
 use map_join::BlockMap;
 use std::alloc::{AllocError, Global};
 use step_core::{MemDrive, Plain, World};
+use unit_store::Parts;
 
 /// Slots 0 to 5 are mirrored, slots 128 to 135 have parity.
 const GROUPS: &str =
@@ -49,8 +49,8 @@ fn is_slot(groups: &GroupTable, slot: u16) -> bool
 // A world with the two groups.
 fn grouped(alloc: Global) -> Result<World, Trouble> {
     let case = read_case(alloc, GROUPS)?;
-    let part = &case.behind;
-    run(alloc, case.world(alloc)?, &part.steps, &part.wanted)
+    let part = &case.following;
+    run(alloc, case.world(alloc)?, &part.steps, &part.expected)
 }
 
 // The slots of the two groups, each with a blank header.
@@ -181,7 +181,7 @@ impl Slots {
         }
         match scan(alloc, &mut self.parts) {
             Err(ScanFault::Memory) => Err(Trouble::Memory),
-            told => Ok(told),
+            reported => Ok(reported),
         }
     }
 }

@@ -32,15 +32,15 @@ fn spell_row(row: &str) -> Result<bool, Trouble> {
     let (_number, fields) = row.split_once(',').ok_or(Trouble::Input)?;
     let (digits, answer) = fields.split_once(',').ok_or(Trouble::Input)?;
     let bytes = header_of(digits)?;
-    let wanted = wanted_of(answer)?;
-    if Header::decode(&bytes).ok() != wanted {
+    let expected = expected_of(answer)?;
+    if Header::decode(&bytes).ok() != expected {
         return Err(Trouble::Wrong);
     }
-    match wanted {
+    match expected {
         Some(header) if &bytes[..4] != &OLD_MARK[..] && header.encode() != bytes => Err(
             Trouble::Wrong,
         ),
-        _ => Ok(wanted.is_none()),
+        _ => Ok(expected.is_none()),
     }
 }
 
@@ -51,7 +51,7 @@ pub(crate) fn header_of(digits: &str) -> Result<[u8; 32], Trouble> {
         .ok_or(Trouble::Input)
 }
 
-fn wanted_of(answer: &str) -> Result<Option<Header>, Trouble> {
+fn expected_of(answer: &str) -> Result<Option<Header>, Trouble> {
     match answer {
         "bad" => Ok(None),
         "blank" => Ok(Some(Header::Blank)),

@@ -1,8 +1,8 @@
 // A line that names a trial, and what is printed of it.
+use crate::allocations::run_case;
 use crate::case::read_case;
 use crate::edges::break_off;
 use crate::fuses::fuse_all;
-use crate::growths::run_case;
 use crate::headers::{Headers, flips, scan_noise};
 use crate::mutants::{mutant, run_mutants};
 use crate::rows::restart_all;
@@ -15,14 +15,14 @@ use std::io::Write;
 pub(crate) fn answer(rt: &HostRuntime, line: &str) -> Result<(), Trouble> {
     let mut words = line.split(' ');
     match words.next().unwrap_or("") {
-        "growths" => answer_growths(rt, words.next()),
+        "growths" => answer_allocations(rt, words.next()),
         "fuses" => answer_fuses(rt, words.next()),
         "headers" => {
             let seed = number(words.next())?;
             let counts = scan_noise(rt.alloc(), seed, number(words.next())?)?;
-            tell_headers(rt, line, &counts)
+            report_headers(rt, line, &counts)
         }
-        "flips" => tell_headers(rt, line, &flips(rt.alloc())?),
+        "flips" => report_headers(rt, line, &flips(rt.alloc())?),
         "mutants" => {
             let seed = number(words.next())?;
             answer_mutants(rt, seed, number(words.next())?, words.next())
@@ -46,12 +46,12 @@ fn named(word: Option<&str>) -> Result<&str, Trouble> {
     word.ok_or(Trouble::Input)
 }
 
-fn answer_growths(rt: &HostRuntime, file: Option<&str>) -> Result<(), Trouble> {
+fn answer_allocations(rt: &HostRuntime, file: Option<&str>) -> Result<(), Trouble> {
     let file = named(file)?;
     let text = fs::read_to_string(rt, file)?;
     let counts = run_case(rt.alloc(), &read_case(rt.alloc(), text.as_str())?)?;
-    let (answers, wanted) = (counts.answers, counts.wanted);
-    println!(rt; "growths {file}: {answers} answers, memory wanted {wanted} times")?;
+    let (answers, expected) = (counts.answers, counts.expected);
+    println!(rt; "growths {file}: {answers} answers, memory wanted {expected} times")?;
     Ok(())
 }
 
@@ -64,7 +64,7 @@ fn answer_fuses(rt: &HostRuntime, file: Option<&str>) -> Result<(), Trouble> {
     Ok(())
 }
 
-fn tell_headers(rt: &HostRuntime, line: &str, counts: &Headers) -> Result<(), Trouble> {
+fn report_headers(rt: &HostRuntime, line: &str, counts: &Headers) -> Result<(), Trouble> {
     let (scans, maps, bad) = (counts.scans, counts.maps, counts.bad);
     let (wrong_slots, twice) = (counts.wrong_slots, counts.twice);
     println!(rt;
@@ -128,8 +128,8 @@ fn answer_edges(
 ) -> Result<(), Trouble> {
     let script = named(script)?;
     let bytes = fs::read(rt, script)?;
-    let wanted = fs::read(rt, named(answers)?)?;
-    let counts = break_off(rt.alloc(), &bytes, &wanted)?;
+    let expected = fs::read(rt, named(answers)?)?;
+    let counts = break_off(rt.alloc(), &bytes, &expected)?;
     let (readers, writers) = (counts.readers, counts.writers);
     println!(rt; "edges {script}: {readers} broken readers, {writers} broken writers")?;
     Ok(())

@@ -12,7 +12,7 @@ pub(crate) fn walk(
     placed: &[Placed],
     blocks: u32,
 ) -> Result<Vec<Record>, ScanFault> {
-    let records = told_by(alloc, placed, blocks)?;
+    let records = reported_by(alloc, placed, blocks)?;
     let mut newest = Vec::new(alloc);
     for block in 0..blocks {
         if let Some(record) = newest_of(block, &records)? {
@@ -22,10 +22,10 @@ pub(crate) fn walk(
     Ok(newest)
 }
 
-fn told_by(alloc: Global, placed: &[Placed], blocks: u32) -> Result<Vec<Record>, ScanFault> {
+fn reported_by(alloc: Global, placed: &[Placed], blocks: u32) -> Result<Vec<Record>, ScanFault> {
     let mut records = Vec::new(alloc);
     for (slot, header) in placed {
-        if let Some(record) = told(*slot, header, blocks)? {
+        if let Some(record) = reported(*slot, header, blocks)? {
             push(&mut records, record)?;
         }
     }
@@ -37,7 +37,7 @@ fn push(records: &mut Vec<Record>, record: Record) -> Result<(), ScanFault> {
 }
 
 // The record in a slot's header, none in a blank one, or what is wrong with it.
-fn told(slot: u16, header: &[u8; 32], blocks: u32) -> Result<Option<Record>, ScanFault> {
+fn reported(slot: u16, header: &[u8; 32], blocks: u32) -> Result<Option<Record>, ScanFault> {
     if *header == [0; 32] {
         return Ok(None);
     }

@@ -3,7 +3,7 @@ use Rattle.std.proofs.Common.{◌≡◌, ℕ, ◌+◌, ◌-◌, ◌*◌, ◌<◌
 use Rattle.std.specs.Prelude.{slice_set, slice_get, slice_range}
 use Rattle.std.proofs.lemmas.List.{length-append, length-take-le, length-drop, length-set, same_lists}
 use Rattle.std.proofs.lemmas.Option.{get_or_from_slice_get}
-use Rattle.extents.specs.Units.{units_in, IsSized}
+use Rattle.extents.specs.Units.{units_in, AreUnitsSized}
 use Rattle.extents.proofs.UnitsIn.{length-units_in, get-units_in, units_in-written, unit_within}
 use Rattle.images.specs.Images.{IsImage}
 use Rattle.file_drive.specs.Files.{written_over}
@@ -33,7 +33,7 @@ image_of size bytes units long same = record { long = long; each = each }
         ∙ ap (λ xs. Some xs) (sym (run_is size at bytes))
 
 -- what has the length of an image's unit has its size
-pub unit_long : (m size at : ℕ) (bytes : List ℕ) (units : List (List ℕ)) → at < length units → IsSized m units → IsImage size bytes units → m ≡ size
+pub unit_long : (m size at : ℕ) (bytes : List ℕ) (units : List (List ℕ)) → at < length units → AreUnitsSized m units → IsImage size bytes units → m ≡ size
 unit_long m size at bytes units low sized image =
     let within = unit_within size (length units) at low in
     let room : size ≤ length (drop (at * size) bytes) = (let e = image.long in let d = length-drop (at * size) bytes in omega arith) in
@@ -41,7 +41,7 @@ unit_long m size at bytes units low sized image =
     sym (sized at (take size (drop (at * size) bytes)) there) ∙ length-take-le size (drop (at * size) bytes) room
 
 -- an image of one size is one of any size that the units have
-pub any_size : (m size : ℕ) (bytes : List ℕ) (units : List (List ℕ)) → IsSized m units → IsImage size bytes units → IsImage m bytes units
+pub any_size : (m size : ℕ) (bytes : List ℕ) (units : List (List ℕ)) → AreUnitsSized m units → IsImage size bytes units → IsImage m bytes units
 any_size m size bytes [] sized image = record { long = none; each = λ at low. absurd (omega arith) }
   where
     none : length bytes ≡ 0 * m

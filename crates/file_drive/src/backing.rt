@@ -1,7 +1,7 @@
 // What units are written through to.
 ghost use Rattle.std.specs.Prelude.{◌≡◌, ◌+◌, ◌≤◌, ℕ, List, Option, Some, None, IfOk, OnOk, IfSome, length, take, drop, ◌++◌};
 ghost use Rattle.std.specs.Io.{WritesAtMost};
-ghost use Rattle.file_drive.specs.Files.{Puts, written_over};
+ghost use Rattle.file_drive.specs.Files.{Overwrites, written_over};
 
 use std::alloc::Global;
 use std::fs::File;
@@ -26,7 +26,7 @@ pub trait Backing {
     /// the piece has.
     fn write_at(&mut self, start: u64, piece: &[u8]) -> io::Result<usize>
         ensures bound { WritesAtMost result piece.now }
-        ensures written { IfOk result (λ count. Puts (bytes self.old) start (take count piece.now) (bytes self.new)) };
+        ensures written { IfOk result (λ count. Overwrites (bytes self.old) start (take count piece.now) (bytes self.new)) };
 
     /// Makes all that was written durable.
     fn sync(&mut self) -> io::Result<()>

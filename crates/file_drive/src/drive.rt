@@ -3,10 +3,10 @@
 ghost use Rattle.std.specs.Prelude.{◌≡◌, ◌+◌, ◌*◌, ◌<◌, true, false, length, slice_set, is_err, IfOk, IfErr, OnOk, IsTrue};
 ghost use Rattle.extents.specs.declared.mem_drive.Condition.TheVariants.{Present};
 ghost use Rattle.extents.specs.declared.shape.TheConstants.{HEADER_BYTES};
-ghost use Rattle.extents.specs.Failures.{Counts, StaysSteady, unsteady};
+ghost use Rattle.extents.specs.Failures.{CountsFailure, StaysSteady, unsteady};
 ghost use Rattle.extents.specs.Sizes.{extent_units};
-ghost use Rattle.extents.specs.Units.{IsSized, loss};
-ghost use Rattle.file_drive.specs.Files.{AreHeld, Holds, Puts};
+ghost use Rattle.extents.specs.Units.{AreUnitsSized, loss};
+ghost use Rattle.file_drive.specs.Files.{AreImageOf, HoldsImage, Overwrites};
 ghost use Rattle.file_drive.specs.Refusals.{RefusesFor};
 
 use crate::{Backing, OpenRefusal};
@@ -24,15 +24,15 @@ pub struct FileDrive<B: Backing> {
     size: u32,
     lost: bool,
     ghost present: { cache.condition ≡ Present },
-    ghost held: { lost ≡ false → Holds (B.bytes backing) size cache.units },
+    ghost held: { lost ≡ false → HoldsImage (B.bytes backing) size cache.units },
 }
 
 impl<B: Backing + Drop> FileDrive<B> {
     /// The drive whose image the backing holds. Reads all of it and writes nothing. The refusals in order: Read, Length, Memory.
     pub fn open(alloc: Global, shape: &Shape, backing: B) -> Result<FileDrive<B>, OpenRefusal>
-        ensures ok { IfOk result (λ d. Holds (B.bytes backing) (HEADER_BYTES + shape.now.payload) d.cache.units) }
+        ensures ok { IfOk result (λ d. HoldsImage (B.bytes backing) (HEADER_BYTES + shape.now.payload) d.cache.units) }
         ensures many { IfOk result (λ d. length d.cache.units ≡ shape.now.extents * extent_units shape.now.segments) }
-        ensures sized { IfOk result (λ d. IsSized (HEADER_BYTES + shape.now.payload) d.cache.units) }
+        ensures sized { IfOk result (λ d. AreUnitsSized (HEADER_BYTES + shape.now.payload) d.cache.units) }
         ensures present { IfOk result (λ d. d.lost ≡ false) }
         ensures err { IfErr result (RefusesFor shape.now (B.bytes backing)) }
     {
@@ -55,7 +55,7 @@ impl<B: Backing + Drop> FileDrive<B> {
 
     /// The backing, which holds the units' image; refused where the drive is lost.
     pub fn close(self) -> Result<B, DriveLost>
-        ensures ok { IfOk result (λ b. AreHeld (B.bytes b) self.cache.units) }
+        ensures ok { IfOk result (λ b. AreImageOf (B.bytes b) self.cache.units) }
         ensures lost { is_err result ≡ self.lost }
     {
         if self.lost {
@@ -67,7 +67,7 @@ impl<B: Backing + Drop> FileDrive<B> {
 
 // Whether one write puts all of a piece.
 fn is_written<B: Backing>(backing: &mut B, start: u64, piece: &[u8]) -> bool
-    ensures { IsTrue result → Puts (B.bytes backing.old) start piece.now (B.bytes backing.new) }
+    ensures { IsTrue result → Overwrites (B.bytes backing.old) start piece.now (B.bytes backing.new) }
 {
     match backing.write_at(start, piece) {
         Ok(count) => count == piece.len(),
@@ -78,7 +78,7 @@ fn is_written<B: Backing>(backing: &mut B, start: u64, piece: &[u8]) -> bool
 // Writes a unit of a drive in memory that answers.
 fn keep(cache: &mut MemDrive, at: u32, unit: &[u8])
     requires at { at < length cache.old.units }
-    requires size { IsSized (length unit.now) cache.old.units }
+    requires size { AreUnitsSized (length unit.now) cache.old.units }
     requires present { cache.old.condition ≡ Present }
     ensures present { cache.new.condition ≡ Present }
     ensures written { cache.new.units ≡ slice_set cache.old.units at unit.now }
@@ -141,9 +141,9 @@ impl<B: Backing> Drive for FileDrive<B> {
         ensures units { self.new.cache.units ≡ self.old.cache.units }
         ensures lost { self.new.lost ≡ is_err result }
         ensures stays { self.old.lost ≡ true → self.new.lost ≡ true }
-        ensures count { Counts self.old.lost self.new.lost (unsteady (loss false self.old.lost)) (unsteady (loss false self.new.lost)) }
+        ensures count { CountsFailure self.old.lost self.new.lost (unsteady (loss false self.old.lost)) (unsteady (loss false self.new.lost)) }
         ensures steady { StaysSteady self.old.lost self.new.lost (unsteady (loss false self.old.lost)) (unsteady (loss false self.new.lost)) }
-        ensures durable { OnOk result (AreHeld (B.durable self.new.backing) self.new.cache.units) }
+        ensures durable { OnOk result (AreImageOf (B.durable self.new.backing) self.new.cache.units) }
     {
         if self.lost || self.backing.sync().is_err() {
             self.lost = true;

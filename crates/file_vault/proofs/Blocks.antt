@@ -4,7 +4,7 @@ use Rattle.std.specs.Int.{w32, from_le_bytes, to_le_bytes}
 use Rattle.std.proofs.lemmas.List.{take_all}
 use Rattle.std.proofs.lemmas.Nat.{from_le_bytes-to_le_bytes_4}
 use Rattle.file_vault.specs.Folders.{Folder, part, Wrote}
-use Rattle.file_vault.specs.Headers.{HasHeader, number_at, mark}
+use Rattle.file_vault.specs.Headers.{HasFileHeader, number_at, mark}
 use Rattle.file_vault.specs.declared.header.Header.{Header}
 use Rattle.file_vault.proofs.Chains.{part_same}
 use Rattle.file_vault.proofs.Puts.{part_is}
@@ -14,8 +14,8 @@ pub part_wrote : (file at count : ℕ) (bytes : List ℕ) (f g : Folder) → Wro
 part_wrote file at count bytes f g wrote long = part_is (g file) at count bytes (omega (arith, long)) (λ j low. wrote.inside j (omega (arith, low, long))) ∙ take_all count bytes (omega (arith, long))
 
 pub part_kept : (file at : ℕ) (bytes : List ℕ) (f g : Folder) (low count : ℕ) → Wrote file at bytes f g → (low + count ≤ at) ⊎ (at + length bytes ≤ low) → part (g file) low count ≡ part (f file) low count
-part_kept file at bytes f g low count wrote beside =
-    part_same (f file) (g file) low count (λ k from to. wrote.outside k (elim beside [ inl before ↦ inl (omega (arith, before, to)) | inr past ↦ inr (omega (arith, past, from)) ]))
+part_kept file at bytes f g low count wrote nearby =
+    part_same (f file) (g file) low count (λ k from to. wrote.outside k (elim nearby [ inl before ↦ inl (omega (arith, before, to)) | inr past ↦ inr (omega (arith, past, from)) ]))
 
 four : (n : ℕ) → length (to_le_bytes w32 n) ≡ 4
 four n = refl
@@ -45,7 +45,7 @@ module _ (n : ℕ) (h : Header) (f0 f1 f2 f3 f4 f5 f6 f7 : Folder) (first : Wrot
   count_is : number_at (f7 n) 29 ≡ h.count
   count_is = ap (λ bs. from_le_bytes w32 bs) (to_fourth 29 4 (omega arith) ∙ part_wrote n 29 4 (to_le_bytes w32 h.count) f3 f4 fourth (four h.count)) ∙ from_le_bytes-to_le_bytes_4 h.count count_fits
 
-  pub block_is : HasHeader (f7 n) h
+  pub block_is : HasFileHeader (f7 n) h
   block_is = record {
     marked = ap (λ (f : Folder). part (f n) 0 8) again ∙ part_wrote n 0 8 mark f5 f6 last refl;
     says = λ i. record { identity = (sym identity_is) i; number = (sym number_is) i; unit_bytes = (sym unit_is) i; count = (sym count_is) i };

@@ -3,7 +3,7 @@ use Rattle.std.proofs.Common.{◌≡◌, ◌≤◌, inl, inr, ℕ, List, ◌∙�
 use Rattle.vault.specs.declared.store.Stop.{Stop}
 use Rattle.file_vault.specs.Folders.{Bytes, Folder, part, Mixed, HasFile}
 use Rattle.file_vault.specs.Headers.{boot_in, HasBoot}
-use Rattle.file_vault.specs.Journals.{SameUnits}
+use Rattle.file_vault.specs.Journals.{SameUnitFiles}
 use Rattle.file_vault.proofs.Chains.{part_same}
 use Rattle.file_vault.proofs.Puts.{below_or}
 
@@ -11,7 +11,7 @@ use Rattle.file_vault.proofs.Puts.{below_or}
 pub boot_same : (f g : Folder) → g 16 ≡ f 16 → boot_in g ≡ boot_in f
 boot_same f g same = ap (λ (b : Bytes). part b 64 16) same
 
-pub boot_units : (f g : Folder) → SameUnits f g → boot_in g ≡ boot_in f
+pub boot_units : (f g : Folder) → SameUnitFiles f g → boot_in g ≡ boot_in f
 boot_units f g same = boot_same f g (same 16 (λ e. omega (arith, e)))
 
 pub boot_mixed : (file at : ℕ) (bytes : List ℕ) (f g : Folder) → 4096 ≤ at → Mixed file at bytes f g → boot_in g ≡ boot_in f
@@ -32,8 +32,8 @@ boot_on boot f g old new has same leaves = record {
 }
 
 -- where all files but the journal's are as before
-pub boot_units_on : (boot : List ℕ) (f g : Folder) (old new : Stop → Folder → Type 0) → HasBoot boot f old → SameUnits f g
-    → ((stop : Stop) (h : Folder) → new stop h → (e : Folder) × old stop e × SameUnits e h) → HasBoot boot g new
+pub boot_units_on : (boot : List ℕ) (f g : Folder) (old new : Stop → Folder → Type 0) → HasBoot boot f old → SameUnitFiles f g
+    → ((stop : Stop) (h : Folder) → new stop h → (e : Folder) × old stop e × SameUnitFiles e h) → HasBoot boot g new
 boot_units_on boot f g old new has same leaves = boot_on boot f g old new has (boot_units f g same) (λ stop h there. let from = leaves stop h there in (from.0, from.1, boot_units from.0 h from.2))
 
 -- after a sync

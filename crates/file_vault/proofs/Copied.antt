@@ -4,14 +4,14 @@ use Rattle.std.specs.Prelude.{OnOk, IfSome, is_err}
 use Rattle.std.proofs.lemmas.Bool.{true≢false, lt-ltb, le-ltb}
 use Rattle.vault.specs.Moments.{Within}
 use Rattle.file_vault.specs.Folders.{Bytes, Folder, Reads, Wrote, Mixed}
-use Rattle.file_vault.specs.Headers.{SameBehind}
+use Rattle.file_vault.specs.Headers.{SameAfterHeader}
 use Rattle.file_vault.specs.declared.held.Held.{Held}
 use Rattle.file_vault.specs.declared.held.Held.TheVariants.{Both, Only, Neither}
 use Rattle.file_vault.specs.declared.twin.Twin.{Twin}
 use Rattle.file_vault.specs.declared.twin.Twin.TheVariants.{First, Second}
-use Rattle.file_vault.specs.Twins.{file_of, other, count_in, Counts, behind_of, seen_as, Shows, shown, AreAlike, CopiedOver, copied_at, IsOnly, IsKept, IsBoth, HasCount, IsRaised, newer_of, lead_of}
+use Rattle.file_vault.specs.Twins.{file_of, other, count_in, Counts, after_first_block, seen_as, MergesTwins, shown, AreAlike, CopiedOver, copied_at, IsOnly, IsAvailable, IsBoth, HasCount, IsRaised, newer_of, lead_of}
 use Rattle.file_vault.proofs.Puts.{below_or}
-use Rattle.file_vault.proofs.Shown.{behind_eq, count_same, shows_as, seen_same, which_file, with_other}
+use Rattle.file_vault.proofs.Shown.{following_eq, count_same, shows_as, seen_same, which_file, with_other}
 use Rattle.file_vault.proofs.PairCalls.{inside_or}
 
 pub not_err : {T E : Type 0} (r : Result T E) (P : Type 0) → OnOk r P → is_err r ≡ false → P
@@ -102,17 +102,17 @@ copied_count lead s f g copied = (
 )
 
 -- what is shown while it is copied was shown before: of each byte one of two that count
-pub copied_shows : (lead : Twin) (s f g h : Folder) → CopiedOver lead s f g → f (file_of lead) ≡ s (file_of lead) → Counts f lead → Shows g h → Shows f h
+pub copied_shows : (lead : Twin) (s f g h : Folder) → CopiedOver lead s f g → f (file_of lead) ≡ s (file_of lead) → Counts f lead → MergesTwins g h → MergesTwins f h
 copied_shows First s f g h copied settled counts shows =
     let same = copied_count First s f g copied in
     let one = same.0 in
     let two = same.1 in
     record {
       journal = λ k. elim (shows.journal k) [
-        | inl (c, is) ↦ inl (counts, is ∙ ap (λ (b : Bytes). behind_of b k) (copied_lead First s f g copied))
+        | inl (c, is) ↦ inl (counts, is ∙ ap (λ (b : Bytes). after_first_block b k) (copied_lead First s f g copied))
         | inr (c, is) ↦ elim (copied.mate k) [
-          | inl was ↦ inr (omega (arith, c, one, two), is ∙ behind_eq (f 18) (g 18) k (λ past. was))
-          | inr made ↦ inl (counts, is ∙ behind_eq (f 17) (g 18) k (λ past. made.1 ∙ sym (ap (λ (b : Bytes). b k) settled)))
+          | inl was ↦ inr (omega (arith, c, one, two), is ∙ following_eq (f 18) (g 18) k (λ past. was))
+          | inr made ↦ inl (counts, is ∙ following_eq (f 17) (g 18) k (λ past. made.1 ∙ sym (ap (λ (b : Bytes). b k) settled)))
         ]
       ];
       hidden = shows.hidden;
@@ -125,10 +125,10 @@ copied_shows Second s f g h copied settled counts shows =
     record {
       journal = λ k. elim (shows.journal k) [
         | inl (c, is) ↦ elim (copied.mate k) [
-          | inl was ↦ inl (omega (arith, c, one, two), is ∙ behind_eq (f 17) (g 17) k (λ past. was))
-          | inr made ↦ inr (counts, is ∙ behind_eq (f 18) (g 17) k (λ past. made.1 ∙ sym (ap (λ (b : Bytes). b k) settled)))
+          | inl was ↦ inl (omega (arith, c, one, two), is ∙ following_eq (f 17) (g 17) k (λ past. was))
+          | inr made ↦ inr (counts, is ∙ following_eq (f 18) (g 17) k (λ past. made.1 ∙ sym (ap (λ (b : Bytes). b k) settled)))
         ]
-        | inr (c, is) ↦ inr (counts, is ∙ ap (λ (b : Bytes). behind_of b k) (copied_lead Second s f g copied))
+        | inr (c, is) ↦ inr (counts, is ∙ ap (λ (b : Bytes). after_first_block b k) (copied_lead Second s f g copied))
       ];
       hidden = shows.hidden;
       others = λ d n17 n18. shows.others d n17 n18 ∙ copied.others d n17;
@@ -185,27 +185,27 @@ mate_leads lead g count least (one, two) near =
     subst (λ (t : Twin). (count_in (g (file_of t)) ≤ suc (count_in (g (file_of (other lead))))) × (count_in (g (file_of t)) ≤ suc least)) (sym (other_back lead)) (omega (arith, one, two, near), omega (arith, one, near))
 
 -- one that is left alone is the one that is read
-pub only_lead : (twin : Twin) (held : Held) → IsOnly twin held → IsKept held → lead_of held ≡ twin
+pub only_lead : (twin : Twin) (held : Held) → IsOnly twin held → IsAvailable held → lead_of held ≡ twin
 only_lead twin (Both count) only kept = absurd only
 only_lead twin (Only one count) only kept = only
 only_lead twin Neither only kept = absurd kept
 
 -- and shows what was shown
-pub alone_shows : (lead twin : Twin) (s t u : Folder) (held : Held) → CopiedOver lead s s t → Counts s lead → Counts t twin → IsOnly twin held → IsKept held → SameBehind (file_of twin) t u → Shows s (seen_as (lead_of held) u)
+pub alone_shows : (lead twin : Twin) (s t u : Folder) (held : Held) → CopiedOver lead s s t → Counts s lead → Counts t twin → IsOnly twin held → IsAvailable held → SameAfterHeader (file_of twin) t u → MergesTwins s (seen_as (lead_of held) u)
 alone_shows lead twin s t u held copied counts now only kept same =
-    subst (λ (w : Twin). Shows s (seen_as w u)) (sym (only_lead twin held only kept))
-    (subst (λ (h : Folder). Shows s h) (sym (seen_same twin t u same)) (copied_shows lead s s t (seen_as twin t) copied refl counts (shows_as twin t now)))
+    subst (λ (w : Twin). MergesTwins s (seen_as w u)) (sym (only_lead twin held only kept))
+    (subst (λ (h : Folder). MergesTwins s h) (sym (seen_same twin t u same)) (copied_shows lead s s t (seen_as twin t) copied refl counts (shows_as twin t now)))
 
-pub pair_shows : (lead : Twin) (s t h : Folder) → CopiedOver lead s s t → Counts s lead → Counts t lead → h ≡ seen_as lead t → Shows s h
-pair_shows lead s t h copied counts now is = subst (λ (x : Folder). Shows s x) (sym is) (copied_shows lead s s t (seen_as lead t) copied refl counts (shows_as lead t now))
+pub pair_shows : (lead : Twin) (s t h : Folder) → CopiedOver lead s s t → Counts s lead → Counts t lead → h ≡ seen_as lead t → MergesTwins s h
+pair_shows lead s t h copied counts now is = subst (λ (x : Folder). MergesTwins s x) (sym is) (copied_shows lead s s t (seen_as lead t) copied refl counts (shows_as lead t now))
 
 pub some_at : (o : Option ℕ) (x : ℕ) (P : ℕ → Type 0) → IfSome o P → o ≡ Some x → P x
 some_at o x P given is = subst (λ (q : Option ℕ). IfSome q P) is given
 
 -- a file that goes on alone shows what it showed
-pub alone_found : (twin : Twin) (s t u : Folder) (held : Held) → t ≡ s → IsOnly twin held → IsKept held → SameBehind (file_of twin) t u → seen_as (lead_of held) u ≡ seen_as twin s
-alone_found twin s t u held same only kept behind =
-    subst (λ (w : Twin). seen_as w u ≡ seen_as twin s) (sym (only_lead twin held only kept)) (seen_same twin t u behind ∙ ap (λ (f : Folder). seen_as twin f) same)
+pub alone_found : (twin : Twin) (s t u : Folder) (held : Held) → t ≡ s → IsOnly twin held → IsAvailable held → SameAfterHeader (file_of twin) t u → seen_as (lead_of held) u ≡ seen_as twin s
+alone_found twin s t u held same only kept following =
+    subst (λ (w : Twin). seen_as w u ≡ seen_as twin s) (sym (only_lead twin held only kept)) (seen_same twin t u following ∙ ap (λ (f : Folder). seen_as twin f) same)
 
 -- it may go on where the other doesn't count more
 pub alone_may : (twin : Twin) (s f : Folder) (count : ℕ) → f (file_of twin) ≡ s (file_of twin) → count ≡ count_in (s (file_of twin)) → Counts f twin → Counts f twin × (count_in (f (file_of (other twin))) ≤ suc count)
@@ -218,8 +218,8 @@ both_are s f one two = (one, two)
 pub copied_seen : (lead : Twin) (s t : Folder) → CopiedOver lead s s t → seen_as lead t ≡ seen_as lead s
 copied_seen lead s t copied i d k = (byte d k) i
   where
-    mine : (k : ℕ) → behind_of (t (file_of lead)) k ≡ behind_of (s (file_of lead)) k
-    mine k = ap (λ (b : Bytes). behind_of b k) (copied_lead lead s s t copied)
+    mine : (k : ℕ) → after_first_block (t (file_of lead)) k ≡ after_first_block (s (file_of lead)) k
+    mine k = ap (λ (b : Bytes). after_first_block b k) (copied_lead lead s s t copied)
 
     apart : (lead : Twin) (d : ℕ) → d ≢ 17 → d ≢ 18 → d ≢ file_of (other lead)
     apart First d n17 n18 = n18

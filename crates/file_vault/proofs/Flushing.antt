@@ -1,17 +1,17 @@
 -- A journal is flushed, and its first gate is closed.
 use Rattle.std.proofs.Common.{◌≡◌, ◌≤◌, ◌⊎◌, inl, inr, ⊎_elim, ℕ, false, ◌+◌, List, [], ◌∷◌, refl, sym, ◌∙◌, ap, subst, arith, length, take, drop}
 use Rattle.std.proofs.lemmas.List.{take_all, length-take-le}
-use Rattle.extent_groups.specs.Planned.{Wanted}
+use Rattle.extent_groups.specs.Planned.{Intended}
 use Rattle.vault.specs.declared.store.Stop.{Stop}
 use Rattle.vault.specs.declared.store.Stop.TheVariants.{Killed, PowerLost}
 use Rattle.vault.specs.Moments.{Within}
 use Rattle.file_vault.specs.Folders.{Bytes, Folder, mixed_at}
-use Rattle.file_vault.specs.Journals.{opens, batches_from, AreAt, AreOpen, gate_at, most, journal_of, IsSound, SameUnits, leaves_either, IsAmong, Marks}
+use Rattle.file_vault.specs.Journals.{opens, batches_from, AreAt, AreOpen, gate_at, most, journal_of, IsSound, SameUnitFiles, leaves_either, IsAmong, Marks}
 use Rattle.file_vault.proofs.Chains.{as_many, end_past, read_all}
 use Rattle.file_vault.proofs.Puts.{few_gates, killed_read, power_read, below_or}
 use Rattle.file_vault.proofs.Marking.{among_past, are_like, read_some, open_each, each_open, among_drop, among_both}
 
-module _ {F : Type 0} (seen : F → Folder) (may_leave : F → Stop → Folder → Type 0) (old : F) (gates : List ℕ) (batches : List (List Wanted)) (end durable : ℕ) (sound : IsSound seen may_leave old gates batches end durable) where
+module _ {F : Type 0} (seen : F → Folder) (may_leave : F → Stop → Folder → Type 0) (old : F) (gates : List ℕ) (batches : List (List Intended)) (end durable : ℕ) (sound : IsSound seen may_leave old gates batches end durable) where
   abbrev f0 : Bytes
   f0 = seen old 17
 
@@ -61,7 +61,7 @@ module _ {F : Type 0} (seen : F → Folder) (may_leave : F → Stop → Folder �
   like_power g like = read_some PowerLost most (g 17) 4096 gates batches end durable (like_lie g like) (ap (opens PowerLost) (like_closed g like)) (few_gates f0 gates batches end sound.lie sound.inside) sound.some (like_first g like)
 
   -- what a stop leaves meanwhile
-  pub like_leaves : (stop : Stop) (f g : Folder) → may_leave old stop f → SameUnits f g → Like g
+  pub like_leaves : (stop : Stop) (f g : Folder) → may_leave old stop f → SameUnitFiles f g → Like g
       → (journal_of stop g ≡ journal_of stop f) ⊎ ((count : ℕ) × (length (journal_of stop f) ≤ count) × (count ≤ length batches) × (journal_of stop g ≡ take count batches))
   like_leaves Killed f g was others like = inl (like_killed g like ∙ sym (sound_killed f was))
   like_leaves PowerLost f g was others like =

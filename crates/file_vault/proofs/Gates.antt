@@ -1,7 +1,7 @@
 -- The gate of a batch, by its index.
 use Rattle.std.proofs.Common.{◌≡◌, ◌≤◌, ◌<◌, ℕ, zero, suc, ◌+◌, ◌-◌, List, [], ◌∷◌, Result, Ok, Err, refl, sym, ◌∙◌, ap, subst, arith, length, length-drop, take, drop, get_or}
 use Rattle.std.specs.Prelude.{IfErr}
-use Rattle.extent_groups.specs.Planned.{Wanted}
+use Rattle.extent_groups.specs.Planned.{Intended}
 use Rattle.vault.specs.declared.store.Stop.{Stop}
 use Rattle.vault.specs.declared.store.VaultError.{VaultError}
 use Rattle.vault.specs.declared.store.VaultError.TheVariants.{Memory}
@@ -22,7 +22,7 @@ gate_out (s ∷ ss) end zero past = absurd (omega (arith, past))
 gate_out (s ∷ ss) end (suc index) past = gate_out ss end index (omega (arith, past))
 
 -- the same journal, by equal numbers
-pub sound_as : {F : Type 0} (seen : F → Folder) (may_leave : F → Stop → Folder → Type 0) (files : F) (gates gates2 : List ℕ) (batches : List (List Wanted)) (end end2 durable durable2 : ℕ)
+pub sound_as : {F : Type 0} (seen : F → Folder) (may_leave : F → Stop → Folder → Type 0) (files : F) (gates gates2 : List ℕ) (batches : List (List Intended)) (end end2 durable durable2 : ℕ)
     → IsSound seen may_leave files gates batches end durable → gates ≡ gates2 → end ≡ end2 → durable ≡ durable2 → IsSound seen may_leave files gates2 batches end2 durable2
 sound_as seen may_leave files gates gates2 batches end end2 durable durable2 sound same_gates same_end same_durable =
     subst (λ (l : List ℕ). IsSound seen may_leave files l batches end2 durable2) same_gates

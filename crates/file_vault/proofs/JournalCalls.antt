@@ -5,15 +5,15 @@ use Rattle.std.proofs.lemmas.Bool.{ne_eqb, lt-ltb, le-ltb}
 use Rattle.std.proofs.lemmas.List.{take_all}
 use Rattle.extent_groups.specs.declared.place.Place.{Place}
 use Rattle.extent_groups.specs.Cells.{held}
-use Rattle.extent_groups.specs.Planned.{Wanted}
+use Rattle.extent_groups.specs.Planned.{Intended}
 use Rattle.vault.specs.declared.store.Stop.{Stop}
 use Rattle.vault.specs.declared.store.Stop.TheVariants.{Killed, PowerLost}
 use Rattle.vault.specs.Coding.{decoded, IsCode}
 use Rattle.vault.specs.Images.{Image, Alike, with_journal, is_lost, SameOn}
-use Rattle.vault.specs.Moments.{Within, HasJournal, HasUnits, has_batch, with_or_without, more_batches, emptied}
+use Rattle.vault.specs.Moments.{Within, HasJournal, HasUnitsAtStop, has_batch, with_or_without, more_batches, emptied}
 use Rattle.file_vault.specs.Folders.{Bytes, Folder, part, HasFile}
 use Rattle.file_vault.specs.Layouts.{Plan, count_of, cells_of}
-use Rattle.file_vault.specs.Journals.{body_at, next_at, AreAt, gate_at, journal_of, image_of, IsSound, SameUnits, leaves_all, leaves_either, leaves_more}
+use Rattle.file_vault.specs.Journals.{body_at, next_at, AreAt, gate_at, journal_of, image_of, IsSound, SameUnitFiles, leaves_all, leaves_either, leaves_more}
 use Rattle.file_vault.specs.Vaults.{left_of}
 use Rattle.file_vault.proofs.Chains.{as_many, gate_within}
 use Rattle.file_vault.proofs.Gates.{body_between}
@@ -33,7 +33,7 @@ count_past counts drive past =
     ∙ ap (λ b. if b then get_or counts drive 0 else 0) (le-ltb drive 16 (omega (arith, past)))
 
 -- one batch among others: its gate, and the next one's
-pub batch_at : (f : Bytes) (at : ℕ) (gates : List ℕ) (batches : List (List Wanted)) (end index : ℕ) → AreAt f at gates batches end → index < length gates
+pub batch_at : (f : Bytes) (at : ℕ) (gates : List ℕ) (batches : List (List Intended)) (end index : ℕ) → AreAt f at gates batches end → index < length gates
     → IsCode (body_at f (gate_at gates end index)) × (slice_get batches index ≡ Some (decoded (body_at f (gate_at gates end index)))) × (gate_at gates end (index + 1) ≡ next_at f (gate_at gates end index))
 batch_at f at [] bs end index are low = absurd (omega (arith, low))
 batch_at f at (s ∷ ss) [] end index are low = absurd are
@@ -43,7 +43,7 @@ batch_at f at (s ∷ ss) (b ∷ bs) end zero (is, code, back, more) low = (
   first_of ss bs more ∙ ap (λ n. next_at f n) (sym is),
 )
   where
-    first_of : (gs : List ℕ) (ws : List (List Wanted)) → AreAt f (next_at f at) gs ws end → gate_at gs end 0 ≡ next_at f at
+    first_of : (gs : List ℕ) (ws : List (List Intended)) → AreAt f (next_at f at) gs ws end → gate_at gs end 0 ≡ next_at f at
     first_of [] [] e = sym e
     first_of [] (w ∷ ws) e = absurd e
     first_of (g ∷ gs) [] e = absurd e
@@ -57,7 +57,7 @@ module _ (plan : Plan) where
   both_none f g x none = none_at plan g x (omega (arith, none)) ∙ sym (none_at plan f x (omega (arith, none)))
 
   -- the same units where only the journal's file is another
-  pub cells_but : (f g : Folder) → SameUnits f g → (x : Place) → held (cells_of plan g) x ≡ held (cells_of plan f) x
+  pub cells_but : (f g : Folder) → SameUnitFiles f g → (x : Place) → held (cells_of plan g) x ≡ held (cells_of plan f) x
   cells_but f g same x = elim (below_or x.drive 17) [
     | inl under ↦ cells_same plan f g x (same x.drive (λ e. omega (arith, e, under)))
     | inr rest ↦ elim rest [
@@ -66,15 +66,15 @@ module _ (plan : Plan) where
     ]
   ]
 
-  pub cells_are : (f g : Folder) → SameUnits f g → cells_of plan g ≡ cells_of plan f
+  pub cells_are : (f g : Folder) → SameUnitFiles f g → cells_of plan g ≡ cells_of plan f
   cells_are f g same i drive at = (cells_but f g same (record { drive = drive; address = at })) i
 
-  pub images_are : (stop : Stop) (f g : Folder) → SameUnits f g → journal_of stop g ≡ journal_of stop f → image_of plan stop g ≡ image_of plan stop f
+  pub images_are : (stop : Stop) (f g : Folder) → SameUnitFiles f g → journal_of stop g ≡ journal_of stop f → image_of plan stop g ≡ image_of plan stop f
   images_are stop f g same e i = record { cells = cells_are f g same i; journal = e i }
 
   -- what each stop leaves of drives whose files are durable
   pub units_durable : (lost : List Bool) (stop : Stop) (f : Folder) (outcomes : Folder → Type 0) → ((d : ℕ) → d < 16 → is_lost lost d ≡ false → get_or plan.counts d 0 ≢ 0 → HasFile d f outcomes) → HasFile 16 f outcomes
-      → HasUnits lost (cells_of plan f) (λ i. left_of plan stop outcomes i)
+      → HasUnitsAtStop lost (cells_of plan f) (λ i. left_of plan stop outcomes i)
   units_durable lost stop f outcomes synced table i (g, now, is) = subst (λ (j : Image). SameOn lost j.cells (cells_of plan f)) (sym is) same
     where
       at_drive : (x : Place) → x.drive < 16 → is_lost lost x.drive ≡ false → held (cells_of plan g) x ≡ held (cells_of plan f) x
@@ -95,14 +95,14 @@ module _ (plan : Plan) where
         ]
       ]
 
-  all_new : {F : Type 0} (seen : F → Folder) (may_leave : F → Stop → Folder → Type 0) (new : F) (gates : List ℕ) (batches : List (List Wanted)) (end : ℕ) → IsSound seen may_leave new gates batches end (length gates)
+  all_new : {F : Type 0} (seen : F → Folder) (may_leave : F → Stop → Folder → Type 0) (new : F) (gates : List ℕ) (batches : List (List Intended)) (end : ℕ) → IsSound seen may_leave new gates batches end (length gates)
       → (stop : Stop) → HasJournal batches (λ i. left_of plan stop (may_leave new stop) i)
   all_new seen may_leave new gates batches end sound Killed i (g, now, is) = ap (λ (j : Image). j.journal) is ∙ sound_killed seen may_leave new gates batches end (length gates) sound g now
   all_new seen may_leave new gates batches end sound PowerLost i (g, now, is) =
       ap (λ (j : Image). j.journal) is ∙ sound_power seen may_leave new gates batches end (length gates) sound g now
       ∙ take_all (length gates) batches (omega (arith, as_many (seen new 17) 4096 gates batches end sound.lie))
 
-  module _ {F : Type 0} (seen : F → Folder) (may_leave : F → Stop → Folder → Type 0) (old : F) (gates : List ℕ) (batches : List (List Wanted)) (end durable : ℕ) (sound : IsSound seen may_leave old gates batches end durable) where
+  module _ {F : Type 0} (seen : F → Folder) (may_leave : F → Stop → Folder → Type 0) (old : F) (gates : List ℕ) (batches : List (List Intended)) (end durable : ℕ) (sound : IsSound seen may_leave old gates batches end durable) where
     seen_is : journal_of Killed (seen old) ≡ batches
     seen_is = sound_seen seen may_leave old gates batches end durable sound
 
@@ -110,12 +110,12 @@ module _ (plan : Plan) where
     counted = sym (ap length seen_is ∙ as_many (seen old 17) 4096 gates batches end sound.lie)
 
     -- a batch is appended
-    pub append_to : (stop : Stop) (batch : List Wanted) (g : Folder) → leaves_either stop (batches ++ batch ∷ []) (may_leave old stop) g
+    pub append_to : (stop : Stop) (batch : List Intended) (g : Folder) → leaves_either stop (batches ++ batch ∷ []) (may_leave old stop) g
         → with_or_without (image_of plan Killed (seen old)) batch (λ i. left_of plan stop (may_leave old stop) i) (image_of plan stop g)
     append_to stop batch g (f, was, same, inl as_was) = inl (f, was, images_are stop f g same as_was)
     append_to stop batch g (f, was, same, inr more) = inr (image_of plan stop f, (f, was, refl), cells_but f g same, more ∙ ap (λ bs. bs ++ batch ∷ []) (sym seen_is))
 
-    pub append_killed : (batch : List Wanted) (later : Folder → Type 0) → Within later (leaves_all Killed (batches ++ batch ∷ []) (may_leave old Killed))
+    pub append_killed : (batch : List Intended) (later : Folder → Type 0) → Within later (leaves_all Killed (batches ++ batch ∷ []) (may_leave old Killed))
         → Within (λ i. left_of plan Killed later i) (has_batch (image_of plan Killed (seen old)) batch (λ i. left_of plan Killed (may_leave old Killed) i))
     append_killed batch later to i (g, now, is) =
         let from = to g now in (
@@ -125,7 +125,7 @@ module _ (plan : Plan) where
           ap (λ (j : Image). j.journal) is ∙ from.3 ∙ ap (λ bs. bs ++ batch ∷ []) (sym seen_is),
         )
 
-    pub appended : (new : F) (batch : List Wanted) (last later : ℕ) → SameUnits (seen old) (seen new) → IsSound seen may_leave new (gates ++ end ∷ []) (batches ++ batch ∷ []) last later
+    pub appended : (new : F) (batch : List Intended) (last later : ℕ) → SameUnitFiles (seen old) (seen new) → IsSound seen may_leave new (gates ++ end ∷ []) (batches ++ batch ∷ []) last later
         → Alike (image_of plan Killed (seen new)) (with_journal (image_of plan Killed (seen old)) (journal_of Killed (seen old) ++ batch ∷ []))
     appended new batch last later same is = record {
       cells = cells_but (seen old) (seen new) same;
@@ -138,7 +138,7 @@ module _ (plan : Plan) where
     flush_to stop g (f, was, same, inr (count, least, most, is)) =
         (image_of plan stop f, (f, was, refl), cells_but f g same, inr (count, least, omega (arith, most, ap length seen_is), is ∙ ap (λ bs. take count bs) (sym seen_is)))
 
-    pub flush_seen : (new : F) → SameUnits (seen old) (seen new) → journal_of Killed (seen new) ≡ batches → image_of plan Killed (seen new) ≡ image_of plan Killed (seen old)
+    pub flush_seen : (new : F) → SameUnitFiles (seen old) (seen new) → journal_of Killed (seen new) ≡ batches → image_of plan Killed (seen new) ≡ image_of plan Killed (seen old)
     flush_seen new same is = images_are Killed (seen old) (seen new) same (is ∙ sym seen_is)
 
     -- each stop leaves all batches of a journal that is durable
@@ -171,7 +171,7 @@ module _ (plan : Plan) where
   pub clear_to : (stop : Stop) (outcomes : Folder → Type 0) (g : Folder) → leaves_either stop [] outcomes g → emptied (λ i. left_of plan stop outcomes i) (image_of plan stop g)
   clear_to stop outcomes g (f, was, same, which) = (image_of plan stop f, (f, was, refl), record { cells = cells_but f g same; journal = which })
 
-  pub cleared : (f g : Folder) → SameUnits f g → journal_of Killed g ≡ [] → Alike (image_of plan Killed g) (with_journal (image_of plan Killed f) [])
+  pub cleared : (f g : Folder) → SameUnitFiles f g → journal_of Killed g ≡ [] → Alike (image_of plan Killed g) (with_journal (image_of plan Killed f) [])
   cleared f g same is = record { cells = cells_but f g same; journal = is }
 
 -- the journal stays as it is

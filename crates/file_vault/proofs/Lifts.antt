@@ -1,6 +1,6 @@
 -- What files stand for, from what the files' calls leave.
 use Rattle.std.proofs.Common.{◌≡◌, ◌≤◌, inl, inr, ⊎_elim, ℕ, sym, ◌∙◌, ap, subst, arith, List, take, Bool}
-use Rattle.extent_groups.specs.Planned.{Wanted}
+use Rattle.extent_groups.specs.Planned.{Intended}
 use Rattle.vault.specs.declared.store.Stop.{Stop}
 use Rattle.vault.specs.declared.store.Stop.TheVariants.{Killed, PowerLost}
 use Rattle.vault.specs.Images.{Image}
@@ -10,13 +10,13 @@ use Rattle.file_vault.specs.Layouts.{Plan}
 use Rattle.file_vault.specs.Journals.{IsSound, AreAt, AreOpen, opens, gate_at, image_of}
 use Rattle.file_vault.specs.Vaults.{left_of, IsKnown}
 use Rattle.file_vault.specs.Headers.{boot_in}
-use Rattle.file_vault.specs.Openings.{found_of, rule_only}
+use Rattle.file_vault.specs.Openings.{found_at_opening, rule_only}
 use Rattle.file_vault.proofs.Boots.{boot_on}
 
 -- time goes on for what files stand for
 pub lifted : (plan : Plan) (boot : List ℕ) (stop : Stop) (m0 m1 : ℕ) (past since : ℕ → Folder → Type 0) (during leaves : Folder → Type 0) (images : Image → Type 0) → Elapses m0 m1 past since during leaves
     → ((g : Folder) → during g → boot_in g ≡ boot) → ((g : Folder) → during g → images (image_of plan stop g))
-    → Elapses m0 m1 (λ t i. found_of plan boot stop (past t) i) (λ t i. found_of plan boot stop (since t) i) images (λ i. left_of plan stop leaves i)
+    → Elapses m0 m1 (λ t i. found_at_opening plan boot stop (past t) i) (λ t i. found_at_opening plan boot stop (since t) i) images (λ i. left_of plan stop leaves i)
 lifted plan boot stop m0 m1 past since during leaves images time has to = record {
   later = time.later;
   nothing_else = λ t i le left. ⊎_elim (λ was. inl (left.0, was, left.2, left.3, left.4))
@@ -30,7 +30,7 @@ pub at_once : {I : Type 0} (m : ℕ) (since : ℕ → I → Type 0) (during leav
 at_once m since during leaves to = record { later = omega arith; nothing_else = λ t i le left. inl left; keeps = λ t i le left. left; ends = to }
 
 -- a sound journal stays where its file stays as it is
-pub sound_on : {F : Type 0} (seen : F → Folder) (may_leave : F → Stop → Folder → Type 0) (old new : F) (gates : List ℕ) (batches : List (List Wanted)) (end durable : ℕ) → IsSound seen may_leave old gates batches end durable
+pub sound_on : {F : Type 0} (seen : F → Folder) (may_leave : F → Stop → Folder → Type 0) (old new : F) (gates : List ℕ) (batches : List (List Intended)) (end durable : ℕ) → IsSound seen may_leave old gates batches end durable
     → seen new 17 ≡ seen old 17 → ((stop : Stop) (g : Folder) → may_leave new stop g → (f : Folder) × may_leave old stop f × (g 17 ≡ f 17)) → IsSound seen may_leave new gates batches end durable
 sound_on seen may_leave old new gates batches end durable sound same leaves = record {
   lie = subst (λ (b : Bytes). AreAt b 4096 gates batches end) (sym same) sound.lie;

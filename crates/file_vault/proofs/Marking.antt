@@ -1,6 +1,6 @@
 -- Gates that are made 2s, some of them or all, and what each stop reads meanwhile.
 use Rattle.std.proofs.Common.{◌≡◌, ◌≤◌, ◌<◌, ◌⊎◌, inl, inr, ⊎_elim, ℕ, zero, suc, ◌+◌, ◌-◌, Bool, true, false, if◌then◌else◌, List, [], ◌∷◌, refl, sym, ◌∙◌, ap, subst, arith, length, take, drop, get_or}
-use Rattle.extent_groups.specs.Planned.{Wanted}
+use Rattle.extent_groups.specs.Planned.{Intended}
 use Rattle.vault.specs.declared.store.Stop.{Stop}
 use Rattle.vault.specs.Coding.{number, decoded, IsCode}
 use Rattle.vault.specs.Moments.{Elapses, Within}
@@ -11,7 +11,7 @@ use Rattle.file_vault.proofs.Puts.{below_or, both_elapse}
 use Rattle.std.proofs.lemmas.Bool.{true≢false}
 
 -- a gate is no lower than the first place, and lies before the end
-pub among_past : (f : Bytes) (at : ℕ) (gates : List ℕ) (batches : List (List Wanted)) (end k : ℕ) → AreAt f at gates batches end → IsAmong gates k → (at ≤ k) × (k + 9 ≤ end)
+pub among_past : (f : Bytes) (at : ℕ) (gates : List ℕ) (batches : List (List Intended)) (end k : ℕ) → AreAt f at gates batches end → IsAmong gates k → (at ≤ k) × (k + 9 ≤ end)
 among_past f at [] bs end k are among = absurd among
 among_past f at (s ∷ ss) [] end k are among = absurd are
 among_past f at (s ∷ ss) (b ∷ bs) end k (is, code, back, more) among = elim among [
@@ -20,7 +20,7 @@ among_past f at (s ∷ ss) (b ∷ bs) end k (is, code, back, more) among = elim 
 ]
 
 -- a chain stays where only gates are changed
-pub are_like : (f g : Bytes) (at : ℕ) (gates : List ℕ) (batches : List (List Wanted)) (end : ℕ) → AreAt f at gates batches end → ((k : ℕ) → at ≤ k → k < end → (g k ≡ f k) ⊎ IsAmong gates k) → AreAt g at gates batches end
+pub are_like : (f g : Bytes) (at : ℕ) (gates : List ℕ) (batches : List (List Intended)) (end : ℕ) → AreAt f at gates batches end → ((k : ℕ) → at ≤ k → k < end → (g k ≡ f k) ⊎ IsAmong gates k) → AreAt g at gates batches end
 are_like f g at [] [] end are like = are
 are_like f g at [] (b ∷ bs) end are like = absurd are
 are_like f g at (s ∷ ss) [] end are like = absurd are
@@ -48,7 +48,7 @@ are_like f g at (s ∷ ss) (b ∷ bs) end (is, code, back, more) like =
     )
 
 -- some of the first batches are read, as many as gates are open at least
-pub read_some : (stop : Stop) (m : ℕ) (g : Bytes) (at : ℕ) (gates : List ℕ) (batches : List (List Wanted)) (end low : ℕ) → AreAt g at gates batches end → opens stop (g end) ≡ false → length gates < m → low ≤ length gates → AreOpen stop g (take low gates)
+pub read_some : (stop : Stop) (m : ℕ) (g : Bytes) (at : ℕ) (gates : List ℕ) (batches : List (List Intended)) (end low : ℕ) → AreAt g at gates batches end → opens stop (g end) ≡ false → length gates < m → low ≤ length gates → AreOpen stop g (take low gates)
     → (count : ℕ) × (low ≤ count) × (count ≤ length batches) × (batches_from stop m g at ≡ take count batches)
 read_some stop zero g at gates batches end low are shut few le ajar = absurd (omega (arith, few))
 read_some stop (suc m) g at [] [] end low are shut few le ajar =

@@ -9,10 +9,10 @@ use Rattle.file_vault.specs.declared.twin.Twin.{Twin}
 use Rattle.file_vault.specs.declared.twin.Twin.TheVariants.{First, Second}
 use Rattle.file_vault.specs.declared.held.Held.{Held}
 use Rattle.file_vault.specs.declared.held.Held.TheVariants.{Both, Only, Neither}
-use Rattle.file_vault.specs.Twins.{file_of, count_in, Counts, behind_of, seen_as, Shows, shown, lead_of, AreAlike, IsHeld, IsKept, HasSucceeded, SameBoth}
+use Rattle.file_vault.specs.Twins.{file_of, count_in, Counts, after_first_block, seen_as, MergesTwins, shown, lead_of, AreAlike, IsHeld, IsAvailable, HasSucceeded, SameBoth}
 use Rattle.file_vault.proofs.Puts.{below_or, both_elapse}
 use Rattle.file_vault.proofs.Replayed.{whole_mixed, none_mixed}
-use Rattle.file_vault.proofs.Shown.{both_still, behind_at, behind_eq, count_same, with_other, which_file, WroteBehind, MixedBehind, shown_wrote, shown_mixed}
+use Rattle.file_vault.proofs.Shown.{both_still, after_header_at, following_eq, count_same, with_other, which_file, WroteFollowing, MixedFollowing, shown_wrote, shown_mixed}
 
 pub ok_then : {T E : Type 0} (r : Result T E) (P : Type 0) → OnOk r P → is_ok r ≡ true → P
 ok_then (Ok x) P ok is = ok
@@ -20,20 +20,20 @@ ok_then (Err e) P ok is = absurd (false≢true is)
 
 -- of a file that counts the call succeeded
 module _ {F : Type 0} (seen : F → Folder) (may_leave : F → Stop → Folder → Type 0) (files : F) (first second : Bool) (stop : Stop) (g : Folder) (now : may_leave files stop g) where
-  pub first_done : (held : Held) → HasSucceeded first second held → IsKept held → IsHeld seen may_leave files held → Counts g First → first ≡ true
+  pub first_done : (held : Held) → HasSucceeded first second held → IsAvailable held → IsHeld seen may_leave files held → Counts g First → first ≡ true
   first_done (Both count) done kept is counts = done.0
   first_done (Only First count) done kept is counts = done
   first_done (Only Second count) done kept is counts = absurd (let ahead = is stop g now in omega (arith, counts, ahead.0, ahead.1))
   first_done Neither done kept is counts = absurd kept
 
-  pub second_done : (held : Held) → HasSucceeded first second held → IsKept held → IsHeld seen may_leave files held → Counts g Second → second ≡ true
+  pub second_done : (held : Held) → HasSucceeded first second held → IsAvailable held → IsHeld seen may_leave files held → Counts g Second → second ≡ true
   second_done (Both count) done kept is counts = done.1
   second_done (Only First count) done kept is counts = absurd (let ahead = is stop g now in omega (arith, counts, ahead.0, ahead.1))
   second_done (Only Second count) done kept is counts = done
   second_done Neither done kept is counts = absurd kept
 
 -- of the one that is read it succeeded
-pub lead_done : (first second : Bool) (held : Held) (P : Twin → Type 0) → HasSucceeded first second held → IsKept held → (first ≡ true → P First) → (second ≡ true → P Second) → P (lead_of held)
+pub lead_done : (first second : Bool) (held : Held) (P : Twin → Type 0) → HasSucceeded first second held → IsAvailable held → (first ≡ true → P First) → (second ≡ true → P Second) → P (lead_of held)
 lead_done first second (Both count) P done kept one two = one done.0
 lead_done first second (Only First count) P done kept one two = one done
 lead_done first second (Only Second count) P done kept one two = two done
@@ -46,8 +46,8 @@ lead_either (Only Second count) P one two = two
 lead_either Neither P one two = one
 
 -- bytes that were read after the first block
-pub reads_behind : (b c : Bytes) (at : ℕ) (bytes : List ℕ) → 4096 ≤ at → ((k : ℕ) → 4096 ≤ k → b k ≡ c k) → Reads b at bytes → Reads (behind_of c) at bytes
-reads_behind b c at bytes past same reads j low = reads j low ∙ same (at + j) (omega (arith, past)) ∙ sym (behind_at c (at + j) (omega (arith, past)))
+pub reads_following : (b c : Bytes) (at : ℕ) (bytes : List ℕ) → 4096 ≤ at → ((k : ℕ) → 4096 ≤ k → b k ≡ c k) → Reads b at bytes → Reads (after_first_block c) at bytes
+reads_following b c at bytes past same reads j low = reads j low ∙ same (at + j) (omega (arith, past)) ∙ sym (after_header_at c (at + j) (omega (arith, past)))
 
 -- a write after the first block keeps the counts
 pub mixed_low : (file at : ℕ) (bytes : List ℕ) (f g : Folder) (d k : ℕ) → Mixed file at bytes f g → k < at → g d k ≡ f d k
@@ -86,7 +86,7 @@ module _ (at : ℕ) (bytes : List ℕ) (past : 4096 ≤ at) (f e g s : Folder) (
   there : e 18 ≡ f 18
   there = m1.others 18 (λ is. omega (arith, is))
 
-  pub first_mixed : MixedBehind at bytes (f 17) (s 17)
+  pub first_mixed : MixedFollowing at bytes (f 17) (s 17)
   first_mixed = record {
     inside = λ j low.
         let to : s 17 (at + j) ≡ e 17 (at + j) = same.first (at + j) (omega (arith, past)) ∙ ap (λ (b : Bytes). b (at + j)) (sym here) in
@@ -94,7 +94,7 @@ module _ (at : ℕ) (bytes : List ℕ) (past : 4096 ≤ at) (f e g s : Folder) (
     outside = λ k out more. same.first k more ∙ ap (λ (b : Bytes). b k) (sym here) ∙ m1.outside k out;
   }
 
-  pub second_mixed : MixedBehind at bytes (f 18) (s 18)
+  pub second_mixed : MixedFollowing at bytes (f 18) (s 18)
   second_mixed = record {
     inside = λ j low.
         let to : s 18 (at + j) ≡ g 18 (at + j) = same.second (at + j) (omega (arith, past)) in
@@ -102,13 +102,13 @@ module _ (at : ℕ) (bytes : List ℕ) (past : 4096 ≤ at) (f e g s : Folder) (
     outside = λ k out more. same.second k more ∙ m2.outside k out ∙ ap (λ (b : Bytes). b k) there;
   }
 
-  pub first_wrote : Wrote 17 at bytes f e → WroteBehind at bytes (f 17) (s 17)
+  pub first_wrote : Wrote 17 at bytes f e → WroteFollowing at bytes (f 17) (s 17)
   first_wrote wrote = record {
     inside = λ j low. same.first (at + j) (omega (arith, past)) ∙ ap (λ (b : Bytes). b (at + j)) (sym here) ∙ wrote.inside j low;
     outside = first_mixed.outside;
   }
 
-  pub second_wrote : Wrote 18 at bytes e g → WroteBehind at bytes (f 18) (s 18)
+  pub second_wrote : Wrote 18 at bytes e g → WroteFollowing at bytes (f 18) (s 18)
   second_wrote wrote = record {
     inside = λ j low. same.second (at + j) (omega (arith, past)) ∙ wrote.inside j low;
     outside = second_mixed.outside;
@@ -145,25 +145,25 @@ seen_others twin f s others d n17 = elim (which_file d) [
   ]
 ]
 
-pub seen_wrote : (at : ℕ) (bytes : List ℕ) (twin : Twin) (f s : Folder) → 4096 ≤ at → ((d : ℕ) → d ≢ 17 → d ≢ 18 → s d ≡ f d) → WroteBehind at bytes (f 17) (s (file_of twin)) → Wrote 17 at bytes (seen_as First f) (seen_as twin s)
+pub seen_wrote : (at : ℕ) (bytes : List ℕ) (twin : Twin) (f s : Folder) → 4096 ≤ at → ((d : ℕ) → d ≢ 17 → d ≢ 18 → s d ≡ f d) → WroteFollowing at bytes (f 17) (s (file_of twin)) → Wrote 17 at bytes (seen_as First f) (seen_as twin s)
 seen_wrote at bytes twin f s past others wrote = record {
-  inside = λ j low. behind_at (s (file_of twin)) (at + j) (omega (arith, past)) ∙ wrote.inside j low;
-  outside = λ k out. behind_eq (f 17) (s (file_of twin)) k (λ more. wrote.outside k out more);
+  inside = λ j low. after_header_at (s (file_of twin)) (at + j) (omega (arith, past)) ∙ wrote.inside j low;
+  outside = λ k out. following_eq (f 17) (s (file_of twin)) k (λ more. wrote.outside k out more);
   others = seen_others twin f s others;
 }
 
-pub seen_mixed : (at : ℕ) (bytes : List ℕ) (twin : Twin) (f s : Folder) → 4096 ≤ at → ((d : ℕ) → d ≢ 17 → d ≢ 18 → s d ≡ f d) → MixedBehind at bytes (f 17) (s (file_of twin)) → Mixed 17 at bytes (seen_as First f) (seen_as twin s)
+pub seen_mixed : (at : ℕ) (bytes : List ℕ) (twin : Twin) (f s : Folder) → 4096 ≤ at → ((d : ℕ) → d ≢ 17 → d ≢ 18 → s d ≡ f d) → MixedFollowing at bytes (f 17) (s (file_of twin)) → Mixed 17 at bytes (seen_as First f) (seen_as twin s)
 seen_mixed at bytes twin f s past others mixed = record {
-  inside = λ j low. ⊎_elim (λ was. inl (behind_eq (f 17) (s (file_of twin)) (at + j) (λ more. was))) (λ made. inr (behind_at (s (file_of twin)) (at + j) (omega (arith, past)) ∙ made)) (mixed.inside j low);
-  outside = λ k out. behind_eq (f 17) (s (file_of twin)) k (λ more. mixed.outside k out more);
+  inside = λ j low. ⊎_elim (λ was. inl (following_eq (f 17) (s (file_of twin)) (at + j) (λ more. was))) (λ made. inr (after_header_at (s (file_of twin)) (at + j) (omega (arith, past)) ∙ made)) (mixed.inside j low);
+  outside = λ k out. following_eq (f 17) (s (file_of twin)) k (λ more. mixed.outside k out more);
   others = seen_others twin f s others;
 }
 
 -- the same, from a file that was the same
-pub wrote_from : (at : ℕ) (bytes : List ℕ) (b c d : Bytes) → ((k : ℕ) → 4096 ≤ k → b k ≡ c k) → WroteBehind at bytes c d → WroteBehind at bytes b d
+pub wrote_from : (at : ℕ) (bytes : List ℕ) (b c d : Bytes) → ((k : ℕ) → 4096 ≤ k → b k ≡ c k) → WroteFollowing at bytes c d → WroteFollowing at bytes b d
 wrote_from at bytes b c d same wrote = record { inside = wrote.inside; outside = λ k out more. wrote.outside k out more ∙ sym (same k more) }
 
-pub mixed_from : (at : ℕ) (bytes : List ℕ) (b c d : Bytes) → 4096 ≤ at → ((k : ℕ) → 4096 ≤ k → b k ≡ c k) → MixedBehind at bytes c d → MixedBehind at bytes b d
+pub mixed_from : (at : ℕ) (bytes : List ℕ) (b c d : Bytes) → 4096 ≤ at → ((k : ℕ) → 4096 ≤ k → b k ≡ c k) → MixedFollowing at bytes c d → MixedFollowing at bytes b d
 mixed_from at bytes b c d past same mixed = record {
   inside = λ j low. ⊎_elim (λ was. inl (was ∙ sym (same (at + j) (omega (arith, past))))) (λ made. inr made) (mixed.inside j low);
   outside = λ k out more. mixed.outside k out more ∙ sym (same k more);
@@ -214,7 +214,7 @@ killed_both at bytes false false m0 m1 m2 w1 x1 w2 x2 g now =
     let one = x1 two.0 two.1 in
     record { f = one.0; was = one.1; e = two.0; m1 = one.2; m2 = two.2; w1 = λ is. absurd (false≢true is); w2 = λ is. absurd (false≢true is) }
 
-pub killed_shown : (at : ℕ) (bytes : List ℕ) (first second : Bool) (outcomes : Folder → Type 0) (g s h : Folder) → 4096 ≤ at → Killed at bytes first second outcomes g → SameBoth g s → Shows s h
+pub killed_shown : (at : ℕ) (bytes : List ℕ) (first second : Bool) (outcomes : Folder → Type 0) (g s h : Folder) → 4096 ≤ at → Killed at bytes first second outcomes g → SameBoth g s → MergesTwins s h
     → (Counts s First → first ≡ true) → (Counts s Second → second ≡ true) → ((f : Folder) → outcomes f → Counts f First × Counts f Second) → wrote_at 17 at bytes (λ x. shown outcomes x) h
 killed_shown at bytes first second outcomes g s h past k same shows one two even =
     let both = even k.f k.was in
@@ -226,7 +226,7 @@ pub even_counts : (count : ℕ) (g : Folder) → (count_in (g 17) ≡ count) × 
 even_counts count g (one, two) = (omega (arith, one, two), omega (arith, one, two))
 
 -- the second file was read, where the first one wasn't
-pub read_second : (second : Bool) (held : Held) → HasSucceeded false second held → IsKept held → second ≡ true
+pub read_second : (second : Bool) (held : Held) → HasSucceeded false second held → IsAvailable held → second ≡ true
 read_second second (Both count) done kept = done.1
 read_second second (Only First count) done kept = absurd (false≢true done)
 read_second second (Only Second count) done kept = done

@@ -1,14 +1,14 @@
 -- A batch that is put after the closed gate of a journal, byte by byte, and what each stop leaves of it.
 use Rattle.std.proofs.Common.{◌≡◌, ◌≤◌, ◌<◌, ◌⊎◌, inl, inr, ⊎_elim, ℕ, zero, suc, ◌+◌, ◌^◌, true, false, List, [], ◌∷◌, ◌++◌, refl, sym, ◌∙◌, ap, subst, arith, length, length-append, length-drop, take, drop, get_or}
 use Rattle.std.proofs.lemmas.List.{take_at, drop_at, take-append-le, get_or-append-add, append-nil}
-use Rattle.extent_groups.specs.Planned.{Wanted}
+use Rattle.extent_groups.specs.Planned.{Intended}
 use Rattle.vault.specs.declared.store.Stop.{Stop}
 use Rattle.vault.specs.declared.store.Stop.TheVariants.{Killed, PowerLost}
 use Rattle.vault.specs.Coding.{word, number, decoded, IsCode}
 use Rattle.vault.specs.Moments.{Elapses, Within}
 use Rattle.vault.proofs.Codes.{length-word, number-word}
 use Rattle.file_vault.specs.Folders.{Bytes, Folder, part, Wrote, Mixed, wrote_at, mixed_at}
-use Rattle.file_vault.specs.Journals.{length_at, body_at, next_at, opens, batches_from, AreAt, AreOpen, gate_at, most, journal_of, IsDurable, IsSound, IsRecord, SameUnits, leaves_all, leaves_either, MayPut}
+use Rattle.file_vault.specs.Journals.{length_at, body_at, next_at, opens, batches_from, AreAt, AreOpen, gate_at, most, journal_of, IsDurable, IsSound, IsBatchRecord, SameUnitFiles, leaves_all, leaves_either, MayPut}
 use Rattle.file_vault.proofs.Chains.{end_past, read_all, first_at, gate_within, are_same, one_more}
 
 -- bytes that are read where others were written
@@ -20,12 +20,12 @@ part_is f at (suc count) (x ∷ xs) le is =
     ∙ ap (λ bs. x ∷ bs) (part_is f (suc at) count xs (omega (arith, le)) (λ j low. ap f (omega arith) ∙ is (suc j) (omega (arith, low))))
 
 -- so many batches can be read
-pub few_gates : (f : Bytes) (gates : List ℕ) (batches : List (List Wanted)) (end : ℕ) → AreAt f 4096 gates batches end → end ≤ 2 ^ 62 → length gates < most
+pub few_gates : (f : Bytes) (gates : List ℕ) (batches : List (List Intended)) (end : ℕ) → AreAt f 4096 gates batches end → end ≤ 2 ^ 62 → length gates < most
 unfolding most
 few_gates f gates batches end are inside = let past = end_past f 4096 gates batches end are in omega (arith, past, inside)
 
 -- open gates stay open where bytes are the same
-pub open_same : (stop : Stop) (f g : Bytes) (at : ℕ) (gates : List ℕ) (batches : List (List Wanted)) (end : ℕ) → AreAt f at gates batches end → ((k : ℕ) → at ≤ k → k < end → g k ≡ f k) → AreOpen stop f gates → AreOpen stop g gates
+pub open_same : (stop : Stop) (f g : Bytes) (at : ℕ) (gates : List ℕ) (batches : List (List Intended)) (end : ℕ) → AreAt f at gates batches end → ((k : ℕ) → at ≤ k → k < end → g k ≡ f k) → AreOpen stop f gates → AreOpen stop g gates
 open_same stop f g at [] bs end are same ajar = tt
 open_same stop f g at (s ∷ ss) [] end are same ajar = absurd are
 open_same stop f g at (s ∷ ss) (b ∷ bs) end (is, code, back, more) same ajar =
@@ -43,12 +43,12 @@ gate_more (s ∷ ss) gate end zero le = refl
 gate_more (s ∷ ss) gate end (suc count) le = gate_more ss gate end count (omega (arith, le))
 
 -- what a kill leaves of a journal up to a closed gate, and what a loss of power does
-pub killed_read : (f h : Bytes) (gates : List ℕ) (batches : List (List Wanted)) (end : ℕ) → AreAt f 4096 gates batches end → end ≤ 2 ^ 62 → AreOpen Killed f gates → ((k : ℕ) → 4096 ≤ k → k < end → h k ≡ f k) → h end ≡ 0
+pub killed_read : (f h : Bytes) (gates : List ℕ) (batches : List (List Intended)) (end : ℕ) → AreAt f 4096 gates batches end → end ≤ 2 ^ 62 → AreOpen Killed f gates → ((k : ℕ) → 4096 ≤ k → k < end → h k ≡ f k) → h end ≡ 0
     → batches_from Killed most h 4096 ≡ batches
 killed_read f h gates batches end are inside ajar same closed =
     read_all Killed most f h 4096 gates batches end are ajar same (ap (opens Killed) closed) (few_gates f gates batches end are inside)
 
-pub power_read : (f h : Bytes) (gates : List ℕ) (batches : List (List Wanted)) (end durable : ℕ) → AreAt f 4096 gates batches end → end ≤ 2 ^ 62 → durable ≤ length gates → AreOpen PowerLost f (take durable gates) → IsDurable f h gates durable end
+pub power_read : (f h : Bytes) (gates : List ℕ) (batches : List (List Intended)) (end durable : ℕ) → AreAt f 4096 gates batches end → end ≤ 2 ^ 62 → durable ≤ length gates → AreOpen PowerLost f (take durable gates) → IsDurable f h gates durable end
     → batches_from PowerLost most h 4096 ≡ take durable batches
 power_read f h gates batches end durable are inside some marked is =
     let first = first_at f 4096 durable gates batches end are some in
@@ -57,14 +57,14 @@ power_read f h gates batches end durable are inside some marked is =
     (few_gates f (take durable gates) (take durable batches) (gate_at gates end durable) first (let high = within.1 in omega (arith, high, inside)))
 
 -- a record after a gate
-module _ (bytes : List ℕ) (batch : List Wanted) (record_is : IsRecord bytes batch) where
+module _ (bytes : List ℕ) (batch : List Intended) (record_is : IsBatchRecord bytes batch) where
   long : length bytes ≡ 9 + length record_is.body
   long =
       ap length record_is.is ∙ length-append (word (length record_is.body)) (record_is.body ++ 0 ∷ [])
       ∙ omega (arith, length-word (length record_is.body), length-append record_is.body (0 ∷ []))
 
-  behind : drop 8 bytes ≡ record_is.body ++ 0 ∷ []
-  behind = ap (λ l. drop 8 l) record_is.is ∙ drop_at (word (length record_is.body)) (record_is.body ++ 0 ∷ []) 8 (length-word (length record_is.body))
+  following : drop 8 bytes ≡ record_is.body ++ 0 ∷ []
+  following = ap (λ l. drop 8 l) record_is.is ∙ drop_at (word (length record_is.body)) (record_is.body ++ 0 ∷ []) 8 (length-word (length record_is.body))
 
   module _ (h : Bytes) (gate : ℕ) (lies : (j : ℕ) → j < length bytes → h (gate + 1 + j) ≡ get_or bytes j 0) where
     length_is : length_at h gate ≡ length record_is.body
@@ -79,8 +79,8 @@ module _ (bytes : List ℕ) (batch : List Wanted) (record_is : IsRecord bytes ba
         ∙ part_is h (gate + 9) (length record_is.body) (drop 8 bytes) (omega (arith, length-drop 8 bytes, long))
         (λ j low. ap h (omega arith) ∙ lies (8 + j) (omega (arith, low, long)) ∙ ap (λ l. get_or l (8 + j) 0) record_is.is
         ∙ ap (λ n. get_or (word (length record_is.body) ++ (record_is.body ++ 0 ∷ [])) (n + j) 0) (sym (length-word (length record_is.body)))
-        ∙ get_or-append-add (word (length record_is.body)) (record_is.body ++ 0 ∷ []) j 0 ∙ ap (λ l. get_or l j 0) (sym behind))
-        ∙ ap (λ l. take (length record_is.body) l) behind ∙ take_at record_is.body (0 ∷ []) (length record_is.body) refl
+        ∙ get_or-append-add (word (length record_is.body)) (record_is.body ++ 0 ∷ []) j 0 ∙ ap (λ l. get_or l j 0) (sym following))
+        ∙ ap (λ l. take (length record_is.body) l) following ∙ take_at record_is.body (0 ∷ []) (length record_is.body) refl
 
     next_is : next_at h gate ≡ gate + length bytes
     next_is = ap (λ n. gate + 9 + n) length_is ∙ omega (arith, long)
@@ -93,7 +93,7 @@ module _ (bytes : List ℕ) (batch : List Wanted) (record_is : IsRecord bytes ba
         ∙ ap (λ n. get_or (record_is.body ++ 0 ∷ []) n 0) (omega arith) ∙ get_or-append-add record_is.body (0 ∷ []) 0 0
 
     -- one batch more lies in the journal
-    put_chain : (f : Bytes) (gates : List ℕ) (batches : List (List Wanted)) → AreAt f 4096 gates batches gate → ((k : ℕ) → 4096 ≤ k → k < gate → h k ≡ f k)
+    put_chain : (f : Bytes) (gates : List ℕ) (batches : List (List Intended)) → AreAt f 4096 gates batches gate → ((k : ℕ) → 4096 ≤ k → k < gate → h k ≡ f k)
         → AreAt h 4096 (gates ++ gate ∷ []) (batches ++ batch ∷ []) (gate + length bytes)
     put_chain f gates batches are same =
         subst (λ n. AreAt h 4096 (gates ++ gate ∷ []) (batches ++ batch ∷ []) n) next_is
@@ -128,7 +128,7 @@ below_or (suc k) (suc n) = elim (below_or k n) [
   | inr rest ↦ elim rest [ inl e ↦ inr (inl (ap (λ m. suc m) e)) | inr (j, e) ↦ inr (inr (j, omega (arith, e))) ]
 ]
 
-module _ {F : Type 0} (seen : F → Folder) (may_leave : F → Stop → Folder → Type 0) (old : F) (gates : List ℕ) (batches : List (List Wanted)) (gate durable : ℕ) (bytes : List ℕ) (batch : List Wanted)
+module _ {F : Type 0} (seen : F → Folder) (may_leave : F → Stop → Folder → Type 0) (old : F) (gates : List ℕ) (batches : List (List Intended)) (gate durable : ℕ) (bytes : List ℕ) (batch : List Intended)
     (may : MayPut seen may_leave old gates batches gate durable bytes batch) where
   abbrev f0 : Bytes
   f0 = seen old 17
@@ -230,7 +230,7 @@ module _ {F : Type 0} (seen : F → Folder) (may_leave : F → Stop → Folder �
       let from = put h now in
       let f = from.0 in
       let wrote = from.2 in
-      let others : SameUnits f g = λ d ne. mixed.others d ne ∙ wrote.others d ne in
+      let others : SameUnitFiles f g = λ d ne. mixed.others d ne ∙ wrote.others d ne in
       elim (mixed_gate h g mixed) [
         | inl as_was ↦ (
           f,

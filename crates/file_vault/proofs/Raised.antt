@@ -2,11 +2,11 @@
 use Rattle.std.proofs.Common.{◌≡◌, ◌≤◌, ◌⊎◌, inl, inr, ℕ, suc, refl, sym, ◌∙◌, ap, subst, arith}
 use Rattle.vault.specs.Moments.{Within}
 use Rattle.file_vault.specs.Folders.{Bytes, Folder, HasFile}
-use Rattle.file_vault.specs.Headers.{SameBehind}
+use Rattle.file_vault.specs.Headers.{SameAfterHeader}
 use Rattle.file_vault.specs.declared.twin.Twin.{Twin}
 use Rattle.file_vault.specs.declared.twin.Twin.TheVariants.{First, Second}
-use Rattle.file_vault.specs.Twins.{file_of, other, count_in, Counts, Shows, shown, AreAlike, SameBoth, counted_at}
-use Rattle.file_vault.proofs.Shown.{both_of, behind_eq}
+use Rattle.file_vault.specs.Twins.{file_of, other, count_in, Counts, MergesTwins, shown, AreAlike, SameBoth, counted_at}
+use Rattle.file_vault.proofs.Shown.{both_of, following_eq}
 use Rattle.file_vault.proofs.Copied.{lead_apart}
 
 -- each file has these bytes after the first block
@@ -18,13 +18,13 @@ pub holds_on : (b : Bytes) (f g : Folder) → Holds b f → SameBoth f g → Hol
 holds_on b f g holds same = record { first = λ k past. same.first k past ∙ holds.first k past; second = λ k past. same.second k past ∙ holds.second k past }
 
 -- so all files show the same that have one file that counts
-pub holds_shows : (b : Bytes) (twin : Twin) (f g h : Folder) → Holds b f → SameBoth f g → Counts f twin → Shows g h → Shows f h
+pub holds_shows : (b : Bytes) (twin : Twin) (f g h : Folder) → Holds b f → SameBoth f g → Counts f twin → MergesTwins g h → MergesTwins f h
 holds_shows b First f g h holds same counts shows = record {
   journal = λ k. inl (
     counts,
     elim (shows.journal k) [
-      | inl (c, is) ↦ is ∙ behind_eq (f 17) (g 17) k (λ past. same.first k past)
-      | inr (c, is) ↦ is ∙ behind_eq (f 17) (g 18) k (λ past. same.second k past ∙ holds.second k past ∙ sym (holds.first k past))
+      | inl (c, is) ↦ is ∙ following_eq (f 17) (g 17) k (λ past. same.first k past)
+      | inr (c, is) ↦ is ∙ following_eq (f 17) (g 18) k (λ past. same.second k past ∙ holds.second k past ∙ sym (holds.first k past))
     ],
   );
   hidden = shows.hidden;
@@ -34,8 +34,8 @@ holds_shows b Second f g h holds same counts shows = record {
   journal = λ k. inr (
     counts,
     elim (shows.journal k) [
-      | inl (c, is) ↦ is ∙ behind_eq (f 18) (g 17) k (λ past. same.first k past ∙ holds.first k past ∙ sym (holds.second k past))
-      | inr (c, is) ↦ is ∙ behind_eq (f 18) (g 18) k (λ past. same.second k past)
+      | inl (c, is) ↦ is ∙ following_eq (f 18) (g 17) k (λ past. same.first k past ∙ holds.first k past ∙ sym (holds.second k past))
+      | inr (c, is) ↦ is ∙ following_eq (f 18) (g 18) k (λ past. same.second k past)
     ],
   );
   hidden = shows.hidden;
@@ -55,28 +55,28 @@ other_twice First = refl
 other_twice Second = refl
 
 -- the count of one becomes another
-mate_step : (lead : Twin) (b : Bytes) (low high least most v n : ℕ) (f g : Folder) → n ≡ file_of (other lead) → least ≤ v → most ≤ v → Counted lead b low high least most f → SameBehind n f g
+mate_step : (lead : Twin) (b : Bytes) (low high least most v n : ℕ) (f g : Folder) → n ≡ file_of (other lead) → least ≤ v → most ≤ v → Counted lead b low high least most f → SameAfterHeader n f g
     → (count_in (g n) ≡ count_in (f n)) ⊎ (count_in (g n) ≡ v) → Counted lead b low high least v g
 mate_step lead b low high least most v n f g is from to was same either =
-    let behind = subst (λ m. SameBehind m f g) is same in
-    let mine : count_in (g (file_of lead)) ≡ count_in (f (file_of lead)) = ap count_in (behind.others (file_of lead) (lead_apart lead)) in
+    let following = subst (λ m. SameAfterHeader m f g) is same in
+    let mine : count_in (g (file_of lead)) ≡ count_in (f (file_of lead)) = ap count_in (following.others (file_of lead) (lead_apart lead)) in
     let mate = subst (λ m. (count_in (g m) ≡ count_in (f m)) ⊎ (count_in (g m) ≡ v)) is either in
     record {
-      holds = holds_on b f g was.holds (both_of (other lead) f g behind);
+      holds = holds_on b f g was.holds (both_of (other lead) f g following);
       low_is = omega (arith, was.low_is, mine);
       high_is = omega (arith, was.high_is, mine);
       least_is = elim mate [ inl e ↦ omega (arith, was.least_is, e) | inr e ↦ omega (arith, from, e) ];
       most_is = elim mate [ inl e ↦ omega (arith, was.most_is, to, e) | inr e ↦ omega (arith, e) ];
     }
 
-lead_step : (lead : Twin) (b : Bytes) (low high least most v n : ℕ) (f g : Folder) → n ≡ file_of lead → low ≤ v → high ≤ v → Counted lead b low high least most f → SameBehind n f g
+lead_step : (lead : Twin) (b : Bytes) (low high least most v n : ℕ) (f g : Folder) → n ≡ file_of lead → low ≤ v → high ≤ v → Counted lead b low high least most f → SameAfterHeader n f g
     → (count_in (g n) ≡ count_in (f n)) ⊎ (count_in (g n) ≡ v) → Counted lead b low v least most g
 lead_step lead b low high least most v n f g is from to was same either =
-    let behind = subst (λ m. SameBehind m f g) is same in
-    let mate : count_in (g (file_of (other lead))) ≡ count_in (f (file_of (other lead))) = ap count_in (behind.others (file_of (other lead)) (λ e. lead_apart lead (sym e))) in
+    let following = subst (λ m. SameAfterHeader m f g) is same in
+    let mate : count_in (g (file_of (other lead))) ≡ count_in (f (file_of (other lead))) = ap count_in (following.others (file_of (other lead)) (λ e. lead_apart lead (sym e))) in
     let mine = subst (λ m. (count_in (g m) ≡ count_in (f m)) ⊎ (count_in (g m) ≡ v)) is either in
     record {
-      holds = holds_on b f g was.holds (both_of lead f g behind);
+      holds = holds_on b f g was.holds (both_of lead f g following);
       low_is = elim mine [ inl e ↦ omega (arith, was.low_is, e) | inr e ↦ omega (arith, from, e) ];
       high_is = elim mine [ inl e ↦ omega (arith, was.high_is, to, e) | inr e ↦ omega (arith, e) ];
       least_is = omega (arith, was.least_is, mate);
@@ -112,7 +112,7 @@ pub stage_shown : (lead twin : Twin) (b : Bytes) (low high least most v n : ℕ)
     → Within (λ h. shown (counted_at n v first) h) (λ h. shown first h)
 stage_shown lead twin b low high least most v n first is few was h (g, (f, now, same, either), shows) =
     let so = was f now in
-    (f, now, holds_shows b lead f g h so.holds (both_of twin f g (subst (λ m. SameBehind m f g) is same)) (omega (arith, few, so.low_is, so.most_is)) shows)
+    (f, now, holds_shows b lead f g h so.holds (both_of twin f g (subst (λ m. SameAfterHeader m f g) is same)) (omega (arith, few, so.low_is, so.most_is)) shows)
 
 -- which may go on alone
 pub lead_may : (lead : Twin) (b : Bytes) (low high least most v : ℕ) (g : Folder) → most ≤ suc low → most ≤ suc v → Counted lead b low high least most g → Counts g lead × (count_in (g (file_of (other lead))) ≤ suc v)
@@ -148,8 +148,8 @@ settled_counted Second s f count (one, two) alike is low = let e1 : count_in (f 
 pub both_more : (f g h : Folder) → SameBoth f g → SameBoth g h → SameBoth f h
 both_more f g h one two = record { first = λ k past. two.first k past ∙ one.first k past; second = λ k past. two.second k past ∙ one.second k past; others = λ d n17 n18. two.others d n17 n18 ∙ one.others d n17 n18 }
 
-pub both_by : (twin : Twin) (n : ℕ) (f g : Folder) → n ≡ file_of twin → SameBehind n f g → SameBoth f g
-both_by twin n f g is same = both_of twin f g (subst (λ m. SameBehind m f g) is same)
+pub both_by : (twin : Twin) (n : ℕ) (f g : Folder) → n ≡ file_of twin → SameAfterHeader n f g → SameBoth f g
+both_by twin n f g is same = both_of twin f g (subst (λ m. SameAfterHeader m f g) is same)
 
 pub alike_on : (f g : Folder) → SameBoth f g → AreAlike f → AreAlike g
 alike_on f g same alike k past = same.first k past ∙ alike k past ∙ sym (same.second k past)

@@ -4,14 +4,14 @@ use Rattle.std.specs.Prelude.{◌&&◌, not}
 use Rattle.std.proofs.lemmas.Bool.{true≢false}
 use Rattle.std.proofs.lemmas.List.{take_all, take-append-le}
 use Rattle.std.proofs.lemmas.Bool.Decides.{eqb_tells}
-use Rattle.extent_groups.specs.Planned.{Wanted}
+use Rattle.extent_groups.specs.Planned.{Intended}
 use Rattle.vault.specs.declared.store.Stop.{Stop}
 use Rattle.vault.specs.declared.store.Stop.TheVariants.{Killed, PowerLost}
 use Rattle.vault.specs.Coding.{decoded}
 use Rattle.vault.specs.Moments.{Within}
 use Rattle.file_vault.specs.Folders.{Bytes, Folder, mixed_at}
 use Rattle.file_vault.specs.Journals.{next_at, body_at, opens, batches_from, AreAt, AreOpen, gate_at, most, journal_of, IsSound}
-use Rattle.file_vault.specs.Recoveries.{IsChain, IsFound, HasFound, IsNext, OnlyRead, marked_after, leaves_read}
+use Rattle.file_vault.specs.Recoveries.{IsBatchChain, IsFound, HasFoundBatches, IsNextBatch, OnlyRead, marked_after, leaves_read}
 use Rattle.file_vault.proofs.Chains.{read_all, one_more, are_same, as_many}
 use Rattle.file_vault.proofs.Flushing.{sound_seen}
 use Rattle.file_vault.proofs.Puts.{few_gates, power_read, open_more, open_same, gate_more, both_elapse}
@@ -32,10 +32,10 @@ module _ {F : Type 0} (known : F → Type 0) (seen : F → Folder) (may_leave : 
   }
 
 -- no batch yet, and one more
-pub chain_start : (f : Bytes) (rule : Stop) → IsChain f rule [] [] 4096 0
+pub chain_start : (f : Bytes) (rule : Stop) → IsBatchChain f rule [] [] 4096 0
 chain_start f rule = record { lie = refl; opened = tt; some = omega arith; marks = tt; next = inl refl }
 
-module _ (f : Bytes) (rule : Stop) (gates : List ℕ) (batches : List (List Wanted)) (end marked : ℕ) (chain : IsChain f rule gates batches end marked) (gate long : ℕ) (next : IsNext f rule end gate long) where
+module _ (f : Bytes) (rule : Stop) (gates : List ℕ) (batches : List (List Intended)) (end marked : ℕ) (chain : IsBatchChain f rule gates batches end marked) (gate long : ℕ) (next : IsNextBatch f rule end gate long) where
   many : length (gates ++ end ∷ []) ≡ length gates + 1
   many = length-append gates (end ∷ [])
 
@@ -83,11 +83,11 @@ module _ (f : Bytes) (rule : Stop) (gates : List ℕ) (batches : List (List Want
       by_off is = ap (λ d. if d && (marked == length (gates ++ end ∷ []) - 1) then length (gates ++ end ∷ []) else marked) is
 
   pub chain_more : (new_gates : List ℕ) (new_end new_marked : ℕ) → new_gates ≡ gates ++ end ∷ [] → new_end ≡ end + 9 + long → new_marked ≡ marked_after marked (length new_gates) gate
-      → (more : List (List Wanted)) × IsChain f rule new_gates more new_end new_marked
+      → (more : List (List Intended)) × IsBatchChain f rule new_gates more new_end new_marked
   chain_more new_gates new_end new_marked is_gates is_end is_marked =
       let later : next_at f end ≡ new_end = ap (λ n. end + 9 + n) (sym next.length_is) ∙ sym is_end in
       let marks = marks_more new_end in
-      let is : IsChain f rule (gates ++ end ∷ []) (batches ++ decoded (body_at f end) ∷ []) new_end (marked_after marked (length (gates ++ end ∷ [])) gate) =
+      let is : IsBatchChain f rule (gates ++ end ∷ []) (batches ++ decoded (body_at f end) ∷ []) new_end (marked_after marked (length (gates ++ end ∷ [])) gate) =
       record {
         lie = subst (λ n. AreAt f 4096 (gates ++ end ∷ []) (batches ++ decoded (body_at f end) ∷ []) n) later (one_more f 4096 gates batches end chain.lie next.code);
         opened = open_more rule f gates end chain.opened (ap (opens rule) (sym next.gate_is) ∙ next.opened);
@@ -96,12 +96,12 @@ module _ (f : Bytes) (rule : Stop) (gates : List ℕ) (batches : List (List Want
         next = marks.after;
       } in (
         batches ++ decoded (body_at f end) ∷ [],
-        subst (λ n. IsChain f rule new_gates (batches ++ decoded (body_at f end) ∷ []) new_end n) (sym is_marked)
-            (subst (λ (l : List ℕ). IsChain f rule l (batches ++ decoded (body_at f end) ∷ []) new_end (marked_after marked (length l) gate)) (sym is_gates) is),
+        subst (λ n. IsBatchChain f rule new_gates (batches ++ decoded (body_at f end) ∷ []) new_end n) (sym is_marked)
+            (subst (λ (l : List ℕ). IsBatchChain f rule l (batches ++ decoded (body_at f end) ∷ []) new_end (marked_after marked (length l) gate)) (sym is_gates) is),
       )
 
 -- what is found, as it is read, and as it is after a sync
-module _ (f : Bytes) (rule : Stop) (gates : List ℕ) (batches : List (List Wanted)) (end marked : ℕ) (found : IsFound f rule gates batches end marked) where
+module _ (f : Bytes) (rule : Stop) (gates : List ℕ) (batches : List (List Intended)) (end marked : ℕ) (found : IsFound f rule gates batches end marked) where
   pub found_read : (g : Bytes) → ((k : ℕ) → 4096 ≤ k → k < end → g k ≡ f k) → opens rule (g end) ≡ false → batches_from rule most g 4096 ≡ batches
   found_read g same shut = read_all rule most f g 4096 gates batches end found.chain.lie found.chain.opened same shut (few_gates f gates batches end found.chain.lie (let inside = found.inside in omega (arith, inside)))
 
@@ -113,7 +113,7 @@ zero_of n shut = ⊎_elim (λ t. t.1) (λ t. absurd (true≢false (sym (ap (λ b
 
 module _ {F : Type 0} (seen : F → Folder) (may_leave : F → Stop → Folder → Type 0) (new : F) (synced : (stop : Stop) (g : Folder) → may_leave new stop g → g 17 ≡ seen new 17) where
   -- all batches of a killed process
-  pub found_sound : (gates : List ℕ) (batches : List (List Wanted)) (end marked : ℕ) → IsFound (seen new 17) Killed gates batches end marked → IsSound seen may_leave new gates batches end marked
+  pub found_sound : (gates : List ℕ) (batches : List (List Intended)) (end marked : ℕ) → IsFound (seen new 17) Killed gates batches end marked → IsSound seen may_leave new gates batches end marked
   found_sound gates batches end marked found =
       let closed : seen new 17 end ≡ 0 = zero_of (seen new 17 end) found.closed in
       record {
@@ -132,7 +132,7 @@ module _ {F : Type 0} (seen : F → Folder) (may_leave : F → Stop → Folder �
       }
 
   -- the durable batches, once the gate after them is closed
-  pub closed_sound : (f : Bytes) (gates : List ℕ) (batches : List (List Wanted)) (end marked : ℕ) → IsFound f PowerLost gates batches end marked → ((k : ℕ) → 4096 ≤ k → k < end → seen new 17 k ≡ f k) → seen new 17 end ≡ 0
+  pub closed_sound : (f : Bytes) (gates : List ℕ) (batches : List (List Intended)) (end marked : ℕ) → IsFound f PowerLost gates batches end marked → ((k : ℕ) → 4096 ≤ k → k < end → seen new 17 k ≡ f k) → seen new 17 end ≡ 0
       → IsSound seen may_leave new gates batches end (length gates)
   closed_sound f gates batches end marked found same closed =
       let marks = open_same PowerLost f (seen new 17) 4096 gates batches end found.chain.lie same found.chain.opened in
@@ -155,7 +155,7 @@ module _ {F : Type 0} (seen : F → Folder) (may_leave : F → Stop → Folder �
       marked_open n on = ⊎_elim (λ t. ap (opens Killed) t.1) (λ t. absurd (true≢false (sym on ∙ t.0))) (eqb_tells n 2)
 
 -- the gate after the durable batches is closed, or it isn't yet
-pub end_during : (f : Bytes) (gates : List ℕ) (batches : List (List Wanted)) (end marked : ℕ) → IsFound f PowerLost gates batches end marked → (first mid : Folder → Type 0) → Within mid first → ((h : Folder) → mid h → h 17 ≡ f)
+pub end_during : (f : Bytes) (gates : List ℕ) (batches : List (List Intended)) (end marked : ℕ) → IsFound f PowerLost gates batches end marked → (first mid : Folder → Type 0) → Within mid first → ((h : Folder) → mid h → h 17 ≡ f)
     → Within (mixed_at 17 end (0 ∷ []) mid) (leaves_read first)
 end_during f gates batches end marked found first mid within synced g (h, now, mixed) = (
   h,
@@ -172,7 +172,7 @@ end_during f gates batches end marked found first mid within synced g (h, now, m
     ]
 
 -- all batches are read by each rule from a journal that is durable as a whole
-pub read_both : {F : Type 0} (seen : F → Folder) (may_leave : F → Stop → Folder → Type 0) (new : F) (gates : List ℕ) (batches : List (List Wanted)) (end : ℕ) → IsSound seen may_leave new gates batches end (length gates)
+pub read_both : {F : Type 0} (seen : F → Folder) (may_leave : F → Stop → Folder → Type 0) (new : F) (gates : List ℕ) (batches : List (List Intended)) (end : ℕ) → IsSound seen may_leave new gates batches end (length gates)
     → (rule : Stop) → journal_of rule (seen new) ≡ batches
 read_both seen may_leave new gates batches end sound Killed = sound_seen seen may_leave new gates batches end (length gates) sound
 read_both seen may_leave new gates batches end sound PowerLost =
@@ -181,7 +181,7 @@ read_both seen may_leave new gates batches end sound PowerLost =
     ∙ take_all (length gates) batches (omega (arith, as_many (seen new 17) 4096 gates batches end sound.lie))
 
 -- what is found are the batches that the rule reads, also once the files were read
-pub found_all : (f g : Folder) → g ≡ f → (rule : Stop) (gates : List ℕ) (end marked : ℕ) → HasFound (f 17) rule gates end marked → IsFound (g 17) rule gates (journal_of rule f) end marked
+pub found_all : (f g : Folder) → g ≡ f → (rule : Stop) (gates : List ℕ) (end marked : ℕ) → HasFoundBatches (f 17) rule gates end marked → IsFound (g 17) rule gates (journal_of rule f) end marked
 found_all f g same rule gates end marked (batches, found) =
     subst (λ (h : Folder). IsFound (h 17) rule gates (journal_of rule f) end marked) (sym same)
     (subst (λ bs. IsFound (f 17) rule gates bs end marked) (sym (found_here (f 17) rule gates batches end marked found)) found)

@@ -11,7 +11,7 @@ use Rattle.vault.specs.declared.store.Stop.TheVariants.{Killed, PowerLost}
 use Rattle.file_vault.specs.declared.mem_files.FileCall.{FileCall}
 use Rattle.file_vault.specs.declared.mem_files.FileCall.TheVariants.{Write, Cut, Sync}
 use Rattle.file_vault.specs.Folders.{Folder, Wrote, Mixed, mixed_at}
-use Rattle.file_vault.specs.Calls.{over, left_first, seen_after, leaves_during, leaves_after, seen_from, leaves_from, leaves_at, LeftSince}
+use Rattle.file_vault.specs.Calls.{file_patched, left_first, seen_after, leaves_during, leaves_after, seen_from, leaves_from, leaves_at, LeftSince}
 
 pub seen_more : (calls : List FileCall) (call : FileCall) (f : Folder) → seen_from f (calls ++ call ∷ []) ≡ seen_after call (seen_from f calls)
 seen_more [] call f = refl
@@ -119,7 +119,7 @@ never true = refl
 never false = refl
 
 -- the bytes that a write leaves
-pub over_wrote : (f : Folder) (file at : ℕ) (bytes : List ℕ) → Wrote file at bytes f (over f file at bytes)
+pub over_wrote : (f : Folder) (file at : ℕ) (bytes : List ℕ) → Wrote file at bytes f (file_patched f file at bytes)
 over_wrote f file at bytes = record {
   inside = λ j low. ap (λ b. if b then get_or bytes (at + j - at) 0 else f file (at + j)) (here j low) ∙ ap (λ n. get_or bytes n 0) (omega arith);
   outside = λ k out. ap (λ b. if b then get_or bytes (k - at) 0 else f file k) (there k out);
@@ -147,10 +147,10 @@ pub left : (stop : Stop) (first : Folder) (calls later : List FileCall) (call : 
     → leaves_after stop call (seen_from first calls) (λ h. leaves_at stop first calls h) g
 left stop first calls later call more g now = left_more stop calls call first (left_first first) g (subst (λ (l : List FileCall). leaves_at stop first l g) more now)
 
-pub found_mixed : (first : Folder) (calls later : List FileCall) (file at : ℕ) (bytes : List ℕ) (call : FileCall) → seen_after call (seen_from first calls) ≡ over (seen_from first calls) file at bytes
+pub found_mixed : (first : Folder) (calls later : List FileCall) (file at : ℕ) (bytes : List ℕ) (call : FileCall) → seen_after call (seen_from first calls) ≡ file_patched (seen_from first calls) file at bytes
     → (later ≡ calls ++ call ∷ []) ⊎ (later ≡ calls) → Mixed file at bytes (seen_from first calls) (seen_from first later)
 found_mixed first calls later file at bytes call does (inl more) =
-    subst (λ g. Mixed file at bytes (seen_from first calls) g) (sym (found first calls later call more ∙ does)) (whole_mixed file at bytes (seen_from first calls) (over (seen_from first calls) file at bytes) (over_wrote (seen_from first calls) file at bytes))
+    subst (λ g. Mixed file at bytes (seen_from first calls) g) (sym (found first calls later call more ∙ does)) (whole_mixed file at bytes (seen_from first calls) (file_patched (seen_from first calls) file at bytes) (over_wrote (seen_from first calls) file at bytes))
 found_mixed first calls later file at bytes call does (inr same) =
     subst (λ (l : List FileCall). Mixed file at bytes (seen_from first calls) (seen_from first l)) (sym same) (none_mixed file at bytes (seen_from first calls))
 

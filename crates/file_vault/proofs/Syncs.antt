@@ -4,7 +4,7 @@ use Rattle.std.specs.Prelude.{is_some, replicate}
 use Rattle.std.proofs.lemmas.List.{take_all}
 use Rattle.vault.specs.declared.store.Stop.{Stop}
 use Rattle.vault.specs.Images.{Image, is_lost}
-use Rattle.vault.specs.Moments.{Within, HasJournal, HasUnits, AreLogged}
+use Rattle.vault.specs.Moments.{Within, HasJournal, HasUnitsAtStop, AreLogged}
 use Rattle.file_vault.specs.Folders.{Folder, HasFile}
 use Rattle.file_vault.specs.Vaults.{AreSynced}
 use Rattle.file_vault.proofs.Puts.{below_or}
@@ -35,7 +35,7 @@ none_lost (suc count) (suc d) = none_lost count d
 
 -- with an empty journal each stop leaves all batches, if it leaves the units that calls find
 pub logged_empty : {V : Type 0} (seen : V → Image) (may_leave : V → Stop → Image → Type 0) (lost : List Bool) (vault : V) → (seen vault).journal ≡ [] → ((stop : Stop) → HasJournal [] (may_leave vault stop))
-    → ((stop : Stop) → HasUnits [] (seen vault).cells (may_leave vault stop)) → AreLogged seen may_leave lost vault
+    → ((stop : Stop) → HasUnitsAtStop [] (seen vault).cells (may_leave vault stop)) → AreLogged seen may_leave lost vault
 logged_empty seen may_leave lost vault none journals units stop = record {
   flushed = omega arith;
   leaves = λ i left. record {

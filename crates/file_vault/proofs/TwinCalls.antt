@@ -7,12 +7,12 @@ use Rattle.file_vault.specs.declared.twin.Twin.{Twin}
 use Rattle.file_vault.specs.declared.twin.Twin.TheVariants.{First, Second}
 use Rattle.file_vault.specs.declared.held.Held.{Held}
 use Rattle.file_vault.specs.declared.held.Held.TheVariants.{Both, Only, Neither}
-use Rattle.file_vault.specs.Twins.{file_of, other, count_in, behind_of, with_file, seen_as, Shows, shown, IsAhead, IsHeld, IsKept}
+use Rattle.file_vault.specs.Twins.{file_of, other, count_in, after_first_block, with_journal_file, seen_as, MergesTwins, shown, IsAheadOfTwin, IsHeld, IsAvailable}
 use Rattle.std.proofs.Common.{if◌then◌else◌}
 use Rattle.std.proofs.lemmas.Bool.{lt-ltb}
 use Rattle.file_vault.proofs.Puts.{below_or}
 use Rattle.file_vault.proofs.Replayed.{whole_mixed}
-use Rattle.file_vault.proofs.Shown.{behind_at, behind_eq, with_other, which_file, shown_wrote, shown_mixed, shows_only}
+use Rattle.file_vault.proofs.Shown.{after_header_at, following_eq, with_other, which_file, shown_wrote, shown_mixed, shows_only}
 use Rattle.file_vault.proofs.PairCalls.{mixed_count}
 
 -- the journal's files stay held where their counts stay and calls find both the same
@@ -46,8 +46,8 @@ held_other seen may_leave old new held file at bytes n17 n18 is mixed within =
     (λ stop g now. let from = within stop g now in (from.0, from.1, ap count_in (from.2.others 17 (λ e. n17 (sym e))), ap count_in (from.2.others 18 (λ e. n18 (sym e)))))
 
 -- one file is written alone
-pub ahead_wrote : {F : Type 0} (seen : F → Folder) (may_leave : F → Stop → Folder → Type 0) (old new : F) (twin : Twin) (count at n : ℕ) (bytes : List ℕ) → 4096 ≤ at → IsAhead may_leave old twin count
-    → ((stop : Stop) → Within (may_leave new stop) (mixed_at n at bytes (may_leave old stop))) → IsAhead may_leave new twin count
+pub ahead_wrote : {F : Type 0} (seen : F → Folder) (may_leave : F → Stop → Folder → Type 0) (old new : F) (twin : Twin) (count at n : ℕ) (bytes : List ℕ) → 4096 ≤ at → IsAheadOfTwin may_leave old twin count
+    → ((stop : Stop) → Within (may_leave new stop) (mixed_at n at bytes (may_leave old stop))) → IsAheadOfTwin may_leave new twin count
 ahead_wrote seen may_leave old new twin count at n bytes past is within stop g now =
     let from = within stop g now in
     let was = is stop from.0 from.1 in
@@ -58,7 +58,7 @@ ahead_wrote seen may_leave old new twin count at n bytes past is within stop g n
 -- another file is written: what calls find, and what stops leave
 seen_rest : (twin : Twin) (file : ℕ) (s t : Folder) → file ≢ 17 → file ≢ 18 → ((d : ℕ) → d ≢ file → t d ≡ s d) → (d : ℕ) → d ≢ file → seen_as twin t d ≡ seen_as twin s d
 seen_rest twin file s t n17 n18 others d ne = elim (which_file d) [
-  | inl e ↦ ap (seen_as twin t) e ∙ ap (λ (b : Bytes). behind_of b) (mine twin) ∙ sym (ap (seen_as twin s) e)
+  | inl e ↦ ap (seen_as twin t) e ∙ ap (λ (b : Bytes). after_first_block b) (mine twin) ∙ sym (ap (seen_as twin s) e)
   | inr rest ↦ elim rest [
     | inl e ↦ ap (seen_as twin t) e ∙ sym (ap (seen_as twin s) e)
     | inr (m17, m18) ↦ with_other _ t d m17 m18 ∙ others d ne ∙ sym (with_other _ s d m17 m18)
@@ -79,15 +79,15 @@ other_wrote twin file at bytes s t n17 n18 wrote = record {
 pub other_mixed : (twin : Twin) (file at : ℕ) (bytes : List ℕ) (s t : Folder) → file ≢ 17 → file ≢ 18 → Mixed file at bytes s t → Mixed file at bytes (seen_as twin s) (seen_as twin t)
 other_mixed twin file at bytes s t n17 n18 mixed = record {
   inside = λ j low.
-      let to = ap (λ (b : Bytes). b (at + j)) (with_other (behind_of (t (file_of twin))) t file n17 n18) in
+      let to = ap (λ (b : Bytes). b (at + j)) (with_other (after_first_block (t (file_of twin))) t file n17 n18) in
       ⊎_elim (λ was. inl (to ∙ was ∙ sym (ap (λ (b : Bytes). b (at + j)) (with_other _ s file n17 n18)))) (λ made. inr (to ∙ made)) (mixed.inside j low);
   outside = λ k out. ap (λ (b : Bytes). b k) (with_other _ t file n17 n18) ∙ mixed.outside k out ∙ sym (ap (λ (b : Bytes). b k) (with_other _ s file n17 n18));
   others = seen_rest twin file s t n17 n18 mixed.others;
 }
 
-module _ (file at : ℕ) (bytes : List ℕ) (n17 : file ≢ 17) (n18 : file ≢ 18) (f g h : Folder) (shows : Shows g h) (others : (d : ℕ) → d ≢ file → g d ≡ f d) where
+module _ (file at : ℕ) (bytes : List ℕ) (n17 : file ≢ 17) (n18 : file ≢ 18) (f g h : Folder) (shows : MergesTwins g h) (others : (d : ℕ) → d ≢ file → g d ≡ f d) where
   abbrev from : Folder
-  from = with_file (h 17) f
+  from = with_journal_file (h 17) f
 
   one : g 17 ≡ f 17
   one = others 17 (λ e. n17 (sym e))
@@ -95,11 +95,11 @@ module _ (file at : ℕ) (bytes : List ℕ) (n17 : file ≢ 17) (n18 : file ≢ 
   two : g 18 ≡ f 18
   two = others 18 (λ e. n18 (sym e))
 
-  from_shows : Shows f from
+  from_shows : MergesTwins f from
   from_shows = record {
     journal = λ k. elim (shows.journal k) [
-      | inl (counts, is) ↦ inl (subst (λ (b : Bytes). count_in b ≤ suc (count_in (f 17))) two (subst (λ (b : Bytes). count_in (g 18) ≤ suc (count_in b)) one counts), is ∙ ap (λ (b : Bytes). behind_of b k) one)
-      | inr (counts, is) ↦ inr (subst (λ (b : Bytes). count_in b ≤ suc (count_in (f 18))) one (subst (λ (b : Bytes). count_in (g 17) ≤ suc (count_in b)) two counts), is ∙ ap (λ (b : Bytes). behind_of b k) two)
+      | inl (counts, is) ↦ inl (subst (λ (b : Bytes). count_in b ≤ suc (count_in (f 17))) two (subst (λ (b : Bytes). count_in (g 18) ≤ suc (count_in b)) one counts), is ∙ ap (λ (b : Bytes). after_first_block b k) one)
+      | inr (counts, is) ↦ inr (subst (λ (b : Bytes). count_in b ≤ suc (count_in (f 18))) one (subst (λ (b : Bytes). count_in (g 17) ≤ suc (count_in b)) two counts), is ∙ ap (λ (b : Bytes). after_first_block b k) two)
     ];
     hidden = refl;
     others = λ d m17 m18. with_other _ f d m17 m18;
@@ -114,7 +114,7 @@ module _ (file at : ℕ) (bytes : List ℕ) (n17 : file ≢ 17) (n18 : file ≢ 
     ]
   ]
 
-  pub other_shown_wrote : Wrote file at bytes f g → (e : Folder) × Shows f e × Wrote file at bytes e h
+  pub other_shown_wrote : Wrote file at bytes f g → (e : Folder) × MergesTwins f e × Wrote file at bytes e h
   other_shown_wrote wrote = (
     from,
     from_shows,
@@ -125,7 +125,7 @@ module _ (file at : ℕ) (bytes : List ℕ) (n17 : file ≢ 17) (n18 : file ≢ 
     },
   )
 
-  pub other_shown_mixed : Mixed file at bytes f g → (e : Folder) × Shows f e × Mixed file at bytes e h
+  pub other_shown_mixed : Mixed file at bytes f g → (e : Folder) × MergesTwins f e × Mixed file at bytes e h
   other_shown_mixed mixed = (
     from,
     from_shows,
@@ -166,16 +166,16 @@ lone_others twin n s t is others d n17 = elim (which_file d) [
 
 pub lone_wrote : (twin : Twin) (n at : ℕ) (bytes : List ℕ) (s t : Folder) → n ≡ file_of twin → 4096 ≤ at → Wrote n at bytes s t → Wrote 17 at bytes (seen_as twin s) (seen_as twin t)
 lone_wrote twin n at bytes s t is past wrote = record {
-  inside = λ j low. behind_at (t (file_of twin)) (at + j) (omega (arith, past)) ∙ subst (λ m. t m (at + j) ≡ get_or bytes j 0) is (wrote.inside j low);
-  outside = λ k out. behind_eq (s (file_of twin)) (t (file_of twin)) k (λ more. subst (λ m. t m k ≡ s m k) is (wrote.outside k out));
+  inside = λ j low. after_header_at (t (file_of twin)) (at + j) (omega (arith, past)) ∙ subst (λ m. t m (at + j) ≡ get_or bytes j 0) is (wrote.inside j low);
+  outside = λ k out. following_eq (s (file_of twin)) (t (file_of twin)) k (λ more. subst (λ m. t m k ≡ s m k) is (wrote.outside k out));
   others = lone_others twin n s t is wrote.others;
 }
 
 pub lone_mixed : (twin : Twin) (n at : ℕ) (bytes : List ℕ) (s t : Folder) → n ≡ file_of twin → 4096 ≤ at → Mixed n at bytes s t → Mixed 17 at bytes (seen_as twin s) (seen_as twin t)
 lone_mixed twin n at bytes s t is past mixed = record {
-  inside = λ j low. ⊎_elim (λ was. inl (behind_eq (s (file_of twin)) (t (file_of twin)) (at + j) (λ more. subst (λ m. t m (at + j) ≡ s m (at + j)) is was)))
-      (λ made. inr (behind_at (t (file_of twin)) (at + j) (omega (arith, past)) ∙ subst (λ m. t m (at + j) ≡ get_or bytes j 0) is made)) (mixed.inside j low);
-  outside = λ k out. behind_eq (s (file_of twin)) (t (file_of twin)) k (λ more. subst (λ m. t m k ≡ s m k) is (mixed.outside k out));
+  inside = λ j low. ⊎_elim (λ was. inl (following_eq (s (file_of twin)) (t (file_of twin)) (at + j) (λ more. subst (λ m. t m (at + j) ≡ s m (at + j)) is was)))
+      (λ made. inr (after_header_at (t (file_of twin)) (at + j) (omega (arith, past)) ∙ subst (λ m. t m (at + j) ≡ get_or bytes j 0) is made)) (mixed.inside j low);
+  outside = λ k out. following_eq (s (file_of twin)) (t (file_of twin)) k (λ more. subst (λ m. t m k ≡ s m k) is (mixed.outside k out));
   others = lone_others twin n s t is mixed.others;
 }
 
@@ -189,7 +189,7 @@ ahead_mixed twin count n at bytes f g past ahead mixed =
     let mate = mixed_count n at bytes f g (file_of (other twin)) past mixed in
     (mine ∙ ahead.0, omega (arith, ahead.1, mate))
 
-lone_one : (twin : Twin) (count at : ℕ) (bytes : List ℕ) (f g h : Folder) → 4096 ≤ at → AheadOf twin count f → Mixed (file_of twin) at bytes f g → Shows g h → (e : Folder) × Shows f e × Mixed 17 at bytes e h
+lone_one : (twin : Twin) (count at : ℕ) (bytes : List ℕ) (f g h : Folder) → 4096 ≤ at → AheadOf twin count f → Mixed (file_of twin) at bytes f g → MergesTwins g h → (e : Folder) × MergesTwins f e × Mixed 17 at bytes e h
 lone_one First count at bytes f g h past ahead mixed shows =
     let later = ahead_mixed First count 17 at bytes f g past ahead mixed in
     shown_mixed at bytes past f g h shows (λ c. omega (arith, ahead.0, ahead.1)) (λ c. absurd (omega (arith, c, later.0, later.1))) (λ d n17 n18. mixed.others d n17)
@@ -199,7 +199,7 @@ lone_one Second count at bytes f g h past ahead mixed shows =
     shown_mixed at bytes past f g h shows (λ c. absurd (omega (arith, c, later.0, later.1))) (λ c. omega (arith, ahead.0, ahead.1)) (λ d n17 n18. mixed.others d n18)
     (λ c. absurd (omega (arith, c, later.0, later.1))) (λ c. record { inside = mixed.inside; outside = λ k out more. mixed.outside k out })
 
-lone_whole : (twin : Twin) (count at : ℕ) (bytes : List ℕ) (f g h : Folder) → 4096 ≤ at → AheadOf twin count f → Wrote (file_of twin) at bytes f g → Shows g h → (e : Folder) × Shows f e × Wrote 17 at bytes e h
+lone_whole : (twin : Twin) (count at : ℕ) (bytes : List ℕ) (f g h : Folder) → 4096 ≤ at → AheadOf twin count f → Wrote (file_of twin) at bytes f g → MergesTwins g h → (e : Folder) × MergesTwins f e × Wrote 17 at bytes e h
 lone_whole First count at bytes f g h past ahead wrote shows =
     let later = ahead_mixed First count 17 at bytes f g past ahead (whole_mixed 17 at bytes f g wrote) in
     shown_wrote at bytes past f g h shows (λ c. omega (arith, ahead.0, ahead.1)) (λ c. absurd (omega (arith, c, later.0, later.1))) (λ d n17 n18. wrote.others d n17)
@@ -230,17 +230,17 @@ lone_file Second count n s outcomes is ahead has h (g, now, shows) =
     shows_only g h (s 18) shows (λ c k past. absurd (omega (arith, c, one.0, one.1))) (λ c k past. ap (λ (b : Bytes). b k) (subst (λ m. g m ≡ s m) is (has g now)))
 
 -- zeros past an end
-pub zeros_behind : (b : Bytes) (k : ℕ) → b k ≡ 0 → behind_of b k ≡ 0
-zeros_behind b k is = elim (below_or k 4096) [
+pub zeros_following : (b : Bytes) (k : ℕ) → b k ≡ 0 → after_first_block b k ≡ 0
+zeros_following b k is = elim (below_or k 4096) [
   | inl under ↦ ap (λ t. if t then 0 else b k) (lt-ltb k 4096 under)
-  | inr rest ↦ behind_at b k (elim rest [ inl e ↦ omega (arith, e) | inr (j, e) ↦ omega (arith, e) ]) ∙ is
+  | inr rest ↦ after_header_at b k (elim rest [ inl e ↦ omega (arith, e) | inr (j, e) ↦ omega (arith, e) ]) ∙ is
 ]
 
 -- the file's number, and which files are held
-pub none_kept : {P : Type 0} (held : Held) → held ≡ Neither → IsKept held → P
-none_kept held is kept = absurd (subst IsKept is kept)
+pub none_kept : {P : Type 0} (held : Held) → held ≡ Neither → IsAvailable held → P
+none_kept held is kept = absurd (subst IsAvailable is kept)
 
-pub kept_not : (held : Held) → (held ≡ Neither → ⊥) → IsKept held
+pub kept_not : (held : Held) → (held ≡ Neither → ⊥) → IsAvailable held
 kept_not (Both count) not = tt
 kept_not (Only twin count) not = tt
 kept_not Neither not = not refl

@@ -12,7 +12,7 @@ use Rattle.vault.specs.declared.store.Stop.{Stop}
 use Rattle.vault.specs.Images.{Alike, with_write}
 use Rattle.vault.specs.Moments.{Torn, IsMisfit, IsUnitAt}
 use Rattle.file_vault.specs.Folders.{Bytes, Folder, part, Wrote, Mixed, Reads}
-use Rattle.file_vault.specs.Layouts.{Plan, count_of, size_of, offset_of, unit_in, cells_of}
+use Rattle.file_vault.specs.Layouts.{Plan, count_of, size_of, offset_of, unit_in_file, cells_of}
 use Rattle.file_vault.specs.Journals.{journal_of, image_of, batches_from, most}
 use Rattle.file_vault.proofs.Chains.{part_same}
 use Rattle.file_vault.proofs.Puts.{part_is, below_or}
@@ -62,7 +62,7 @@ module _ (plan : Plan) where
           ]
         ])))
 
-    unit_else : (x : Place) → x ≢ place → unit_in plan g x.drive x.address ≡ unit_in plan f x.drive x.address
+    unit_else : (x : Place) → x ≢ place → unit_in_file plan g x.drive x.address ≡ unit_in_file plan f x.drive x.address
     unit_else x ne = elim (below_or x.drive place.drive) [
       | inl under ↦ ap (λ (b : Bytes). part b (spot_of x) (size_at x.drive)) (others x.drive (λ e. omega (arith, e, under)))
       | inr rest ↦ elim rest [
@@ -75,7 +75,7 @@ module _ (plan : Plan) where
     cells_else x ne = ap (λ u. if nat_lt x.address (count_of plan.counts x.drive) then Some u else None) (unit_else x ne)
 
     pub cells_there : (x : Place) → is_some (held (cells_of plan g) x) ≡ is_some (held (cells_of plan f) x)
-    cells_there x = there_both (nat_lt x.address (count_of plan.counts x.drive)) (unit_in plan g x.drive x.address) (unit_in plan f x.drive x.address)
+    cells_there x = there_both (nat_lt x.address (count_of plan.counts x.drive)) (unit_in_file plan g x.drive x.address) (unit_in_file plan f x.drive x.address)
 
   -- the journal where its file is the same
   pub journal_same : (stop : Stop) (f g : Folder) → g 17 ≡ f 17 → journal_of stop g ≡ journal_of stop f
@@ -106,15 +106,15 @@ module _ (plan : Plan) where
       outside : (k : ℕ) → (k < spot_of place) ⊎ (spot_of place + size_at place.drive ≤ k) → g place.drive k ≡ f place.drive k
       outside k out = wrote.outside k (elim out [ inl low ↦ inl low | inr high ↦ inr (omega (arith, high, fits)) ])
 
-      bytes : unit_in plan g place.drive place.address ≡ unit
+      bytes : unit_in_file plan g place.drive place.address ≡ unit
       bytes = part_is (g place.drive) (spot_of place) (size_at place.drive) unit (omega (arith, fits)) (λ j low. wrote.inside j (omega (arith, low, fits))) ∙ take_all (size_at place.drive) unit (omega (arith, fits))
 
       here : held (cells_of plan g) place ≡ over (held (cells_of plan f) place) unit
-      here = over_given (nat_lt place.address (count_of plan.counts place.drive)) (unit_in plan f place.drive place.address) (unit_in plan g place.drive place.address) unit (λ is. bytes)
+      here = over_given (nat_lt place.address (count_of plan.counts place.drive)) (unit_in_file plan f place.drive place.address) (unit_in_file plan g place.drive place.address) unit (λ is. bytes)
 
   -- a place without a unit
   pub none_at : (f : Folder) (place : Place) → count_of plan.counts place.drive ≤ place.address → held (cells_of plan f) place ≡ None
-  none_at f place past = ap (λ b. if b then Some (unit_in plan f place.drive place.address) else None) (le-ltb place.address (count_of plan.counts place.drive) past)
+  none_at f place past = ap (λ b. if b then Some (unit_in_file plan f place.drive place.address) else None) (le-ltb place.address (count_of plan.counts place.drive) past)
 
   pub none_written : (stop : Stop) (place : Place) (unit : List ℕ) (f : Folder) → count_of plan.counts place.drive ≤ place.address → Alike (image_of plan stop f) (with_write (image_of plan stop f) place unit)
   none_written stop place unit f past = record {
@@ -127,8 +127,8 @@ module _ (plan : Plan) where
   }
 
   -- a unit that is read
-  some_at : (f : Folder) (place : Place) → place.address < count_of plan.counts place.drive → held (cells_of plan f) place ≡ Some (unit_in plan f place.drive place.address)
-  some_at f place low = ap (λ b. if b then Some (unit_in plan f place.drive place.address) else None) (lt-ltb place.address (count_of plan.counts place.drive) low)
+  some_at : (f : Folder) (place : Place) → place.address < count_of plan.counts place.drive → held (cells_of plan f) place ≡ Some (unit_in_file plan f place.drive place.address)
+  some_at f place low = ap (λ b. if b then Some (unit_in_file plan f place.drive place.address) else None) (lt-ltb place.address (count_of plan.counts place.drive) low)
 
   pub unit_read : (f : Folder) (place : Place) (out : List ℕ) → place.address < count_of plan.counts place.drive → length out ≡ size_at place.drive → Reads (f place.drive) (spot_of place) out → held (cells_of plan f) place ≡ Some out
   unit_read f place out low fits reads =
@@ -139,10 +139,10 @@ module _ (plan : Plan) where
   pub unit_length : (f : Folder) (place : Place) (u : List ℕ) → held (cells_of plan f) place ≡ Some u → length u ≡ size_at place.drive
   unit_length f place u is = by (nat_lt place.address (count_of plan.counts place.drive)) is
     where
-      by : (b : Bool) → (if b then Some (unit_in plan f place.drive place.address) else None) ≡ Some u → length u ≡ size_at place.drive
+      by : (b : Bool) → (if b then Some (unit_in_file plan f place.drive place.address) else None) ≡ Some u → length u ≡ size_at place.drive
       by true e = ap length (sym (same e)) ∙ length-part (f place.drive) (spot_of place) (size_at place.drive)
         where
-          same : ◌≡◌ {A = Option (List ℕ)} (Some (unit_in plan f place.drive place.address)) (Some u) → unit_in plan f place.drive place.address ≡ u
+          same : ◌≡◌ {A = Option (List ℕ)} (Some (unit_in_file plan f place.drive place.address)) (Some u) → unit_in_file plan f place.drive place.address ≡ u
           same e = cc
       by false e = absurd (none e)
         where

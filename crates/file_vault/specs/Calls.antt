@@ -11,33 +11,33 @@ use Rattle.file_vault.specs.declared.mem_files.FileCall.TheVariants.{Write, Cut,
 use Rattle.file_vault.specs.Folders.{Folder, wrote_at, mixed_at}
 
 -- the bytes of an optional file
-abbrev pub bytes_of : Option (Vec ℕ Global) → ℕ → ℕ
-bytes_of None k = 0
-bytes_of (Some v) k = get_or v.items k 0
+abbrev pub bytes_of_file : Option (Vec ℕ Global) → ℕ → ℕ
+bytes_of_file None k = 0
+bytes_of_file (Some v) k = get_or v.items k 0
 
 -- how many there are, and that no byte is past them
 abbrev pub length_of : Option (Vec ℕ Global) → ℕ
 length_of None = 0
 length_of (Some v) = length v.items
 
-pub none_past : (o : Option (Vec ℕ Global)) (k : ℕ) → length_of o ≤ k → bytes_of o k ≡ 0
+pub none_past : (o : Option (Vec ℕ Global)) (k : ℕ) → length_of o ≤ k → bytes_of_file o k ≡ 0
 none_past None k past = refl
 none_past (Some v) k past = get_or_past v.items k 0 past
 
 -- what the files hold at first
 abbrev pub folder_of : List (Vec ℕ Global) → Folder
-folder_of first file k = bytes_of (slice_get first file) k
+folder_of first file k = bytes_of_file (slice_get first file) k
 
 abbrev pub left_first : Folder → Folder → Type 0
 left_first first g = g ≡ first
 
 -- a file with bytes written over
-abbrev pub over : Folder → ℕ → ℕ → List ℕ → Folder
-over f file at bytes d k = if (d == file) && ((nat_le at k) && (nat_lt k (at + length bytes))) then get_or bytes (k - at) 0 else f d k
+abbrev pub file_patched : Folder → ℕ → ℕ → List ℕ → Folder
+file_patched f file at bytes d k = if (d == file) && ((nat_le at k) && (nat_lt k (at + length bytes))) then get_or bytes (k - at) 0 else f d k
 
 -- what calls find after one call more; of a write that was cut short they find nothing
 abbrev pub seen_after : FileCall → Folder → Folder
-seen_after (Write file at bytes) f = over f file at bytes.items
+seen_after (Write file at bytes) f = file_patched f file at bytes.items
 seen_after (Cut file at bytes) f = f
 seen_after (Sync file) f = f
 

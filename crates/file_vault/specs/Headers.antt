@@ -19,17 +19,17 @@ abbrev pub header_at : Bytes → Header
 header_at f = record { identity = part f 8 16; number = f 24; unit_bytes = number_at f 25; count = number_at f 29 }
 
 -- a file is marked, and says this
-pub record HasHeader (f : Bytes) (header : Header) : Type 0 where
+pub record HasFileHeader (f : Bytes) (header : Header) : Type 0 where
   pub marked : part f 0 8 ≡ mark
   pub says : header ≡ header_at f
 
 -- a file is the same but for its first block
-pub record SameBehind (file : ℕ) (f g : Folder) : Type 0 where
-  pub behind : (k : ℕ) → 4096 ≤ k → g file k ≡ f file k
+pub record SameAfterHeader (file : ℕ) (f g : Folder) : Type 0 where
+  pub following : (k : ℕ) → 4096 ≤ k → g file k ≡ f file k
   pub others : (d : ℕ) → d ≢ file → g d ≡ f d
 
-abbrev pub behind_at : ℕ → (Folder → Type 0) → Folder → Type 0
-behind_at file outcomes g = (f : Folder) × outcomes f × SameBehind file f g
+abbrev pub after_header_at : ℕ → (Folder → Type 0) → Folder → Type 0
+after_header_at file outcomes g = (f : Folder) × outcomes f × SameAfterHeader file f g
 
 -- the id of the boot in which a disk was last opened
 abbrev pub boot_in : Folder → List ℕ

@@ -1,7 +1,7 @@
 -- The journal's file: after its header batches, each after a gate byte: 0 closed, 1 open, 2 open and durable. After a gate lie
 -- the length of the batch's bytes, in eight bytes, and these bytes. After the last batch lies a closed gate.
 use Rattle.std.specs.Prelude.{◌≡◌, ◌≢◌, ◌⊎◌, ◌==◌, ◌++◌, ◌+◌, ◌<◌, ◌≤◌, ◌^◌, length, take, not, if◌then◌else◌, Bool, true, false, ℕ, zero, suc, List, [], ◌∷◌}
-use Rattle.extent_groups.specs.Planned.{Wanted}
+use Rattle.extent_groups.specs.Planned.{Intended}
 use Rattle.vault.specs.declared.store.Stop.{Stop}
 use Rattle.vault.specs.declared.store.Stop.TheVariants.{Killed, PowerLost}
 use Rattle.vault.specs.Coding.{word, number, decoded, IsCode}
@@ -25,12 +25,12 @@ opens Killed gate = not (gate == 0)
 opens PowerLost gate = gate == 2
 
 -- the batches after open gates, at most so many
-abbrev pub batches_from : Stop → ℕ → Bytes → ℕ → List (List Wanted)
+abbrev pub batches_from : Stop → ℕ → Bytes → ℕ → List (List Intended)
 batches_from stop zero f at = []
 batches_from stop (suc most) f at = if opens stop (f at) then decoded (body_at f at) ∷ batches_from stop most f (next_at f at) else []
 
 -- the gates of these batches lie here, one after the other
-abbrev pub AreAt : Bytes → ℕ → List ℕ → List (List Wanted) → ℕ → Type 0
+abbrev pub AreAt : Bytes → ℕ → List ℕ → List (List Intended) → ℕ → Type 0
 AreAt f at [] [] end = at ≡ end
 AreAt f at (gate ∷ gates) (batch ∷ batches) end = (gate ≡ at) × IsCode (body_at f at) × (decoded (body_at f at) ≡ batch) × AreAt f (next_at f at) gates batches end
 AreAt f at gates batches end = ⊥
@@ -51,7 +51,7 @@ unfoldable pub most : ℕ
 most = 2 ^ 62
 
 -- the batches that a stop leaves of files
-abbrev pub journal_of : Stop → Folder → List (List Wanted)
+abbrev pub journal_of : Stop → Folder → List (List Intended)
 journal_of stop f = batches_from stop most (f 17) 4096
 
 -- Of each file that a loss of power may leave: up to the gate after the durable batches it is as calls find it, and this gate isn't
@@ -62,7 +62,7 @@ pub record IsDurable (f g : Bytes) (gates : List ℕ) (durable end : ℕ) : Type
 
 -- these batches lie in the journal, after open gates, and some of the first after 2s; the gate after the last is closed; and so
 -- it is in what each stop leaves
-pub record IsSound {F : Type 0} (seen : F → Folder) (may_leave : F → Stop → Folder → Type 0) (files : F) (gates : List ℕ) (batches : List (List Wanted)) (end durable : ℕ) : Type 0 where
+pub record IsSound {F : Type 0} (seen : F → Folder) (may_leave : F → Stop → Folder → Type 0) (files : F) (gates : List ℕ) (batches : List (List Intended)) (end durable : ℕ) : Type 0 where
   pub lie : AreAt (seen files 17) 4096 gates batches end
   pub inside : end ≤ 2 ^ 62
   pub some : durable ≤ length gates
@@ -73,7 +73,7 @@ pub record IsSound {F : Type 0} (seen : F → Folder) (may_leave : F → Stop �
   pub power : (g : Folder) → may_leave files PowerLost g → IsDurable (seen files 17) (g 17) gates durable end
 
 -- a batch's bytes after their length and before a closed gate
-pub record IsRecord (bytes : List ℕ) (batch : List Wanted) : Type 0 where
+pub record IsBatchRecord (bytes : List ℕ) (batch : List Intended) : Type 0 where
   pub body : List ℕ
   pub is : bytes ≡ word (length body) ++ (body ++ 0 ∷ [])
   pub few : length body < 2 ^ 64
@@ -81,20 +81,20 @@ pub record IsRecord (bytes : List ℕ) (batch : List Wanted) : Type 0 where
   pub back : decoded body ≡ batch
 
 -- the same files but for the journal's
-abbrev pub SameUnits : Folder → Folder → Type 0
-SameUnits f g = (d : ℕ) → d ≢ 17 → g d ≡ f d
+abbrev pub SameUnitFiles : Folder → Folder → Type 0
+SameUnitFiles f g = (d : ℕ) → d ≢ 17 → g d ≡ f d
 
 -- a stop leaves what it left, but for the journal: this has these batches, or it is as it was
-abbrev pub leaves_all : Stop → List (List Wanted) → (Folder → Type 0) → Folder → Type 0
-leaves_all stop batches outcomes g = (f : Folder) × outcomes f × SameUnits f g × (journal_of stop g ≡ batches)
+abbrev pub leaves_all : Stop → List (List Intended) → (Folder → Type 0) → Folder → Type 0
+leaves_all stop batches outcomes g = (f : Folder) × outcomes f × SameUnitFiles f g × (journal_of stop g ≡ batches)
 
-abbrev pub leaves_either : Stop → List (List Wanted) → (Folder → Type 0) → Folder → Type 0
-leaves_either stop batches outcomes g = (f : Folder) × outcomes f × SameUnits f g × ((journal_of stop g ≡ journal_of stop f) ⊎ (journal_of stop g ≡ batches))
+abbrev pub leaves_either : Stop → List (List Intended) → (Folder → Type 0) → Folder → Type 0
+leaves_either stop batches outcomes g = (f : Folder) × outcomes f × SameUnitFiles f g × ((journal_of stop g ≡ journal_of stop f) ⊎ (journal_of stop g ≡ batches))
 
 -- a record may be put after the closed gate of a sound journal
-pub record MayPut {F : Type 0} (seen : F → Folder) (may_leave : F → Stop → Folder → Type 0) (files : F) (gates : List ℕ) (batches : List (List Wanted)) (gate durable : ℕ) (bytes : List ℕ) (batch : List Wanted) : Type 0 where
+pub record MayPut {F : Type 0} (seen : F → Folder) (may_leave : F → Stop → Folder → Type 0) (files : F) (gates : List ℕ) (batches : List (List Intended)) (gate durable : ℕ) (bytes : List ℕ) (batch : List Intended) : Type 0 where
   pub sound : IsSound seen may_leave files gates batches gate durable
-  pub put : IsRecord bytes batch
+  pub put : IsBatchRecord bytes batch
   pub room : gate + length bytes ≤ 2 ^ 62
 
 -- one of these gates
@@ -104,15 +104,15 @@ IsAmong (gate ∷ gates) k = (gate ≡ k) ⊎ IsAmong gates k
 
 -- some of these gates were made 2s, and nothing else was changed
 pub record Marks (gates : List ℕ) (f g : Folder) : Type 0 where
-  pub others : SameUnits f g
+  pub others : SameUnitFiles f g
   pub journal : (k : ℕ) → (g 17 k ≡ f 17 k) ⊎ (IsAmong gates k × (g 17 k ≡ 2))
 
 abbrev pub marked_at : List ℕ → (Folder → Type 0) → Folder → Type 0
 marked_at gates outcomes g = (f : Folder) × outcomes f × Marks gates f g
 
 -- a stop leaves what it left, but for the journal: this has as many of these batches, or more of the first
-abbrev pub leaves_more : Stop → List (List Wanted) → (Folder → Type 0) → Folder → Type 0
-leaves_more stop batches outcomes g = (f : Folder) × outcomes f × SameUnits f g
+abbrev pub leaves_more : Stop → List (List Intended) → (Folder → Type 0) → Folder → Type 0
+leaves_more stop batches outcomes g = (f : Folder) × outcomes f × SameUnitFiles f g
     × ((journal_of stop g ≡ journal_of stop f) ⊎ ((count : ℕ) × (length (journal_of stop f) ≤ count) × (count ≤ length batches) × (journal_of stop g ≡ take count batches)))
 
 -- what files stand for after a stop of a kind

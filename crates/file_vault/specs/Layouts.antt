@@ -22,9 +22,9 @@ pub record Plan : Type 0 where
   pub counts : List ℕ
 
 -- the unit at an address of a drive
-abbrev pub unit_in : Plan → Folder → ℕ → ℕ → List ℕ
-unit_in plan f drive at = part (f drive) (offset_of (size_of plan.unit_bytes plan.table_bytes drive) at) (size_of plan.unit_bytes plan.table_bytes drive)
+abbrev pub unit_in_file : Plan → Folder → ℕ → ℕ → List ℕ
+unit_in_file plan f drive at = part (f drive) (offset_of (size_of plan.unit_bytes plan.table_bytes drive) at) (size_of plan.unit_bytes plan.table_bytes drive)
 
 -- the units in the files
 abbrev pub cells_of : Plan → Folder → Cells
-cells_of plan f drive at = if nat_lt at (count_of plan.counts drive) then Some (unit_in plan f drive at) else None
+cells_of plan f drive at = if nat_lt at (count_of plan.counts drive) then Some (unit_in_file plan f drive at) else None

@@ -16,8 +16,8 @@ MayRead boot Killed g rule = IsReadAs boot g rule
 MayRead boot PowerLost g rule = (next : List ℕ) × (next ≢ boot) × IsReadAs next g rule
 
 -- what the next opening may find of files that a stop of a kind left
-abbrev pub found_of : Plan → List ℕ → Stop → (Folder → Type 0) → Image → Type 0
-found_of plan boot stop outcomes i = (g : Folder) × outcomes g × (rule : Stop) × MayRead boot stop g rule × (i ≡ image_of plan rule g)
+abbrev pub found_at_opening : Plan → List ℕ → Stop → (Folder → Type 0) → Image → Type 0
+found_at_opening plan boot stop outcomes i = (g : Folder) × outcomes g × (rule : Stop) × MayRead boot stop g rule × (i ≡ image_of plan rule g)
 
 -- files that have the boot's id are read by the rule of the stop
 pub rule_here : (boot : List ℕ) (stop : Stop) (g : Folder) → boot_in g ≡ boot → MayRead boot stop g stop
@@ -41,9 +41,9 @@ rule_only boot PowerLost g PowerLost is may = refl
 
 -- so the next opening finds what the files stand for
 pub finds_left : (plan : Plan) (boot : List ℕ) (stop : Stop) (leaves since : Folder → Type 0) → ((g : Folder) → leaves g → boot_in g ≡ boot) → ((g : Folder) → leaves g → since g)
-    → (i : Image) → left_of plan stop leaves i → found_of plan boot stop since i
+    → (i : Image) → left_of plan stop leaves i → found_at_opening plan boot stop since i
 finds_left plan boot stop leaves since has to i (g, now, is) = (g, to g now, stop, rule_here boot stop g (has g now), is)
 
 pub left_found : (plan : Plan) (boot : List ℕ) (stop : Stop) (leaves since : Folder → Type 0) → ((g : Folder) → leaves g → boot_in g ≡ boot) → ((g : Folder) → since g → leaves g)
-    → (i : Image) → found_of plan boot stop since i → left_of plan stop leaves i
+    → (i : Image) → found_at_opening plan boot stop since i → left_of plan stop leaves i
 left_found plan boot stop leaves since has to i (g, then, rule, may, is) = (g, to g then, subst (λ r. i ≡ image_of plan r g) (rule_only boot stop g rule (has g (to g then)) may) is)

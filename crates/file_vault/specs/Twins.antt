@@ -5,7 +5,7 @@ use Rattle.vault.specs.declared.store.Stop.{Stop}
 use Rattle.vault.specs.Coding.{number}
 use Rattle.vault.specs.Moments.{Elapses}
 use Rattle.file_vault.specs.Folders.{Bytes, Folder, part}
-use Rattle.file_vault.specs.Headers.{SameBehind}
+use Rattle.file_vault.specs.Headers.{SameAfterHeader}
 use Rattle.file_vault.specs.declared.twin.Twin.{Twin}
 use Rattle.file_vault.specs.declared.twin.Twin.TheVariants.{First, Second}
 use Rattle.file_vault.specs.declared.held.Held.{Held}
@@ -26,9 +26,9 @@ file_of Second = 18
 abbrev pub which_in : Bytes → Bool
 which_in b = not (b 64 == 0)
 
-abbrev pub place_of : Bool → ℕ
-place_of true = 80
-place_of false = 72
+abbrev pub count_offset : Bool → ℕ
+count_offset true = 80
+count_offset false = 72
 
 abbrev pub mark_of : Bool → ℕ
 mark_of true = 1
@@ -36,15 +36,15 @@ mark_of false = 0
 
 -- a file's count
 abbrev pub count_in : Bytes → ℕ
-count_in b = number (part b (place_of (which_in b)) 8)
+count_in b = number (part b (count_offset (which_in b)) 8)
 
 -- a copy counts unless the other's count is higher by more than one
 abbrev pub Counts : Folder → Twin → Type 0
 Counts g twin = count_in (g (file_of (other twin))) ≤ suc (count_in (g (file_of twin)))
 
 -- the bytes after the first block, and zeros before
-abbrev pub behind_of : Bytes → Bytes
-behind_of b k = if nat_lt k 4096 then 0 else b k
+abbrev pub after_first_block : Bytes → Bytes
+after_first_block b k = if nat_lt k 4096 then 0 else b k
 
 abbrev pub none : Bytes
 none k = 0
@@ -55,21 +55,21 @@ chosen true hidden journal b = journal
 chosen false true journal b = none
 chosen false false journal b = b
 
-abbrev pub with_file : Bytes → Folder → Folder
-with_file journal f d = chosen (d == 17) (d == 18) journal (f d)
+abbrev pub with_journal_file : Bytes → Folder → Folder
+with_journal_file journal f d = chosen (d == 17) (d == 18) journal (f d)
 
 -- files as one copy shows them
 abbrev pub seen_as : Twin → Folder → Folder
-seen_as twin f = with_file (behind_of (f (file_of twin))) f
+seen_as twin f = with_journal_file (after_first_block (f (file_of twin))) f
 
 -- files as their copies may show them: each byte of the journal is that of a copy that counts
-pub record Shows (f h : Folder) : Type 0 where
-  pub journal : (k : ℕ) → (Counts f First × (h 17 k ≡ behind_of (f 17) k)) ⊎ (Counts f Second × (h 17 k ≡ behind_of (f 18) k))
+pub record MergesTwins (f h : Folder) : Type 0 where
+  pub journal : (k : ℕ) → (Counts f First × (h 17 k ≡ after_first_block (f 17) k)) ⊎ (Counts f Second × (h 17 k ≡ after_first_block (f 18) k))
   pub hidden : h 18 ≡ none
   pub others : (d : ℕ) → d ≢ 17 → d ≢ 18 → h d ≡ f d
 
 abbrev pub shown : (Folder → Type 0) → Folder → Type 0
-shown outcomes h = (f : Folder) × outcomes f × Shows f h
+shown outcomes h = (f : Folder) × outcomes f × MergesTwins f h
 
 -- the copy that is read
 abbrev pub lead_of : Held → Twin
@@ -82,8 +82,8 @@ abbrev pub AreEven : {F : Type 0} → (F → Stop → Folder → Type 0) → F �
 AreEven may_leave files count = (stop : Stop) (g : Folder) → may_leave files stop g → (count_in (g 17) ≡ count) × (count_in (g 18) ≡ count)
 
 -- the other file doesn't count, also after each stop
-abbrev pub IsAhead : {F : Type 0} → (F → Stop → Folder → Type 0) → F → Twin → ℕ → Type 0
-IsAhead may_leave files twin count = (stop : Stop) (g : Folder) → may_leave files stop g → (count_in (g (file_of twin)) ≡ count) × (count_in (g (file_of (other twin))) + 2 ≤ count)
+abbrev pub IsAheadOfTwin : {F : Type 0} → (F → Stop → Folder → Type 0) → F → Twin → ℕ → Type 0
+IsAheadOfTwin may_leave files twin count = (stop : Stop) (g : Folder) → may_leave files stop g → (count_in (g (file_of twin)) ≡ count) × (count_in (g (file_of (other twin))) + 2 ≤ count)
 
 -- both files have the same batches
 abbrev pub AreAlike : Folder → Type 0
@@ -92,14 +92,14 @@ AreAlike f = (k : ℕ) → 4096 ≤ k → f 17 k ≡ f 18 k
 -- what is known of the files of a journal
 abbrev pub IsHeld : {F : Type 0} → (F → Folder) → (F → Stop → Folder → Type 0) → F → Held → Type 0
 IsHeld seen may_leave files (Both count) = AreEven may_leave files count × AreAlike (seen files)
-IsHeld seen may_leave files (Only twin count) = IsAhead may_leave files twin count
+IsHeld seen may_leave files (Only twin count) = IsAheadOfTwin may_leave files twin count
 IsHeld seen may_leave files Neither = Unit {0}
 
 -- some file is left
-abbrev pub IsKept : Held → Type 0
-IsKept (Both count) = Unit {0}
-IsKept (Only twin count) = Unit {0}
-IsKept Neither = ⊥
+abbrev pub IsAvailable : Held → Type 0
+IsAvailable (Both count) = Unit {0}
+IsAvailable (Only twin count) = Unit {0}
+IsAvailable Neither = ⊥
 
 -- a file may go on alone: it counts, and the other's count isn't above this by more than one, also after each stop
 abbrev pub MayLead : {F : Type 0} → (F → Stop → Folder → Type 0) → F → Twin → ℕ → Type 0
@@ -107,7 +107,7 @@ MayLead may_leave files twin count = (stop : Stop) (g : Folder) → may_leave fi
 
 -- the count of a file may have become this, and else its first block alone is another
 abbrev pub counted_at : ℕ → ℕ → (Folder → Type 0) → Folder → Type 0
-counted_at file count outcomes g = (f : Folder) × outcomes f × SameBehind file f g × ((count_in (g file) ≡ count_in (f file)) ⊎ (count_in (g file) ≡ count))
+counted_at file count outcomes g = (f : Folder) × outcomes f × SameAfterHeader file f g × ((count_in (g file) ≡ count_in (f file)) ⊎ (count_in (g file) ≡ count))
 
 -- one file alone is left, this one
 abbrev pub IsOnly : Twin → Held → Type 0
@@ -138,10 +138,10 @@ abbrev pub CountsOn : {F : Type 0} → (F → Stop → Folder → Type 0) → F 
 CountsOn may_leave files twin = (stop : Stop) (g : Folder) → may_leave files stop g → Counts g twin
 
 -- a file that couldn't be read or synced isn't newer than the other
-abbrev pub IsOlder : {F : Type 0} → (F → Stop → Folder → Type 0) → F → Found → Type 0
-IsOlder may_leave files Pair = Unit {0}
-IsOlder may_leave files (One twin) = CountsOn may_leave files twin
-IsOlder may_leave files None = Unit {0}
+abbrev pub IsNotNewer : {F : Type 0} → (F → Stop → Folder → Type 0) → F → Found → Type 0
+IsNotNewer may_leave files Pair = Unit {0}
+IsNotNewer may_leave files (One twin) = CountsOn may_leave files twin
+IsNotNewer may_leave files None = Unit {0}
 
 -- both files are left
 abbrev pub IsBoth : Held → Type 0
@@ -167,7 +167,7 @@ IsRaised f Neither = Unit {0}
 
 -- what is found: of two files what both may show, of one what it shows
 abbrev pub IsFoundIn : Found → Folder → Folder → Type 0
-IsFoundIn Pair f h = Shows f h
+IsFoundIn Pair f h = MergesTwins f h
 IsFoundIn (One twin) f h = h ≡ seen_as twin f
 IsFoundIn None f h = ⊥
 

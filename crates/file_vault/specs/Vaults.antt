@@ -1,6 +1,6 @@
 -- What a vault over files stands for, and what is known of it.
 use Rattle.std.specs.Prelude.{◌≡◌, ◌≢◌, ◌<◌, get_or, ℕ, Bool, true, false, List, nat_lt, if◌then◌else◌}
-use Rattle.extent_groups.specs.Planned.{Wanted}
+use Rattle.extent_groups.specs.Planned.{Intended}
 use Rattle.vault.specs.declared.store.Stop.{Stop}
 use Rattle.vault.specs.declared.store.VaultError.{VaultError}
 use Rattle.vault.specs.declared.store.VaultError.TheVariants.{Journal, Drive}
@@ -21,7 +21,7 @@ left_of plan stop outcomes i = (g : Folder) × outcomes g × (i ≡ image_of pla
 
 -- some batches lie in a sound journal
 pub record HasBatches {F : Type 0} (seen : F → Folder) (may_leave : F → Stop → Folder → Type 0) (files : F) (gates : List ℕ) (end durable : ℕ) : Type 0 where
-  pub batches : List (List Wanted)
+  pub batches : List (List Intended)
   pub sound : IsSound seen may_leave files gates batches end durable
 
 -- the files are known and have the boot's id, also after each stop; and the journal is sound unless its file has failed
@@ -32,8 +32,8 @@ pub record IsKnown {F : Type 0} (known : F → Type 0) (seen : F → Folder) (ma
   pub failed : broken ≡ true → 0 < faults files
 
 -- the fault of a drive's file, or of the table's
-abbrev pub fault_of : ℕ → VaultError
-fault_of drive = if nat_lt drive 16 then Drive drive else Journal
+abbrev pub fault_of_file : ℕ → VaultError
+fault_of_file drive = if nat_lt drive 16 then Drive drive else Journal
 
 -- the files of the drives below a number are durable, but for lost drives and drives without units
 abbrev pub AreSynced : List Bool → List ℕ → Folder → (Stop → Folder → Type 0) → ℕ → Type 0

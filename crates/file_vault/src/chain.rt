@@ -3,7 +3,7 @@ ghost use Rattle.std.specs.Prelude.{◌≡◌, ◌≤◌, ◌+◌, ◌^◌, ℕ,
 ghost use Rattle.vault.specs.declared.store.Stop.{Stop};
 ghost use Rattle.file_vault.specs.Folders.{Bytes};
 ghost use Rattle.file_vault.specs.Journals.{opens, length_at};
-ghost use Rattle.file_vault.specs.Recoveries.{rule_of, marked_after, HasChain, HasFound, IsNext, OnlyRead};
+ghost use Rattle.file_vault.specs.Recoveries.{rule_of, marked_after, HasChain, HasFoundBatches, IsNextBatch, OnlyRead};
 
 use crate::files::{FileFault, Files};
 use crate::header::read_part;
@@ -42,7 +42,7 @@ impl Chain {
     // Takes a batch after this gate, as long as this.
     fn push(&mut self, gate: u8, length: u64) -> Result<(), AllocError>
         requires { (self.old.end ≤ 2 ^ 60) × (length ≤ 2 ^ 60) }
-        ensures more { (f : Bytes) (rule : Stop) → HasChain f rule self.old.gates.items self.old.end self.old.marked → IsNext f rule self.old.end gate length
+        ensures more { (f : Bytes) (rule : Stop) → HasChain f rule self.old.gates.items self.old.end self.old.marked → IsNextBatch f rule self.old.end gate length
             → OnOk result (HasChain f rule self.new.gates.items self.new.end self.new.marked) }
         ensures end { OnOk result (self.new.end ≡ self.old.end + 9 + length) }
     {
@@ -108,7 +108,7 @@ fn take_next<F: Files>(
     ensures more { F.known files.old → HasChain (F.seen files.old 17) (rule_of all) chain.old.gates.items chain.old.end chain.old.marked
         → IfOk result (λ more. IsTrue more → HasChain (F.seen files.old 17) (rule_of all) chain.new.gates.items chain.new.end chain.new.marked) }
     ensures last { F.known files.old → HasChain (F.seen files.old 17) (rule_of all) chain.old.gates.items chain.old.end chain.old.marked
-        → IfOk result (λ more. more ≡ false → HasFound (F.seen files.old 17) (rule_of all) chain.new.gates.items chain.new.end chain.new.marked) }
+        → IfOk result (λ more. more ≡ false → HasFoundBatches (F.seen files.old 17) (rule_of all) chain.new.gates.items chain.new.end chain.new.marked) }
     ensures grows { IfOk result (λ more. IsTrue more → (chain.old.end + 9 ≤ chain.new.end) × (chain.new.end ≤ 2 ^ 62)) }
 {
     let gate = read_gate(files, chain.end)?;
@@ -132,7 +132,7 @@ pub(crate) fn find_chain<F: Files>(
     all: bool,
 ) -> Result<Chain, VaultError>
     ensures read { F.known files.old → OnlyRead F.known F.seen F.may_leave F.moment F.left_since F.faults files.old files.new }
-    ensures found { F.known files.old → IfOk result (λ chain. HasFound (F.seen files.old 17) (rule_of all) chain.gates.items chain.end chain.marked) }
+    ensures found { F.known files.old → IfOk result (λ chain. HasFoundBatches (F.seen files.old 17) (rule_of all) chain.gates.items chain.end chain.marked) }
 {
     let mut chain = Chain::new(alloc);
     let mut body = Vec::new(alloc);

@@ -5,7 +5,7 @@ ghost use Rattle.std.specs.Int.{w32, to_le_bytes};
 ghost use Rattle.vault.specs.Moments.{Elapses};
 ghost use Rattle.vault.specs.declared.store.Stop.{Stop};
 ghost use Rattle.file_vault.specs.Folders.{HasFault, HasFile, Wrote, part};
-ghost use Rattle.file_vault.specs.Headers.{HasHeader, SameBehind, behind_at, boot_in, mark as the_mark, number_at};
+ghost use Rattle.file_vault.specs.Headers.{HasFileHeader, SameAfterHeader, after_header_at, boot_in, mark as the_mark, number_at};
 
 use crate::files::{FileFault, Files};
 use vault::TABLE;
@@ -32,7 +32,7 @@ pub struct Header {
 /// Writes what a file is, and makes it durable. The mark is written last.
 pub fn write_header<F: Files>(files: &mut F, header: &Header) -> Result<(), FileFault>
     ensures stays { F.known files.old → F.known files.new }
-    ensures header { F.known files.old → OnOk result (HasHeader (F.seen files.new header.now.number) header.now) }
+    ensures header { F.known files.old → OnOk result (HasFileHeader (F.seen files.new header.now.number) header.now) }
 {
     let number = header.number;
     write_identity(files, number, &header.identity)?;
@@ -65,7 +65,7 @@ fn write_number<F: Files>(files: &mut F, number: u8, at: u64, value: u32) -> Res
 /// What a file is; none if it isn't marked as a vault's.
 pub fn read_header<F: Files>(files: &mut F, number: u8) -> Result<Option<Header>, FileFault>
     ensures stays { F.known files.old → F.known files.new }
-    ensures header { F.known files.old → IfOk result (λ found. IfSome found (λ header. HasHeader (F.seen files.old number) header)) }
+    ensures header { F.known files.old → IfOk result (λ found. IfSome found (λ header. HasFileHeader (F.seen files.old number) header)) }
     ensures none { F.known files.old → IfOk result (λ found. IfNone found (part (F.seen files.old number) 0 8 ≢ the_mark)) }
     ensures seen { F.known files.old → F.seen files.new ≡ F.seen files.old }
 {
@@ -135,12 +135,12 @@ pub(crate) fn is_boot<F: Files>(files: &mut F, boot: &[u8; 16]) -> Result<bool, 
 // Writes the boot in which the disk is opened, and makes it durable.
 pub(crate) fn put_boot<F: Files>(files: &mut F, boot: &[u8; 16]) -> Result<(), FileFault>
     ensures stays { F.known files.old → F.known files.new }
-    ensures behind { F.known files.old → SameBehind 16 (F.seen files.old) (F.seen files.new) }
+    ensures following { F.known files.old → SameAfterHeader 16 (F.seen files.old) (F.seen files.new) }
     ensures boot { F.known files.old → OnOk result (boot_in (F.seen files.new) ≡ boot.now) }
     ensures durable { F.known files.old → OnOk result ((stop : Stop) → HasFile 16 (F.seen files.new) (F.may_leave files.new stop)) }
     ensures time { F.known files.old
         → (stop : Stop) → Elapses (F.moment files.old) (F.moment files.new) (F.left_since files.old stop) (F.left_since files.new stop)
-        (behind_at 16 (F.may_leave files.old stop)) (F.may_leave files.new stop) }
+        (after_header_at 16 (F.may_leave files.old stop)) (F.may_leave files.new stop) }
     ensures cause { F.known files.old → HasFault (F.faults files.old) (F.faults files.new) result }
     ensures long { length boot.now ≡ 16 }
 {

@@ -4,9 +4,9 @@ ghost use Rattle.vault.specs.Moments.{Elapses, Within};
 ghost use Rattle.vault.specs.declared.store.Stop.{Stop};
 ghost use Rattle.vault.specs.declared.store.Stop.TheVariants.{Killed};
 ghost use Rattle.file_vault.specs.Folders.{Folder, HasFile, Wrote, Mixed, Reads, wrote_at, mixed_at};
-ghost use Rattle.file_vault.specs.Headers.{SameBehind};
+ghost use Rattle.file_vault.specs.Headers.{SameAfterHeader};
 ghost use Rattle.file_vault.specs.declared.twin.Twin.TheVariants.{First};
-ghost use Rattle.file_vault.specs.Twins.{lead_of, file_of, seen_as, shown, IsHeld, IsKept, IsOnly, HasCount, HasSucceeded, AreEven, AreAlike, MayLead, SameBoth, ShownElapses};
+ghost use Rattle.file_vault.specs.Twins.{lead_of, file_of, seen_as, shown, IsHeld, IsAvailable, IsOnly, HasCount, HasSucceeded, AreEven, AreAlike, MayLead, SameBoth, ShownElapses};
 
 use crate::files::Files;
 use crate::layout::JOURNAL;
@@ -33,9 +33,9 @@ pub(crate) fn go_alone<F: Files>(files: &mut F, twin: Twin, count: u64) -> Held
     ensures only { IsOnly twin result }
     ensures raised { HasCount (count + 3) result }
     ensures held { F.known files.old → MayLead F.may_leave files.old twin count → IsHeld F.seen F.may_leave files.new result }
-    ensures behind { F.known files.old → SameBehind (file_of twin) (F.seen files.old) (F.seen files.new) }
+    ensures following { F.known files.old → SameAfterHeader (file_of twin) (F.seen files.old) (F.seen files.new) }
     ensures left { F.known files.old → (stop : Stop) (g : Folder) → F.may_leave files.new stop g
-        → (f : Folder) × F.may_leave files.old stop f × SameBehind (file_of twin) f g }
+        → (f : Folder) × F.may_leave files.old stop f × SameAfterHeader (file_of twin) f g }
     ensures time { F.known files.old → MayLead F.may_leave files.old twin count
         → (stop : Stop) → ShownElapses F.moment F.left_since F.may_leave files.old files.new stop (λ h. shown (F.may_leave files.old stop) h) }
 {
@@ -55,7 +55,7 @@ fn keep<F: Files>(files: &mut F, count: u64, first: bool, second: bool) -> Held
     ensures succeeded { HasSucceeded first second result }
     ensures held { F.known files.old → AreEven F.may_leave files.old count → (first ≡ true → second ≡ true → AreAlike (F.seen files.old))
         → IsHeld F.seen F.may_leave files.new result }
-    ensures behind { F.known files.old → SameBoth (F.seen files.old) (F.seen files.new) }
+    ensures following { F.known files.old → SameBoth (F.seen files.old) (F.seen files.new) }
     ensures left { F.known files.old → (stop : Stop) (g : Folder) → F.may_leave files.new stop g
         → (f : Folder) × F.may_leave files.old stop f × SameBoth f g }
     ensures time { F.known files.old → AreEven F.may_leave files.old count
@@ -80,11 +80,11 @@ pub(crate) fn write_both<F: Files>(files: &mut F, count: u64, at: u64, bytes: &[
     ensures later { F.known files.old → F.faults files.old ≤ F.faults files.new }
     ensures held { F.known files.old → AreEven F.may_leave files.old count → AreAlike (F.seen files.old)
         → IsHeld F.seen F.may_leave files.new result }
-    ensures wrote { F.known files.old → AreAlike (F.seen files.old) → IsKept result
+    ensures wrote { F.known files.old → AreAlike (F.seen files.old) → IsAvailable result
         → Wrote 17 at bytes.now (seen_as First (F.seen files.old)) (seen_as (lead_of result) (F.seen files.new)) }
     ensures mixed { F.known files.old → AreAlike (F.seen files.old)
         → Mixed 17 at bytes.now (seen_as First (F.seen files.old)) (seen_as (lead_of result) (F.seen files.new)) }
-    ensures killed { F.known files.old → AreEven F.may_leave files.old count → AreAlike (F.seen files.old) → IsKept result
+    ensures killed { F.known files.old → AreEven F.may_leave files.old count → AreAlike (F.seen files.old) → IsAvailable result
         → Within (λ h. shown (F.may_leave files.new Killed) h) (wrote_at 17 at bytes.now (λ h. shown (F.may_leave files.old Killed) h)) }
     ensures time { F.known files.old → AreEven F.may_leave files.old count
         → (stop : Stop) → ShownElapses F.moment F.left_since F.may_leave files.old files.new stop
@@ -103,7 +103,7 @@ pub(crate) fn sync_both<F: Files>(files: &mut F, count: u64) -> Held
         → IsHeld F.seen F.may_leave files.new result }
     ensures seen { F.known files.old → AreAlike (F.seen files.old)
         → seen_as (lead_of result) (F.seen files.new) ≡ seen_as First (F.seen files.old) }
-    ensures durable { F.known files.old → AreAlike (F.seen files.old) → IsHeld F.seen F.may_leave files.new result → IsKept result
+    ensures durable { F.known files.old → AreAlike (F.seen files.old) → IsHeld F.seen F.may_leave files.new result → IsAvailable result
         → (stop : Stop) → HasFile 17 (seen_as First (F.seen files.old)) (λ h. shown (F.may_leave files.new stop) h) }
     ensures time { F.known files.old → AreEven F.may_leave files.old count
         → (stop : Stop) → ShownElapses F.moment F.left_since F.may_leave files.old files.new stop (λ h. shown (F.may_leave files.old stop) h) }
@@ -122,7 +122,7 @@ pub(crate) fn read_both<F: Files>(files: &mut F, count: u64, at: u64, out: &mut 
         → IsHeld F.seen F.may_leave files.new result }
     ensures seen { F.known files.old → AreAlike (F.seen files.old)
         → seen_as (lead_of result) (F.seen files.new) ≡ seen_as First (F.seen files.old) }
-    ensures bytes { F.known files.old → AreAlike (F.seen files.old) → IsKept result
+    ensures bytes { F.known files.old → AreAlike (F.seen files.old) → IsAvailable result
         → Reads (seen_as First (F.seen files.old) 17) at out.new }
     ensures time { F.known files.old → AreEven F.may_leave files.old count
         → (stop : Stop) → ShownElapses F.moment F.left_since F.may_leave files.old files.new stop (λ h. shown (F.may_leave files.old stop) h) }

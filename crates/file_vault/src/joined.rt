@@ -4,7 +4,7 @@ ghost use Rattle.std.specs.Prelude.{◌≡◌, ◌≤◌, ◌+◌, ◌<◌, ◌^
 ghost use Rattle.vault.specs.Moments.{Elapses};
 ghost use Rattle.vault.specs.declared.store.Stop.{Stop};
 ghost use Rattle.file_vault.specs.Folders.{HasFile};
-ghost use Rattle.file_vault.specs.Twins.{file_of, other, count_in, lead_of, seen_as, shown, Shows, IsHeld, IsKept, IsBoth, IsRaised, newer_of, IsOlder, IsFoundIn, AreAlike, AreSettled, CopiedOver, copied_at, ShownElapses};
+ghost use Rattle.file_vault.specs.Twins.{file_of, other, count_in, lead_of, seen_as, shown, MergesTwins, IsHeld, IsAvailable, IsBoth, IsRaised, newer_of, IsNotNewer, IsFoundIn, AreAlike, AreSettled, CopiedOver, copied_at, ShownElapses};
 
 use crate::files::{FileFault, Files};
 use crate::held::{Held, go_alone};
@@ -197,7 +197,7 @@ fn pair<F: Files>(files: &mut F, lead: Twin, count: u64, least: u64) -> Held
         → IsHeld F.seen F.may_leave files.new result }
     ensures seen { F.known files.old
         → count ≡ count_in (F.seen files.old (file_of lead)) → least ≡ count_in (F.seen files.old (file_of (other lead))) → least ≤ count
-        → IsKept result → Shows (F.seen files.old) (seen_as (lead_of result) (F.seen files.new)) }
+        → IsAvailable result → MergesTwins (F.seen files.old) (seen_as (lead_of result) (F.seen files.new)) }
     ensures raised { F.known files.old
         → count ≡ count_in (F.seen files.old (file_of lead)) → least ≡ count_in (F.seen files.old (file_of (other lead))) → least ≤ count
         → IsRaised (F.seen files.old) result }
@@ -223,13 +223,13 @@ fn pair<F: Files>(files: &mut F, lead: Twin, count: u64, least: u64) -> Held
 pub(crate) fn join<F: Files>(files: &mut F) -> (Found, Held)
     ensures stays { F.known files.old → F.known files.new }
     ensures later { F.known files.old → F.faults files.old ≤ F.faults files.new }
-    ensures held { F.known files.old → IsOlder F.may_leave files.old result.0 → IsHeld F.seen F.may_leave files.new result.1 }
-    ensures seen { F.known files.old → IsKept result.1
+    ensures held { F.known files.old → IsNotNewer F.may_leave files.old result.0 → IsHeld F.seen F.may_leave files.new result.1 }
+    ensures seen { F.known files.old → IsAvailable result.1
         → IsFoundIn result.0 (F.seen files.old) (seen_as (lead_of result.1) (F.seen files.new)) }
     ensures raised { F.known files.old → IsRaised (F.seen files.old) result.1 }
     ensures newest { F.known files.old → IsBoth result.1
         → seen_as (lead_of result.1) (F.seen files.new) ≡ seen_as (newer_of (F.seen files.old)) (F.seen files.old) }
-    ensures time { F.known files.old → IsOlder F.may_leave files.old result.0
+    ensures time { F.known files.old → IsNotNewer F.may_leave files.old result.0
         → (stop : Stop) → ShownElapses F.moment F.left_since F.may_leave files.old files.new stop (λ h. shown (F.may_leave files.old stop) h) }
 {
     let first = admit(files, Twin::First);

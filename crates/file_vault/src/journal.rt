@@ -4,10 +4,10 @@
 // most the last batch torn, with its gate closed. A flush syncs the journal and then makes each open gate a 2: so after a 2 the
 // batch is durable. After a kill recovery takes each batch after an open gate, after a loss of power those after 2s.
 ghost use Rattle.std.specs.Prelude.{◌≡◌, ◌≤◌, ◌<◌, ◌+◌, ◌^◌, ◌-◌, ◌++◌, [], ◌∷◌, ℕ, List, length, drop, OnOk, IfOk, IfSome};
-ghost use Rattle.file_vault.specs.Journals.{IsAmong, Marks, marked_at, leaves_more, journal_of, MayPut, IsSound, IsRecord};
-ghost use Rattle.file_vault.specs.Journals.{SameUnits, leaves_all, leaves_either};
+ghost use Rattle.file_vault.specs.Journals.{IsAmong, Marks, marked_at, leaves_more, journal_of, MayPut, IsSound, IsBatchRecord};
+ghost use Rattle.file_vault.specs.Journals.{SameUnitFiles, leaves_all, leaves_either};
 ghost use Rattle.file_vault.specs.Folders.{HasFault, part};
-ghost use Rattle.extent_groups.specs.Planned.{Wanted};
+ghost use Rattle.extent_groups.specs.Planned.{Intended};
 ghost use Rattle.vault.specs.Moments.{Elapses, Within, HasCause, no_drive};
 ghost use Rattle.vault.specs.Coding.{word};
 ghost use Rattle.vault.specs.declared.store.Stop.{Stop};
@@ -36,7 +36,7 @@ pub(crate) fn make_record(
     framed: &mut Vec<u8>,
     batch: &Batch,
 ) -> Result<(), AllocError>
-    ensures { OnOk result (IsRecord framed.new.items batch.now) }
+    ensures { OnOk result (IsBatchRecord framed.new.items batch.now) }
 {
     body.clear();
     batch.encode(body)?;
@@ -49,17 +49,17 @@ pub(crate) fn put_record<F: Files>(files: &mut F, gate: u64, bytes: &[u8]) -> Re
     ensures stays { F.known files.old → F.known files.new }
 
     // After it the batch is in the journal, and a kill leaves it.
-    ensures put { F.known files.old → (gates : List ℕ) (batches : List (List Wanted)) (durable : ℕ) (batch : List Wanted)
+    ensures put { F.known files.old → (gates : List ℕ) (batches : List (List Intended)) (durable : ℕ) (batch : List Intended)
         → MayPut F.seen F.may_leave files.old gates batches gate durable bytes.now batch
         → OnOk result (IsSound F.seen F.may_leave files.new (gates ++ gate ∷ []) (batches ++ batch ∷ []) (gate + length bytes.now) durable) }
-    ensures killed { F.known files.old → (gates : List ℕ) (batches : List (List Wanted)) (durable : ℕ) (batch : List Wanted)
+    ensures killed { F.known files.old → (gates : List ℕ) (batches : List (List Intended)) (durable : ℕ) (batch : List Intended)
         → MayPut F.seen F.may_leave files.old gates batches gate durable bytes.now batch
         → OnOk result (Within (F.may_leave files.new Killed) (leaves_all Killed (batches ++ batch ∷ []) (F.may_leave files.old Killed))) }
-    ensures others { F.known files.old → SameUnits (F.seen files.old) (F.seen files.new) }
+    ensures others { F.known files.old → SameUnitFiles (F.seen files.old) (F.seen files.new) }
     ensures cause { F.known files.old → HasFault (F.faults files.old) (F.faults files.new) result }
 
     // A stop during the call leaves the journal as it was, or with the batch.
-    ensures time { F.known files.old → (gates : List ℕ) (batches : List (List Wanted)) (durable : ℕ) (batch : List Wanted)
+    ensures time { F.known files.old → (gates : List ℕ) (batches : List (List Intended)) (durable : ℕ) (batch : List Intended)
         → MayPut F.seen F.may_leave files.old gates batches gate durable bytes.now batch
         → (stop : Stop) → Elapses (F.moment files.old) (F.moment files.new) (F.left_since files.old stop) (F.left_since files.new stop)
         (leaves_either stop (batches ++ batch ∷ []) (F.may_leave files.old stop)) (F.may_leave files.new stop) }
@@ -87,13 +87,13 @@ fn mark<F: Files>(files: &mut F, gates: &[u64]) -> Result<(), FileFault>
 // Makes batches durable, those after these gates, which are all that aren't.
 pub(crate) fn flush_gates<F: Files>(files: &mut F, rest: &[u64]) -> Result<(), FileFault>
     ensures stays { F.known files.old → F.known files.new }
-    ensures others { F.known files.old → SameUnits (F.seen files.old) (F.seen files.new) }
-    ensures reads { F.known files.old → (gates : List ℕ) (batches : List (List Wanted)) (end durable : ℕ)
+    ensures others { F.known files.old → SameUnitFiles (F.seen files.old) (F.seen files.new) }
+    ensures reads { F.known files.old → (gates : List ℕ) (batches : List (List Intended)) (end durable : ℕ)
         → IsSound F.seen F.may_leave files.old gates batches end durable → rest.now ≡ drop durable gates → journal_of Killed (F.seen files.new) ≡ batches }
-    ensures flushed { F.known files.old → (gates : List ℕ) (batches : List (List Wanted)) (end durable : ℕ)
+    ensures flushed { F.known files.old → (gates : List ℕ) (batches : List (List Intended)) (end durable : ℕ)
         → IsSound F.seen F.may_leave files.old gates batches end durable → rest.now ≡ drop durable gates
         → OnOk result (IsSound F.seen F.may_leave files.new gates batches end (length gates)) }
-    ensures time { F.known files.old → (gates : List ℕ) (batches : List (List Wanted)) (end durable : ℕ)
+    ensures time { F.known files.old → (gates : List ℕ) (batches : List (List Intended)) (end durable : ℕ)
         → IsSound F.seen F.may_leave files.old gates batches end durable → rest.now ≡ drop durable gates
         → (stop : Stop) → Elapses (F.moment files.old) (F.moment files.new) (F.left_since files.old stop) (F.left_since files.new stop)
         (leaves_more stop batches (F.may_leave files.old stop)) (F.may_leave files.new stop) }
@@ -107,7 +107,7 @@ pub(crate) fn flush_gates<F: Files>(files: &mut F, rest: &[u64]) -> Result<(), F
 // Closes the first gate, and makes that durable.
 pub(crate) fn close_first<F: Files>(files: &mut F) -> Result<(), FileFault>
     ensures stays { F.known files.old → F.known files.new }
-    ensures others { F.known files.old → SameUnits (F.seen files.old) (F.seen files.new) }
+    ensures others { F.known files.old → SameUnitFiles (F.seen files.old) (F.seen files.new) }
     ensures closed { F.known files.old → OnOk result (IsSound F.seen F.may_leave files.new [] [] 4096 0) }
     ensures time { F.known files.old
         → (stop : Stop) → Elapses (F.moment files.old) (F.moment files.new) (F.left_since files.old stop) (F.left_since files.new stop)

@@ -7,8 +7,8 @@ ghost use Rattle.vault.specs.declared.store.VaultError.TheVariants.{Memory, Jour
 ghost use Rattle.vault.specs.declared.store.Stop.{Stop};
 ghost use Rattle.file_vault.specs.Folders.{HasFile};
 ghost use Rattle.file_vault.specs.Journals.{image_of, gate_at};
-ghost use Rattle.file_vault.specs.Vaults.{plan_of, left_of, IsKnown, fault_of, AreSynced};
-ghost use Rattle.file_vault.specs.Openings.{found_of, finds_left, left_found};
+ghost use Rattle.file_vault.specs.Vaults.{plan_of, left_of, IsKnown, fault_of_file, AreSynced};
+ghost use Rattle.file_vault.specs.Openings.{found_at_opening, finds_left, left_found};
 ghost use Rattle.vault.specs.declared.store.Stop.TheVariants.{Killed};
 
 use crate::files::{FileFault, Files};
@@ -44,7 +44,7 @@ pub struct FileVault<F: Files + Drop> {
 
 // The fault of a drive's file or the table's.
 fn fault_of(drive: u8) -> VaultError
-    ensures { result ≡ fault_of drive }
+    ensures { result ≡ fault_of_file drive }
 {
     if drive < TABLE {
         VaultError::Drive(drive)
@@ -156,7 +156,7 @@ impl<F: Files + Drop> Vault for FileVault<F> {
     ghost moment = { λ v. F.Files.moment v.files };
 
     // What the next opening may find, which reads the files by the boot's id in them: no stop during a call may leave another id.
-    ghost left_since = { λ v stop t i. found_of (plan_of v.layout) v.boot stop (F.Files.left_since v.files stop t) i };
+    ghost left_since = { λ v stop t i. found_at_opening (plan_of v.layout) v.boot stop (F.Files.left_since v.files stop t) i };
 
     ghost faults = { λ v. F.Files.faults v.files };
 

@@ -1,13 +1,13 @@
 // A vault over files is made, or opened after a stop.
 ghost use Rattle.std.specs.Prelude.{◌≡◌, ◌≢◌, ◌≤◌, ◌^◌, [], ℕ, Bool, List, length, true, OnOk, IfOk, MatchResult};
-ghost use Rattle.extent_groups.specs.Planned.{Wanted};
-ghost use Rattle.vault.specs.Moments.{AreLogged, Elapses, HasJournal, HasUnits};
+ghost use Rattle.extent_groups.specs.Planned.{Intended};
+ghost use Rattle.vault.specs.Moments.{AreLogged, Elapses, HasJournal, HasUnitsAtStop};
 ghost use Rattle.vault.specs.declared.store.Stop.{Stop};
 ghost use Rattle.vault.specs.declared.store.Stop.TheVariants.{Killed, PowerLost};
 ghost use Rattle.file_vault.specs.Folders.{HasFile};
 ghost use Rattle.file_vault.specs.Layouts.{Plan, cells_of};
 ghost use Rattle.file_vault.specs.Headers.{boot_in, HasBoot, IsReadAs};
-ghost use Rattle.file_vault.specs.Journals.{IsSound, SameUnits, journal_of, image_of, leaves_more};
+ghost use Rattle.file_vault.specs.Journals.{IsSound, SameUnitFiles, journal_of, image_of, leaves_more};
 ghost use Rattle.file_vault.specs.Vaults.{HasBatches, plan_of, left_of};
 ghost use Rattle.file_vault.specs.Recoveries.{IsFound, LeavesOver, leaves_kept, leaves_as_read, leaves_read, read_on};
 
@@ -24,11 +24,11 @@ use vault::{TABLE, VaultError};
 // Makes all batches durable that a killed process left. They lie after open gates, and the gate after them is closed.
 fn keep_all<F: Files>(files: &mut F, chain: &Chain) -> Result<(), FileFault>
     ensures stays { F.known files.old → F.known files.new }
-    ensures others { F.known files.old → SameUnits (F.seen files.old) (F.seen files.new) }
-    ensures kept { F.known files.old → (batches : List (List Wanted))
+    ensures others { F.known files.old → SameUnitFiles (F.seen files.old) (F.seen files.new) }
+    ensures kept { F.known files.old → (batches : List (List Intended))
         → IsFound (F.seen files.old 17) Killed chain.now.gates.items batches chain.now.end chain.now.marked
         → OnOk result (IsSound F.seen F.may_leave files.new chain.now.gates.items batches chain.now.end (length chain.now.gates.items)) }
-    ensures time { F.known files.old → (batches : List (List Wanted))
+    ensures time { F.known files.old → (batches : List (List Intended))
         → IsFound (F.seen files.old 17) Killed chain.now.gates.items batches chain.now.end chain.now.marked
         → (stop : Stop) → Elapses (F.moment files.old) (F.moment files.new) (F.left_since files.old stop) (F.left_since files.new stop)
         (leaves_more stop batches (F.may_leave files.old stop)) (F.may_leave files.new stop) }
@@ -41,12 +41,12 @@ fn keep_all<F: Files>(files: &mut F, chain: &Chain) -> Result<(), FileFault>
 // Closes the gate after the durable batches that a loss of power left, and makes that durable.
 fn close_end<F: Files>(files: &mut F, end: u64) -> Result<(), FileFault>
     ensures stays { F.known files.old → F.known files.new }
-    ensures others { F.known files.old → SameUnits (F.seen files.old) (F.seen files.new) }
-    ensures kept { F.known files.old → (gates : List ℕ) (batches : List (List Wanted)) (marked : ℕ)
+    ensures others { F.known files.old → SameUnitFiles (F.seen files.old) (F.seen files.new) }
+    ensures kept { F.known files.old → (gates : List ℕ) (batches : List (List Intended)) (marked : ℕ)
         → IsFound (F.seen files.old 17) PowerLost gates batches end marked
         → OnOk result (IsSound F.seen F.may_leave files.new gates batches end (length gates)) }
     ensures durable { F.known files.old → OnOk result ((stop : Stop) → HasFile 17 (F.seen files.new) (F.may_leave files.new stop)) }
-    ensures time { F.known files.old → (gates : List ℕ) (batches : List (List Wanted)) (marked : ℕ)
+    ensures time { F.known files.old → (gates : List ℕ) (batches : List (List Intended)) (marked : ℕ)
         → IsFound (F.seen files.old 17) PowerLost gates batches end marked
         → (stop : Stop) → Elapses (F.moment files.old) (F.moment files.new) (F.left_since files.old stop) (F.left_since files.new stop)
         (leaves_read (F.may_leave files.old stop)) (F.may_leave files.new stop) }
@@ -124,7 +124,7 @@ fn begin<F: Files>(files: &mut F, layout: &Layout, boot: &[u8; 16]) -> Result<()
         → OnOk result (cells_of plan (F.seen files.new) ≡ cells_of plan (F.seen files.old)) }
     ensures boot { F.known files.old → OnOk result (HasBoot boot.now (F.seen files.new) (F.may_leave files.new)) }
     ensures units { F.known files.old → OnOk result ((stop : Stop)
-        → HasUnits [] (cells_of (plan_of layout.now) (F.seen files.new)) (left_of (plan_of layout.now) stop (F.may_leave files.new stop))) }
+        → HasUnitsAtStop [] (cells_of (plan_of layout.now) (F.seen files.new)) (left_of (plan_of layout.now) stop (F.may_leave files.new stop))) }
 {
     close_first(files)?;
     put_boot(files, boot)?;
@@ -154,7 +154,7 @@ impl<F: Files + Drop> FileVault<F> {
         // Each stop leaves these units and no batches: so all batches of the journal, which has none.
         ensures durable { F.known files → IfOk result (λ v. (stop : Stop) → HasJournal [] (left_of (plan_of layout) stop (F.may_leave v.files stop))) }
         ensures units { F.known files → IfOk result (λ v. (stop : Stop)
-            → HasUnits [] (cells_of (plan_of layout) (F.seen v.files)) (left_of (plan_of layout) stop (F.may_leave v.files stop))) }
+            → HasUnitsAtStop [] (cells_of (plan_of layout) (F.seen v.files)) (left_of (plan_of layout) stop (F.may_leave v.files stop))) }
         ensures logged { F.known files → IfOk result (λ v. (lost : List Bool) → AreLogged (λ w. image_of (plan_of w.layout) Killed (F.seen w.files))
             (λ w stop i. left_of (plan_of w.layout) stop (F.may_leave w.files stop) i) lost v) }
     {

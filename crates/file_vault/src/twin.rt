@@ -5,8 +5,8 @@ ghost use Rattle.std.specs.Int.{w64, to_le_bytes};
 ghost use Rattle.vault.specs.Moments.{Elapses};
 ghost use Rattle.vault.specs.declared.store.Stop.{Stop};
 ghost use Rattle.file_vault.specs.Folders.{HasFault, HasFile, Wrote, Mixed, mixed_at};
-ghost use Rattle.file_vault.specs.Headers.{SameBehind};
-ghost use Rattle.file_vault.specs.Twins.{file_of, other, which_in, place_of, mark_of, count_in, counted_at};
+ghost use Rattle.file_vault.specs.Headers.{SameAfterHeader};
+ghost use Rattle.file_vault.specs.Twins.{file_of, other, which_in, count_offset, mark_of, count_in, counted_at};
 
 use crate::files::{FileFault, Files};
 use crate::header::read_part;
@@ -51,7 +51,7 @@ impl Twin {
 
 // Where a file's count may be.
 fn place_of(second: bool) -> u64
-    ensures { result ≡ place_of second }
+    ensures { result ≡ count_offset second }
 {
     if second { 80 } else { 72 }
 }
@@ -127,7 +127,7 @@ fn put_number<F: Files>(files: &mut F, number: u8, at: u64, value: u64) -> Resul
 // Makes the count of a file another, and the file durable. A stop in it leaves either count.
 pub(crate) fn put_count<F: Files>(files: &mut F, number: u8, count: u64) -> Result<(), FileFault>
     ensures stays { F.known files.old → F.known files.new }
-    ensures behind { F.known files.old → SameBehind number (F.seen files.old) (F.seen files.new) }
+    ensures following { F.known files.old → SameAfterHeader number (F.seen files.old) (F.seen files.new) }
     ensures count { F.known files.old → OnOk result (count_in (F.seen files.new number) ≡ count) }
     ensures durable { F.known files.old → OnOk result ((stop : Stop) → HasFile number (F.seen files.new) (F.may_leave files.new stop)) }
     ensures time { F.known files.old

@@ -2,7 +2,7 @@
 ghost use Rattle.std.specs.Prelude.{◌+◌, ◌≡◌, OnOk, IfOk, IsOk, MatchResult};
 ghost use Rattle.vault.specs.declared.store.Stop.{Stop};
 ghost use Rattle.file_vault.specs.Folders.{HasFault};
-ghost use Rattle.file_vault.specs.Twins.{seen_as, lead_of, shown, IsHeld, IsKept, IsBoth, IsRaised, newer_of, IsOlder, IsFoundIn, ShownElapses};
+ghost use Rattle.file_vault.specs.Twins.{seen_as, lead_of, shown, IsHeld, IsAvailable, IsBoth, IsRaised, newer_of, IsNotNewer, IsFoundIn, ShownElapses};
 
 use crate::files::{FileFault, Files};
 use crate::held::{Held, read_both, sync_both, write_both};
@@ -22,12 +22,12 @@ pub struct TwinFiles<F: Files + Drop> {
 }
 
 impl<F: Files + Drop> TwinFiles<F> {
-    ghost use Rattle.file_vault.specs.Twins.{seen_as, lead_of, shown, IsHeld, IsBoth, IsRaised, newer_of, IsOlder, IsFoundIn, ShownElapses};
+    ghost use Rattle.file_vault.specs.Twins.{seen_as, lead_of, shown, IsHeld, IsBoth, IsRaised, newer_of, IsNotNewer, IsFoundIn, ShownElapses};
 
     /// Files that a stop may have left. A file of the journal that can't be read or synced is left out, and can't be taken for the
     /// other's equal later. An error says which could be read, and hands the files back.
     pub fn open(files: F) -> Result<TwinFiles<F>, (Found, F)>
-        ensures known { F.known files → IfOk result (λ t. IsOlder F.may_leave files t.found → F.known t.files × IsHeld F.seen F.may_leave t.files t.held) }
+        ensures known { F.known files → IfOk result (λ t. IsNotNewer F.may_leave files t.found → F.known t.files × IsHeld F.seen F.may_leave t.files t.held) }
 
         // What the files show that count is found; where both are left, what the newer one shows.
         ensures seen { F.known files → IfOk result (λ t. IsFoundIn t.found (F.seen files) (seen_as (lead_of t.held) (F.seen t.files))) }
@@ -39,9 +39,9 @@ impl<F: Files + Drop> TwinFiles<F> {
 
         // A stop at any moment of it leaves what it left before.
         ensures time { F.known files
-            → MatchResult result (λ t. IsOlder F.may_leave files t.found
+            → MatchResult result (λ t. IsNotNewer F.may_leave files t.found
             → (stop : Stop) → ShownElapses F.moment F.left_since F.may_leave files t.files stop (λ h. shown (F.may_leave files stop) h))
-            (λ e. IsOlder F.may_leave files e.0
+            (λ e. IsNotNewer F.may_leave files e.0
             → (stop : Stop) → ShownElapses F.moment F.left_since F.may_leave files e.1 stop (λ h. shown (F.may_leave files stop) h)) }
     {
         let mut files = files;
@@ -81,8 +81,8 @@ impl<F: Files + Drop> TwinFiles<F> {
 
 // What a call returns that was made of the files that are left.
 fn outcome(held: Held, faults: &mut u32) -> Result<(), FileFault>
-    ensures kept { OnOk result (IsKept held) }
-    ensures ok { IsKept held → IsOk result }
+    ensures kept { OnOk result (IsAvailable held) }
+    ensures ok { IsAvailable held → IsOk result }
     ensures cause { HasFault faults.old faults.new result }
 {
     match held {

@@ -12,12 +12,12 @@ use Rattle.map_join.proofs.Joins.{took, only_here, only_else}
 use Rattle.extent_groups.specs.declared.class.Class.{Class}
 use Rattle.flat_machine.specs.Flat.{Flat, IsArrays, for_ticket, for_block, Write, Content, Payload, Trim, bytes_of, Holder, Ticket, Block, Waiting, Fresh, Moved, content_of, header_for, Stored, content_in, waiting_unit, class_of, put, last_write, IsNewest}
 use Rattle.flat_machine.specs.Cases.{committed, stamped, longest_log}
-use Rattle.flat_machine.specs.History.{AreLimits, ComesNext, IsWrite, IsWriteChain, IsWriteOf, IsHeaderOf, HoldersStand, UnitStands, WaitingStands, IsCopy, IsAt, BlockStands, IsHistory}
+use Rattle.flat_machine.specs.History.{AreLimits, ComesNext, IsWrite, IsWriteChain, IsWriteOf, IsHeaderOf, HoldersStand, UnitMatches, WaitingMatches, IsCopy, IsAt, BlockMatches, IsHistory}
 use Rattle.flat_machine.proofs.Pairs.{put_here, put_else, just_held}
-use Rattle.flat_machine.proofs.Newest.{newest_zero, newest_record, newest_unique, same_map, told_again, key_least}
+use Rattle.flat_machine.proofs.Newest.{newest_zero, newest_record, newest_unique, same_map, reported_again, key_least}
 use Rattle.flat_machine.proofs.Writes.{chained, write_most}
 use Rattle.flat_machine.proofs.Passing.{Passes, passed}
-use Rattle.flat_machine.proofs.Slots.{nobody_stands, worker_nobody, block_stands, block_waits, holders_same, units_same, block_same, apart}
+use Rattle.flat_machine.proofs.Slots.{nobody_matches, worker_nobody, block_matches, block_waits, holders_same, units_same, block_same, apart}
 
 -- the record that a commit emits
 abbrev pub emitted_by : ℕ → ℕ → ℕ → ℕ → Record
@@ -79,7 +79,7 @@ module _ (F : Flat) (keys : ℕ → ℕ) (w s b : ℕ) (found : Option Record) (
       omega arith
 
   again : record_of b (M b) ≡ emitted_by b s v h
-  again = ap (record_of b) key_here ∙ told_again (emitted_by b s v h) ready.ok
+  again = ap (record_of b) key_here ∙ reported_again (emitted_by b s v h) ready.ok
 
   passes : Passes IsArrays F w s b found
   passes = passed IsArrays F keys w s b found (λ t. (ready.history.holders t).once) (for_ticket w) (for_block b) ready.history ready.newest ready.mine
@@ -106,7 +106,7 @@ module _ (F : Flat) (keys : ℕ → ℕ) (w s b : ℕ) (found : Option Record) (
 
       here : P s
       here = holders_same F.groups M s (G.held s) (G.held s) None (put F.tickets s None s) refl (put_here F.tickets s None)
-          (block_stands F.groups M s (G.held s) b slot_small passes.here some (ap (λ (n : Record). n.place) again))
+          (block_matches F.groups M s (G.held s) b slot_small passes.here some (ap (λ (n : Record). n.place) again))
 
       -- a slot that stays as it was
       kept : (t ≡ s → ⊥) → ((q : Record) → found ≡ Some q → t ≡ q.place → ⊥) → P t
@@ -130,7 +130,7 @@ module _ (F : Flat) (keys : ℕ → ℕ) (w s b : ℕ) (found : Option Record) (
       old q is = holders_same F.groups M q.place (G.held q.place) (G.held q.place) None (put F.tickets s None q.place) refl
           (put_else F.tickets s None q.place (passes.apart q is)
           ∙ block_waits F.groups keys q.place (F.held q.place) (F.tickets q.place) b (ready.history.holders q.place) (passes.held q is))
-          (nobody_stands F.groups M q.place (G.held q.place) (worker_nobody (G.held q.place) w (passes.old q is)))
+          (nobody_matches F.groups M q.place (G.held q.place) (worker_nobody (G.held q.place) w (passes.old q is)))
 
       by_found : (o : Option Record) → found ≡ o → (t ≡ s → ⊥) → P t
       by_found None none ne = kept ne (λ q is. let bad : None ≡ Some q = sym none ∙ is in cc)
@@ -145,8 +145,8 @@ module _ (F : Flat) (keys : ℕ → ℕ) (w s b : ℕ) (found : Option Record) (
       go (inr ne) = by_found found refl ne
 
   -- the newest version and hop of a block only rise
-  tells : (t : ℕ) (q : Record) → IsHeaderOf keys t q → IsHeaderOf M t q
-  tells t q is = record { ranges = is.ranges; place = is.place; newest = at (cases_eq q.block b) is.newest }
+  reports : (t : ℕ) (q : Record) → IsHeaderOf keys t q → IsHeaderOf M t q
+  reports t q is = record { ranges = is.ranges; place = is.place; newest = at (cases_eq q.block b) is.newest }
     where
       at : (q.block ≡ b) ⊎ (q.block ≡ b → ⊥) → (key_of q ≡ keys q.block) ⊎ (stamp_of q < stamp_in (keys q.block)) → (key_of q ≡ M q.block) ⊎ (stamp_of q < stamp_in (M q.block))
       at (inr ne) (inl e) = inl (e ∙ sym (key_else q.block ne))
@@ -164,7 +164,7 @@ module _ (F : Flat) (keys : ℕ → ℕ) (w s b : ℕ) (found : Option Record) (
           under (inr below) = let n = now in let k = was_key in let up = ready.above in let i = slot_small in omega arith
 
   -- what the other tickets rest on: the newest stamp of the block has risen above theirs
-  rests : (class : Option Class) (d : Waiting) → WaitingStands class F.writes keys d → WaitingStands class writes M d
+  rests : (class : Option Class) (d : Waiting) → WaitingMatches class F.writes keys d → WaitingMatches class writes M d
   rests class (Fresh x) was = was
   rests class (Moved d i g x) was = copy (cases_eq d b)
     where
@@ -204,23 +204,23 @@ module _ (F : Flat) (keys : ℕ → ℕ) (w s b : ℕ) (found : Option Record) (
   unit_else : (t : ℕ) → (t ≡ s → ⊥) → G.units t ≡ F.units t
   unit_else t ne = put_else F.units s _ t ne
 
-  unit_here : UnitStands F.groups.payload (F.emitted ++ emitted_by b s v h ∷ []) writes M s (class_of F s) None (Some stored_now)
+  unit_here : UnitMatches F.groups.payload (F.emitted ++ emitted_by b s v h ∷ []) writes M s (class_of F s) None (Some stored_now)
   unit_here = record {
     there = ap is_some (sym was_unit) ∙ (ready.history.units s).there;
     sized = λ u e. subst (λ (y : Stored). length y.payload ≡ F.groups.payload) (same_Some stored_now u e) ((ready.history.units s).sized _ was_unit);
-    header = λ u q e told. subst (IsHeaderOf M s) (header_is u q e told) (record {
+    header = λ u q e reported. subst (IsHeaderOf M s) (header_is u q e reported) (record {
       ranges = ready.ok;
       place = refl;
       newest = inl (sym key_here);
     });
-    content = λ u q z e told has wrote of. ap content_in (sym (same_Some stored_now u e)) ∙ stamped_content F.groups.payload (emitted_by b s v h) (content_of c)
-        ∙ sym ready.last.3 ∙ ap (λ (x : Write). x.content) (last_is q z wrote (ap (λ (p : Record). p.block) (header_is u q e told)) (ap (λ (p : Record). p.version) (header_is u q e told)) of);
+    content = λ u q z e reported has wrote of. ap content_in (sym (same_Some stored_now u e)) ∙ stamped_content F.groups.payload (emitted_by b s v h) (content_of c)
+        ∙ sym ready.last.3 ∙ ap (λ (x : Write). x.content) (last_is q z wrote (ap (λ (p : Record). p.block) (header_is u q e reported)) (ap (λ (p : Record). p.version) (header_is u q e reported)) of);
     blank = λ d e. absurd (cc);
     rests = λ d e. absurd (cc);
   }
     where
       header_is : (u : Stored) (q : Record) → Some stored_now ≡ Some u → record_in u.header ≡ Some q → emitted_by b s v h ≡ q
-      header_is u q e told = same_Some _ q (sym (stamped_record (emitted_by b s v h) (content_of c)) ∙ ap (λ (y : Stored). record_in y.header) (same_Some stored_now u e) ∙ told)
+      header_is u q e reported = same_Some _ q (sym (stamped_record (emitted_by b s v h) (content_of c)) ∙ ap (λ (y : Stored). record_in y.header) (same_Some stored_now u e) ∙ reported)
 
       -- the write of the record emitted now is the block's last
       last_is : (q : Record) (z : Write) → Contains writes z → b ≡ q.block → v ≡ q.version → IsWriteOf q z → ready.last.0 ≡ z
@@ -231,13 +231,13 @@ module _ (F : Flat) (keys : ℕ → ℕ) (w s b : ℕ) (found : Option Record) (
           let version : z.version ≡ most.newest.version = of.1 ∙ sym version_is ∙ sym ready.last.2 ∙ ap (λ (x : Write). x.version) (sym newest) in
           sym newest ∙ sym (most.same version)
 
-  unit_kept : (t : ℕ) → (t ≡ s → ⊥) → UnitStands F.groups.payload F.emitted F.writes keys t (class_of F t) (F.tickets t) (F.units t)
-      → UnitStands F.groups.payload (F.emitted ++ emitted_by b s v h ∷ []) writes M t (class_of F t) (F.tickets t) (F.units t)
+  unit_kept : (t : ℕ) → (t ≡ s → ⊥) → UnitMatches F.groups.payload F.emitted F.writes keys t (class_of F t) (F.tickets t) (F.units t)
+      → UnitMatches F.groups.payload (F.emitted ++ emitted_by b s v h ∷ []) writes M t (class_of F t) (F.tickets t) (F.units t)
   unit_kept t ne is = record {
     there = is.there;
     sized = is.sized;
-    header = λ u q e told. tells t q (is.header u q e told);
-    content = λ u q z e told has wrote of. same u q z e told wrote of (Contains-push_cases F.emitted (emitted_by b s v h) q has);
+    header = λ u q e reported. reports t q (is.header u q e reported);
+    content = λ u q z e reported has wrote of. same u q z e reported wrote of (Contains-push_cases F.emitted (emitted_by b s v h) q has);
     blank = is.blank;
     rests = λ d e. rests (class_of F t) d (is.rests d e);
   }
@@ -245,23 +245,23 @@ module _ (F : Flat) (keys : ℕ → ℕ) (w s b : ℕ) (found : Option Record) (
       -- the write of a record's block and version that now is there was there, but for the record emitted now
       same : (u : Stored) (q : Record) (z : Write) → F.units t ≡ Some u → record_in u.header ≡ Some q → Contains writes z → IsWriteOf q z
           → (Contains F.emitted q) ⊎ (emitted_by b s v h ≡ q) → content_in u ≡ z.content
-      same u q z e told wrote of (inl old) = by (ready.grown z wrote)
+      same u q z e reported wrote of (inl old) = by (ready.grown z wrote)
         where
           by : (Contains F.writes z) ⊎ ((p : Record) → Contains F.emitted p → IsWriteOf p z → ⊥) → content_in u ≡ z.content
-          by (inl before) = is.content u q z e told old before of
+          by (inl before) = is.content u q z e reported old before of
           by (inr none) = absurd (none q old of)
-      same u q z e told wrote of (inr now) = absurd (ne (sym (is.header u q e told).place ∙ ap (λ (p : Record). p.place) (sym now)))
+      same u q z e reported wrote of (inr now) = absurd (ne (sym (is.header u q e reported).place ∙ ap (λ (p : Record). p.place) (sym now)))
 
-  units : (t : ℕ) → (t ≡ s) ⊎ (t ≡ s → ⊥) → UnitStands F.groups.payload (F.emitted ++ emitted_by b s v h ∷ []) writes M t (class_of F t) (put F.tickets s None t) (G.units t)
-  units t (inl e) = subst (λ n. UnitStands F.groups.payload (F.emitted ++ emitted_by b s v h ∷ []) writes M n (class_of F n) (put F.tickets s None n) (G.units n)) (sym e)
+  units : (t : ℕ) → (t ≡ s) ⊎ (t ≡ s → ⊥) → UnitMatches F.groups.payload (F.emitted ++ emitted_by b s v h ∷ []) writes M t (class_of F t) (put F.tickets s None t) (G.units t)
+  units t (inl e) = subst (λ n. UnitMatches F.groups.payload (F.emitted ++ emitted_by b s v h ∷ []) writes M n (class_of F n) (put F.tickets s None n) (G.units n)) (sym e)
       (units_same F.groups.payload (F.emitted ++ emitted_by b s v h ∷ []) writes M s (class_of F s) None (put F.tickets s None s) (Some stored_now) (G.units s)
       (put_here F.tickets s None) unit_now unit_here)
   units t (inr ne) =
       units_same F.groups.payload (F.emitted ++ emitted_by b s v h ∷ []) writes M t (class_of F t) (F.tickets t) (put F.tickets s None t) (F.units t) (G.units t)
       (put_else F.tickets s None t ne) (unit_else t ne) (unit_kept t ne (ready.history.units t))
 
-  written : (d : ℕ) → (d ≡ b) ⊎ (d ≡ b → ⊥) → BlockStands G d (M d)
-  written d (inl e) = subst (λ n. BlockStands G n (M n)) (sym e) (
+  written : (d : ℕ) → (d ≡ b) ⊎ (d ≡ b → ⊥) → BlockMatches G d (M d)
+  written d (inl e) = subst (λ n. BlockMatches G n (M n)) (sym e) (
     (λ zero. let big = key_least (emitted_by b s v h) ready.ok in let k = key_here in absurd (omega arith)),
     (λ some. (
       ready.last.0,
@@ -278,7 +278,7 @@ module _ (F : Flat) (keys : ℕ → ℕ) (w s b : ℕ) (found : Option Record) (
       },
     )),
   )
-  written d (inr ne) = subst (BlockStands G d) (sym (key_else d ne)) (block_same F G d (keys d) (ready.others d ne) stays (ready.history.written d))
+  written d (inr ne) = subst (BlockMatches G d) (sym (key_else d ne)) (block_same F G d (keys d) (ready.others d ne) stays (ready.history.written d))
     where
       stays : F.held (record_of d (keys d)).place (Block d) ≡ true
           → (G.units (record_of d (keys d)).place ≡ F.units (record_of d (keys d)).place) × (G.held (record_of d (keys d)).place (Block d) ≡ true)

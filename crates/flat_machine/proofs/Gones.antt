@@ -10,7 +10,7 @@ use Rattle.extent_groups.proofs.Missing.{never_gone}
 use Rattle.flat_machine.specs.declared.refusal.Refusal.TheVariants.{Gone}
 use Rattle.flat_machine.specs.Flat.{Flat, Waiting, Fresh, Moved}
 use Rattle.flat_machine.specs.Steps.{FlatStep, Claim, Release, Fill, Copy, Commit, Discard, Read, ReadAt, Make, Unmake, MoveExtent, AddDrive, Lose, FlatAnswer, Refused}
-use Rattle.flat_machine.specs.Cases.{Leaves, IsGoneIn, CommitWith, Case, Runs, NeverMissesTwo, TellsPresent}
+use Rattle.flat_machine.specs.Cases.{Leaves, IsGoneIn, CommitWith, Case, Runs, NeverMissesTwo, ReportsPresent}
 
 -- where more drives are lost a slot that is lost stays lost
 pub gone_at : (old new : ℕ → Bool) (site : Site) → ((d : ℕ) → old d ≡ true → new d ≡ true) → IsGoneAt old site → IsGoneAt new site
@@ -26,29 +26,29 @@ gone_stays F G s leaves gone =
     (gone.0, gone.1, gone_at F.lost G.lost gone.0 (λ d. (leaves.drives d).stays) gone.2)
 
 -- where an answer is the refusal Gone, some slot is lost
-told_commit : (F G : Flat) (w s b : ℕ) (found : Option Record) (ticket : Option Waiting) (t : ℕ) → CommitWith F w s b found ticket (Refused (Gone t)) G → (u : ℕ) × IsGoneIn G u
-told_commit F G w s b found (Some (Fresh x)) t case = (s, case.3)
-told_commit F G w s b found (Some (Moved c v h x)) t case = (s, case.3)
-told_commit F G w s b found None t case = absurd case
+reported_commit : (F G : Flat) (w s b : ℕ) (found : Option Record) (ticket : Option Waiting) (t : ℕ) → CommitWith F w s b found ticket (Refused (Gone t)) G → (u : ℕ) × IsGoneIn G u
+reported_commit F G w s b found (Some (Fresh x)) t case = (s, case.3)
+reported_commit F G w s b found (Some (Moved c v h x)) t case = (s, case.3)
+reported_commit F G w s b found None t case = absurd case
 
-told_gone : (F G : Flat) (step : FlatStep) (t : ℕ) → Case F step (Refused (Gone t)) G → (u : ℕ) × IsGoneIn G u
-told_gone F G (Claim w s) t case = absurd case
-told_gone F G (Release w s) t case = absurd case
-told_gone F G (Fill w s x) t case = (s, case.2)
-told_gone F G (Copy w s b) t case = either case.0.2
+reported_gone : (F G : Flat) (step : FlatStep) (t : ℕ) → Case F step (Refused (Gone t)) G → (u : ℕ) × IsGoneIn G u
+reported_gone F G (Claim w s) t case = absurd case
+reported_gone F G (Release w s) t case = absurd case
+reported_gone F G (Fill w s x) t case = (s, case.2)
+reported_gone F G (Copy w s b) t case = either case.0.2
   where
     either : (((t ≡ case.0.0.place) × (IsGoneIn G case.0.0.place)) ⊎ ((t ≡ s) × (IsGoneIn F case.0.0.place → ⊥) × (IsGoneIn G s))) → (u : ℕ) × IsGoneIn G u
     either (inl one) = (case.0.0.place, one.1)
     either (inr other) = (s, other.2)
-told_gone F G (Commit w s b) t case = told_commit F G w s b case.2.0 (F.tickets s) t case.2.2
-told_gone F G (Discard w s) t case = absurd case
-told_gone F G (Read b) t case = (t, case.0.3)
-told_gone F G (ReadAt r) t case = (t, case.2)
-told_gone F G (Make class members) t case = absurd case
-told_gone F G (Unmake w g) t case = absurd case
-told_gone F G (MoveExtent g k to) t case = (t, case.2.gone)
-told_gone F G AddDrive t case = absurd case
-told_gone F G (Lose d) t case = absurd case
+reported_gone F G (Commit w s b) t case = reported_commit F G w s b case.2.0 (F.tickets s) t case.2.2
+reported_gone F G (Discard w s) t case = absurd case
+reported_gone F G (Read b) t case = (t, case.0.3)
+reported_gone F G (ReadAt r) t case = (t, case.2)
+reported_gone F G (Make class members) t case = absurd case
+reported_gone F G (Unmake w g) t case = absurd case
+reported_gone F G (MoveExtent g k to) t case = (t, case.2.gone)
+reported_gone F G AddDrive t case = absurd case
+reported_gone F G (Lose d) t case = absurd case
 
 -- a state whose groups are well formed, and miss at most one member each, has no slot that is lost
 none_gone : (F : Flat) → AreGroups F.groups → MissAtMostOne F.groups F.lost → (t : ℕ) → IsGoneIn F t → ⊥
@@ -68,23 +68,23 @@ AllStand F (step ∷ steps) (answer ∷ answers) G run = (AreGroups F.groups) ×
 AllStand F [] (answer ∷ answers) G run = ⊥
 AllStand F (step ∷ steps) [] G run = ⊥
 
-first_stands : (F G : Flat) (steps : List FlatStep) (answers : List FlatAnswer) (run : Runs F steps answers G) → AllStand F steps answers G run → AreGroups F.groups
-first_stands F G [] [] run stand = stand
-first_stands F G [] (a ∷ answers) run stand = absurd stand
-first_stands F G (s ∷ steps) [] run stand = absurd stand
-first_stands F G (s ∷ steps) (a ∷ answers) run stand = stand.0
+first_matches : (F G : Flat) (steps : List FlatStep) (answers : List FlatAnswer) (run : Runs F steps answers G) → AllStand F steps answers G run → AreGroups F.groups
+first_matches F G [] [] run stand = stand
+first_matches F G [] (a ∷ answers) run stand = absurd stand
+first_matches F G (s ∷ steps) [] run stand = absurd stand
+first_matches F G (s ∷ steps) (a ∷ answers) run stand = stand.0
 
 -- where no group ever misses two members no answer of the run is the refusal Gone
 pub all_present : (F G : Flat) (steps : List FlatStep) (answers : List FlatAnswer) (run : Runs F steps answers G) → AllStand F steps answers G run
-    → NeverMissesTwo F steps answers G run → All TellsPresent answers
+    → NeverMissesTwo F steps answers G run → All ReportsPresent answers
 all_present F G [] [] run stand never = λ k d inside. absurd (omega (arith, inside))
 all_present F G [] (a ∷ answers) run stand never = absurd run
 all_present F G (s ∷ steps) [] run stand never = absurd run
 all_present F G (s ∷ steps) (a ∷ answers) run stand never =
-    All-cons TellsPresent a answers (first a run.1) (all_present run.0 G steps answers run.2 stand.1 never.1)
+    All-cons ReportsPresent a answers (first a run.1) (all_present run.0 G steps answers run.2 stand.1 never.1)
   where
-    first : (b : FlatAnswer) → Case F s b run.0 → TellsPresent b
+    first : (b : FlatAnswer) → Case F s b run.0 → ReportsPresent b
     first (Refused (Gone t)) case =
-        let u = told_gone F run.0 s t case in
-        none_gone run.0 (first_stands run.0 G steps answers run.2 stand.1) (first_one run.0 G steps answers run.2 never.1) u.0 u.1
+        let u = reported_gone F run.0 s t case in
+        none_gone run.0 (first_matches run.0 G steps answers run.2 stand.1) (first_one run.0 G steps answers run.2 never.1) u.0 u.1
     first _ case = tt

@@ -9,7 +9,7 @@ use Rattle.flat_machine.specs.declared.refusal.Refusal.TheVariants.{NoGroup, Wro
 use Rattle.flat_machine.specs.Flat.{Flat, Content, Holder, Worker, Ticket, Block, Shut, Waiting, Fresh, Moved, same_holder, with_pair, without_pair, turned, IsNewest}
 use Rattle.flat_machine.specs.Steps.{FlatStep, Claim, Release, Fill, Copy, Commit, Discard, Read, ReadAt, Make, Unmake, MoveExtent, AddDrive, Lose, FlatAnswer, Claimed, Taken, Released, NotHeld, Filled, Copied, Committed, Discarded, Found, FoundAt, MadeGroup, UnmadeGroup, MovedExtent, AddedDrive, LostDrive, Refused}
 use Rattle.flat_machine.specs.Cases.{Case, ClaimCase, ReleaseCase, FillCase, CopyCase, CommitCase, CommitWith, DiscardCase, ReadCase, ReadAtCase, MakeCase, UnmakeCase, MoveCase, AddCase, LoseCase, Leaves}
-use Rattle.flat_machine.specs.History.{IsHistory, AreHeld, IsStep}
+use Rattle.flat_machine.specs.History.{IsHistory, AreHeld, IsValidStep}
 use Rattle.flat_machine.proofs.Pairs.{Any, IsOnce, IsJust, just_one, just_once, with_just, with_else, without_here, without_else, turned_just, turned_else}
 use Rattle.extent_groups.specs.Groups.{group_at}
 use Rattle.flat_machine.specs.Moves.{IsIn, HasClaim, unmade}
@@ -225,7 +225,7 @@ adds F G (AddedDrive d) is case = fared _ G (record { once = is.once; inside = i
 adds F G _ is case = absurd case
 
 -- a step of numbers that there are, with any answer
-pub step_holds : (F G : Flat) (keys : ℕ → ℕ) (step : FlatStep) (answer : FlatAnswer) → IsHistory F keys → AreHeld F → IsStep F.groups step → Case F step answer G → AreHeld G
+pub step_holds : (F G : Flat) (keys : ℕ → ℕ) (step : FlatStep) (answer : FlatAnswer) → IsHistory F keys → AreHeld F → IsValidStep F.groups step → Case F step answer G → AreHeld G
 step_holds F G keys (Claim w s) answer history is fits case = claims F G w s answer is fits case
 step_holds F G keys (Release w s) answer history is fits case = releases F G w s answer is case
 step_holds F G keys (Fill w s x) answer history is fits case = fills F G w s x answer is case

@@ -16,8 +16,8 @@ use Rattle.extent_groups.proofs.Fresh.{free_groups, no_members}
 use Rattle.flat_machine.specs.Groups.{AreSizes, IsEmpty, class_below}
 use Rattle.flat_machine.specs.Flat.{Flat, for_ticket, Write, Content, Payload, Trim, bytes_of, IsSized, Ticket, Waiting, Fresh, Moved, waiting_unit, class_of, last_write, IsNewest, new_flat, put}
 use Rattle.flat_machine.specs.Steps.{FlatStep, Claim, Release, Fill, Copy, Commit, Discard, Read, ReadAt, Make, Unmake, MoveExtent, AddDrive, Lose, FlatAnswer, Claimed, Taken, Released, NotHeld, Filled, Copied, Committed, Discarded, Found, FoundAt, MadeGroup, UnmadeGroup, MovedExtent, AddedDrive, LostDrive, Refused}
-use Rattle.flat_machine.specs.Cases.{Case, ClaimCase, ReleaseCase, FillCase, CopyCase, CommitCase, CommitWith, DiscardCase, ReadCase, ReadAtCase, MakeCase, UnmakeCase, MoveCase, AddCase, LoseCase, Leaves, WasOrGotLost, IsFor, HasStamp, next_version, last_version, longest_log, committed, CopyPasses}
-use Rattle.flat_machine.specs.History.{IsWrite, IsWriteOf, IsCopy, IsHistory, IsStep}
+use Rattle.flat_machine.specs.Cases.{Case, ClaimCase, ReleaseCase, FillCase, CopyCase, CommitCase, CommitWith, DiscardCase, ReadCase, ReadAtCase, MakeCase, UnmakeCase, MoveCase, AddCase, LoseCase, Leaves, WasOrGotLost, IsFor, HasCopiedStamp, next_version, last_version, longest_log, committed, CopyPasses}
+use Rattle.flat_machine.specs.History.{IsWrite, IsWriteOf, IsCopy, IsHistory, IsValidStep}
 use Rattle.flat_machine.proofs.Newest.{newest_key, newest_zero, newest_record, same_map, key_least}
 use Rattle.flat_machine.proofs.Writes.{last_here, last_else, last_there, write_chained, write_most}
 use Rattle.flat_machine.proofs.Claims.{claim_keeps, release_keeps}
@@ -118,7 +118,7 @@ fresh_ready F keys w s b found x is newest ticket mine block most room = record 
 
 -- a copy's version and hop are the newest's
 pub moved_ready : (F : Flat) (keys : ℕ → ℕ) (w s b : ℕ) (found : Option Record) (c v h : ℕ) (x : Content) → IsHistory F keys → IsNewest F.emitted b found
-    → F.tickets s ≡ Some (Moved c v h x) → F.held s (Ticket w) ≡ true → c ≡ b → b < F.groups.blocks → HasStamp found v h → length F.emitted < longest_log
+    → F.tickets s ≡ Some (Moved c v h x) → F.held s (Ticket w) ≡ true → c ≡ b → b < F.groups.blocks → HasCopiedStamp found v h → length F.emitted < longest_log
     → IsReady F keys w s b found (Moved c v h x) v (h + 1) F.writes
 moved_ready F keys w s b None c v h x is newest ticket mine same block stamps room = absurd stamps
 moved_ready F keys w s b (Some q) c v h x is newest ticket mine same block stamps room = record {
@@ -328,7 +328,7 @@ adds F G keys M (AddedDrive d) is case map = stays _ G keys M (add_keeps F keys 
 adds F G keys M _ is case map = absurd case
 
 -- a step of numbers that there are, with any answer
-pub step_keeps : (F G : Flat) (keys M : ℕ → ℕ) (step : FlatStep) (answer : FlatAnswer) → IsHistory F keys → IsStep F.groups step → Case F step answer G → IsMapOf G.emitted M → IsHistory G M
+pub step_keeps : (F G : Flat) (keys M : ℕ → ℕ) (step : FlatStep) (answer : FlatAnswer) → IsHistory F keys → IsValidStep F.groups step → Case F step answer G → IsMapOf G.emitted M → IsHistory G M
 step_keeps F G keys M (Claim w s) answer is fits case map = claims F G keys M w s answer is case map
 step_keeps F G keys M (Release w s) answer is fits case map = releases F G keys M w s answer is case map
 step_keeps F G keys M (Fill w s x) answer is fits case map = fills F G keys M w s x answer is fits case map
@@ -355,7 +355,7 @@ new_history groups drives lost failures are empty least most = record {
   records = λ r has. absurd (not_there r has);
   blocks = λ r has. absurd (not_there r has);
   chain = tt;
-  map = record { told = λ b some. absurd (omega arith); most = λ r has. absurd (not_there r has) };
+  map = record { reported = λ b some. absurd (omega arith); most = λ r has. absurd (not_there r has) };
   writes = λ w has. absurd (unwritten w has);
   versions = tt;
   holders = λ s. record {

@@ -10,22 +10,22 @@ use Rattle.extents.specs.Header.{record_in}
 use Rattle.extent_groups.specs.declared.class.Class.{Class}
 use Rattle.extent_groups.specs.declared.class.Member.{Member}
 use Rattle.extent_groups.specs.Geometry.{slot_count}
-use Rattle.extent_groups.specs.Groups.{Group, Groups, group_at, members_of, with_group, IsFormed, Stands}
+use Rattle.extent_groups.specs.Groups.{Group, Groups, group_at, members_of, with_group, IsFormed, HasMemberAt}
 use Rattle.extent_groups.proofs.GroupsLemmas.{group_same, group_other}
 use Rattle.extent_groups.proofs.Agreement.{members_same, members_other}
 use Rattle.flat_machine.specs.Groups.{class_at, class_below, AreMembers, AreApart, AreUnowned, GroupsStand}
 use Rattle.flat_machine.specs.Flat.{Flat, Holder, Ticket, Block, Shut, same_holder, Waiting, blank_header, Stored, waiting_unit, content_of, class_of}
 use Rattle.flat_machine.specs.Cases.{made, MakePasses}
-use Rattle.flat_machine.specs.History.{HoldersStand, UnitStands, IsHistory}
+use Rattle.flat_machine.specs.History.{HoldersStand, UnitMatches, IsHistory}
 use Rattle.flat_machine.proofs.Pairs.{equal}
 use Rattle.flat_machine.proofs.Slots.{history_as}
 
 -- an extent of a list
-stands_of : (ms : List Member) (k : ℕ) (m : Member) → slice_get ms k ≡ Some m → Stands ms m.drive m.extent
-stands_of ms k m at = (k, at)
+matches_of : (ms : List Member) (k : ℕ) (m : Member) → slice_get ms k ≡ Some m → HasMemberAt ms m.drive m.extent
+matches_of ms k m at = (k, at)
 
-stands_as : (ms : List Member) (k : ℕ) (m n : Member) → slice_get ms k ≡ Some m → m.drive ≡ n.drive → m.extent ≡ n.extent → Stands ms n.drive n.extent
-stands_as ms k m n at drive extent = subst (λ e. Stands ms n.drive e) extent (subst (λ d. Stands ms d m.extent) drive (stands_of ms k m at))
+matches_as : (ms : List Member) (k : ℕ) (m n : Member) → slice_get ms k ≡ Some m → m.drive ≡ n.drive → m.extent ≡ n.extent → HasMemberAt ms n.drive n.extent
+matches_as ms k m n at drive extent = subst (λ e. HasMemberAt ms n.drive e) extent (subst (λ d. HasMemberAt ms d m.extent) drive (matches_of ms k m at))
 
 -- one more group among groups none of which has one of its members
 pub groups_more : (groups : Groups) (drives g : ℕ) (new : Group) → GroupsStand groups drives → g < 512 → AreMembers groups.extents drives new.members
@@ -65,11 +65,11 @@ groups_more groups drives g new all limit are spread unowned = record {
         all.table.apart h i j k a b (ap (λ ms. slice_get ms j) (sym (members_other groups g h (Some new) x)) ∙ at)
         (ap (λ ms. slice_get ms k) (sym (members_other groups g i (Some new) y)) ∙ bt) drive extent
     apart h i j k a b at bt drive extent (inl x) (inr y) =
-        absurd (unowned i b.drive b.extent (stands_of (members_of groups i) k b (ap (λ ms. slice_get ms k) (sym (members_other groups g i (Some new) y)) ∙ bt))
-        (stands_as new.members j a b (ap (λ ms. slice_get ms j) (sym (here h x)) ∙ at) drive extent))
+        absurd (unowned i b.drive b.extent (matches_of (members_of groups i) k b (ap (λ ms. slice_get ms k) (sym (members_other groups g i (Some new) y)) ∙ bt))
+        (matches_as new.members j a b (ap (λ ms. slice_get ms j) (sym (here h x)) ∙ at) drive extent))
     apart h i j k a b at bt drive extent (inr x) (inl y) =
-        absurd (unowned h a.drive a.extent (stands_of (members_of groups h) j a (ap (λ ms. slice_get ms j) (sym (members_other groups g h (Some new) x)) ∙ at))
-        (stands_as new.members k b a (ap (λ ms. slice_get ms k) (sym (here i y)) ∙ bt) (sym drive) (sym extent)))
+        absurd (unowned h a.drive a.extent (matches_of (members_of groups h) j a (ap (λ ms. slice_get ms j) (sym (members_other groups g h (Some new) x)) ∙ at))
+        (matches_as new.members k b a (ap (λ ms. slice_get ms k) (sym (here i y)) ∙ bt) (sym drive) (sym extent)))
 
 -- a slot of a group is one still where a group is made of a number that was free
 pub class_kept : (groups : Groups) (g : ℕ) (new : Group) (s : ℕ) → group_at groups g ≡ None → class_at groups s ≢ None → class_at (with_group groups g (Some new)) s ≢ None
@@ -159,30 +159,30 @@ module _ (F : Flat) (keys : ℕ → ℕ) (class : Class) (members : List Member)
           let bad : true ≡ false = sym on ∙ off in
           cc
 
-  units : (s : ℕ) → (s / 128 ≡ g) ⊎ (s / 128 ≡ g → ⊥) → UnitStands F.groups.payload F.emitted F.writes keys s (class_of G s) (F.tickets s) (G.units s)
-  units s (inl same) = subst (UnitStands F.groups.payload F.emitted F.writes keys s (class_of G s) (F.tickets s)) (sym (unit_here s same))
-      (subst (λ o. UnitStands F.groups.payload F.emitted F.writes keys s o (F.tickets s) (cond (nat_lt (s % 128) (slot_count class (length members) F.groups.segments)) (Some blank) None))
+  units : (s : ℕ) → (s / 128 ≡ g) ⊎ (s / 128 ≡ g → ⊥) → UnitMatches F.groups.payload F.emitted F.writes keys s (class_of G s) (F.tickets s) (G.units s)
+  units s (inl same) = subst (UnitMatches F.groups.payload F.emitted F.writes keys s (class_of G s) (F.tickets s)) (sym (unit_here s same))
+      (subst (λ o. UnitMatches F.groups.payload F.emitted F.writes keys s o (F.tickets s) (cond (nat_lt (s % 128) (slot_count class (length members) F.groups.segments)) (Some blank) None))
       (sym (class_now s same)) (now (nat_lt (s % 128) (slot_count class (length members) F.groups.segments))))
     where
-      now : (q : Bool) → UnitStands F.groups.payload F.emitted F.writes keys s (cond q (Some class) None) (F.tickets s) (cond q (Some blank) None)
+      now : (q : Bool) → UnitMatches F.groups.payload F.emitted F.writes keys s (cond q (Some class) None) (F.tickets s) (cond q (Some blank) None)
       now true = record {
         there = refl;
         sized = λ u e. ap (λ (y : Stored). length y.payload) (sym (same_Some blank u e)) ∙ length-replicate F.groups.payload 0;
-        header = λ u r e told. let bad : None ≡ Some r = ap (λ (y : Stored). record_in y.header) (same_Some blank u e) ∙ told in absurd (cc);
-        content = λ u r w e told. let bad : None ≡ Some r = ap (λ (y : Stored). record_in y.header) (same_Some blank u e) ∙ told in absurd (cc);
+        header = λ u r e reported. let bad : None ≡ Some r = ap (λ (y : Stored). record_in y.header) (same_Some blank u e) ∙ reported in absurd (cc);
+        content = λ u r w e reported. let bad : None ≡ Some r = ap (λ (y : Stored). record_in y.header) (same_Some blank u e) ∙ reported in absurd (cc);
         blank = λ c e. absurd (no_ticket s same c e);
         rests = λ c e. absurd (no_ticket s same c e);
       }
       now false = record {
         there = refl;
         sized = λ u e. absurd (cc);
-        header = λ u r e told. absurd (cc);
-        content = λ u r w e told. absurd (cc);
+        header = λ u r e reported. absurd (cc);
+        content = λ u r w e reported. absurd (cc);
         blank = λ c e. absurd (no_ticket s same c e);
         rests = λ c e. absurd (no_ticket s same c e);
       }
-  units s (inr ne) = subst (UnitStands F.groups.payload F.emitted F.writes keys s (class_of G s) (F.tickets s)) (sym (unit_else s ne))
-      (subst (λ o. UnitStands F.groups.payload F.emitted F.writes keys s o (F.tickets s) (F.units s)) (sym (class_else s ne)) (is.units s))
+  units s (inr ne) = subst (UnitMatches F.groups.payload F.emitted F.writes keys s (class_of G s) (F.tickets s)) (sym (unit_else s ne))
+      (subst (λ o. UnitMatches F.groups.payload F.emitted F.writes keys s o (F.tickets s) (F.units s)) (sym (class_else s ne)) (is.units s))
 
   places : (b : ℕ) → F.held (record_of b (keys b)).place (Block b) ≡ true
       → (G.units (record_of b (keys b)).place ≡ F.units (record_of b (keys b)).place) × (G.held (record_of b (keys b)).place (Block b) ≡ true)

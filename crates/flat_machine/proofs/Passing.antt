@@ -50,11 +50,11 @@ passed S F keys w s b found once of_ticket of_block is newest mine = record {
 
     held : (q : Record) → found ≡ Some q → F.held q.place (Block b) ≡ true
     held q e =
-        let told : IsNewest F.emitted b (Some q) = subst (IsNewest F.emitted b) e newest in
-        let k = newest_key F.emitted keys b q is.map told in
-        let big = key_least q (is.records q told.0) in
+        let reported : IsNewest F.emitted b (Some q) = subst (IsNewest F.emitted b) e newest in
+        let k = newest_key F.emitted keys b q is.map reported in
+        let big = key_least q (is.records q reported.0) in
         let y = (is.written b).1 (omega arith) in
-        subst (λ (n : Record). F.held n.place (Block b) ≡ true) (newest_record F.emitted keys b q is.records is.map told) y.2.place
+        subst (λ (n : Record). F.held n.place (Block b) ≡ true) (newest_record F.emitted keys b q is.records is.map reported) y.2.place
 
     away : (q : Record) → found ≡ Some q → q.place ≡ s → ⊥
     away q e = apart F.held q.place s b (held q e) (unblocked b)

@@ -9,15 +9,15 @@ use Rattle.extents.specs.Failures.{Failures}
 use Rattle.extent_groups.specs.declared.class.Member.{Member}
 use Rattle.extent_groups.specs.Faults.{is_on}
 use Rattle.extent_groups.specs.Geometry.{slot_count}
-use Rattle.extent_groups.specs.Groups.{Group, Groups, group_at, members_of, members_in, with_group, with_member, swapped_in, IsFormed, Stands}
+use Rattle.extent_groups.specs.Groups.{Group, Groups, group_at, members_of, members_in, with_group, with_member, swapped_in, IsFormed, HasMemberAt}
 use Rattle.extent_groups.proofs.GroupsLemmas.{group_same, group_other}
 use Rattle.extent_groups.proofs.Agreement.{members_other}
 use Rattle.extent_groups.proofs.Places.{get-set_same, get-set_other}
 use Rattle.extent_groups.proofs.Swapping.{formed_swap}
 use Rattle.flat_machine.specs.Groups.{class_at, class_below, GroupsStand}
 use Rattle.flat_machine.specs.Flat.{Flat}
-use Rattle.flat_machine.specs.Moves.{IsTarget, IsMoveReason, moved_to, with_new_drive}
-use Rattle.flat_machine.specs.History.{HoldersStand, UnitStands, IsHistory}
+use Rattle.flat_machine.specs.Moves.{IsMoveTarget, IsMoveReason, moved_to, with_new_drive}
+use Rattle.flat_machine.specs.History.{HoldersStand, UnitMatches, IsHistory}
 use Rattle.flat_machine.proofs.Pairs.{unequal}
 use Rattle.flat_machine.proofs.Slots.{history_as}
 use Rattle.flat_machine.proofs.Unmakes.{number_within}
@@ -40,7 +40,7 @@ element ms k some = go (slice_get ms k) refl
     go (Some m) e = (m, e)
 
 -- a group's member is another extent
-module _ (groups : Groups) (drives g k : ℕ) (to : Member) (stand : GroupsStand groups drives) (some : slice_get (members_of groups g) k ≢ None) (target : IsTarget groups drives g to) where
+module _ (groups : Groups) (drives g k : ℕ) (to : Member) (stand : GroupsStand groups drives) (some : slice_get (members_of groups g) k ≢ None) (target : IsMoveTarget groups drives g to) where
   abbrev found : (group : Group) × (group_at groups g ≡ Some group) × (slice_get group.members k ≡ Some (element (members_of groups g) k some).0)
   found = group_of_member (group_at groups g) k (element (members_of groups g) k some).0 (element (members_of groups g) k some).1
 
@@ -102,7 +102,7 @@ module _ (groups : Groups) (drives g k : ℕ) (to : Member) (stand : GroupsStand
 
   -- no group has the extent
   nobodys : (h j : ℕ) (m : Member) → slice_get (members_of groups h) j ≡ Some m → m.drive ≡ to.drive → m.extent ≡ to.extent → ⊥
-  nobodys h j m at drive extent = target.unowned h (subst (λ e. Stands (members_of groups h) to.drive e) extent (subst (λ d. Stands (members_of groups h) d m.extent) drive (j, at)))
+  nobodys h j m at drive extent = target.unowned h (subst (λ e. HasMemberAt (members_of groups h) to.drive e) extent (subst (λ d. HasMemberAt (members_of groups h) d m.extent) drive (j, at)))
 
   apart : (h i j l : ℕ) (a b : Member) → ((h ≡ g) × (a ≡ to)) ⊎ (slice_get (members_of groups h) j ≡ Some a)
       → ((i ≡ g) × (b ≡ to)) ⊎ (slice_get (members_of groups i) l ≡ Some b) → a.drive ≡ b.drive → a.extent ≡ b.extent → h ≡ i
@@ -131,7 +131,7 @@ module _ (groups : Groups) (drives g k : ℕ) (to : Member) (stand : GroupsStand
 pub move_keeps : (F : Flat) (keys : ℕ → ℕ) (g k : ℕ) (to : Member) → IsHistory F keys → IsMoveReason F.groups F.drives g k to None → IsHistory (moved_to F g k to) keys
 move_keeps F keys g k to is passes =
     history_as F keys is is.limits.least is.limits.most (swapped_stand F.groups F.drives g k to is.groups passes.0 passes.1) (λ s. holders s (is.holders s))
-    (λ s. subst (λ o. UnitStands F.groups.payload F.emitted F.writes keys s o (F.tickets s) (F.units s)) (sym (class_same F.groups F.drives g k to is.groups passes.0 passes.1 s)) (is.units s))
+    (λ s. subst (λ o. UnitMatches F.groups.payload F.emitted F.writes keys s o (F.tickets s) (F.units s)) (sym (class_same F.groups F.drives g k to is.groups passes.0 passes.1 s)) (is.units s))
     (λ b has. (refl, has))
   where
     holders : (s : ℕ) → HoldersStand F.groups keys s (F.held s) (F.tickets s) → HoldersStand (moved_to F g k to).groups keys s (F.held s) (F.tickets s)

@@ -100,8 +100,8 @@ module _ (units : ℕ → Option Stored) where
           absurd (omega arith)
 
   -- each write that is made is of one of the records
-  pub write_told : (records : List Record) (w : Write) → Contains (map (write_at units) records) w → (r : Record) × (Contains records r) × (write_at units r ≡ w)
-  write_told records w has = unmapped (write_at units) records w has
+  pub write_reported : (records : List Record) (w : Write) → Contains (map (write_at units) records) w → (r : Record) × (Contains records r) × (write_at units r ≡ w)
+  write_reported records w has = unmapped (write_at units) records w has
 
   -- where a block has no record, it has no write
   pub last_none : (records : List Record) (block : ℕ) → ((r : Record) → Contains records r → r.block ≡ block → ⊥) → last_write (map (write_at units) records) block ≡ None

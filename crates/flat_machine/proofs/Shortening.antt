@@ -5,21 +5,21 @@ use Rattle.map_join.specs.Record.{key_of, record_of}
 use Rattle.map_join.specs.Maps.{IsListOf}
 use Rattle.flat_machine.specs.Flat.{Flat}
 use Rattle.flat_machine.specs.History.{IsHistory}
-use Rattle.flat_machine.proofs.Newest.{told_again, told_key}
-use Rattle.flat_machine.proofs.Restarts.{history_tells, restarted_history}
+use Rattle.flat_machine.proofs.Newest.{reported_again, reported_key}
+use Rattle.flat_machine.proofs.Restarts.{history_reports, restarted_history}
 
 -- a record of the list is one of the log
 was_emitted : (F : Flat) (keys : ℕ → ℕ) (records : List Record) → IsHistory F keys → IsListOf keys records → (r : Record) → Contains records r → Contains F.emitted r
 was_emitted F keys records is list r has =
-    let told = told_key r.block (keys r.block) r ((list.each r).0 has) in
-    let there : 0 < keys r.block = let big = told.0 in omega arith in
-    let q = is.map.told r.block there in
-    let same : q.0 ≡ r = sym (told_again q.0 (is.records q.0 q.1)) ∙ ap (λ b. record_of b (key_of q.0)) q.2 ∙ ap (record_of r.block) q.3 ∙ told.1 in
+    let reported = reported_key r.block (keys r.block) r ((list.each r).0 has) in
+    let there : 0 < keys r.block = let big = reported.0 in omega arith in
+    let q = is.map.reported r.block there in
+    let same : q.0 ≡ r = sym (reported_again q.0 (is.records q.0 q.1)) ∙ ap (λ b. record_of b (key_of q.0)) q.2 ∙ ap (record_of r.block) q.3 ∙ reported.1 in
     subst (Contains F.emitted) same q.1
 
 pub shortened_history : (F : Flat) (keys : ℕ → ℕ) (records : List Record) → IsHistory F keys → IsListOf keys records → IsHistory (record F { emitted = records }) keys
 shortened_history F keys records is list =
-    let begun = restarted_history F keys records is.limits.sizes is.limits.least is.limits.most is.groups (history_tells F keys is) list in
+    let begun = restarted_history F keys records is.limits.sizes is.limits.least is.limits.most is.groups (history_reports F keys is) list in
     record {
       limits = begun.limits;
       groups = is.groups;
@@ -34,7 +34,7 @@ shortened_history F keys records is list =
         there = u.there;
         sized = u.sized;
         header = u.header;
-        content = λ v r w at told has wrote of. u.content v r w at told (was_emitted F keys records is list r has) wrote of;
+        content = λ v r w at reported has wrote of. u.content v r w at reported (was_emitted F keys records is list r has) wrote of;
         blank = u.blank;
         rests = u.rests;
       };

@@ -7,12 +7,12 @@ use Rattle.extent_groups.specs.declared.class.Class.{Class}
 use Rattle.extent_groups.specs.Groups.{Group, Groups}
 use Rattle.flat_machine.specs.Flat.{Flat, Write, Content, Holder, Worker, Ticket, Block, Shut, IsArrays, for_ticket, for_block, for_shut, Waiting, Stored, last_write}
 use Rattle.flat_machine.specs.Groups.{class_at, GroupsStand}
-use Rattle.flat_machine.specs.History.{HoldersStand, UnitStands, IsAt, BlockStands, IsHistory}
+use Rattle.flat_machine.specs.History.{HoldersStand, UnitMatches, IsAt, BlockMatches, IsHistory}
 use Rattle.flat_machine.proofs.Pairs.{IsNobodys, IsJust, just_once, just_is, just_held, not_workers}
 
 -- the array holds it for nobody, for a ticket, or for a block
-pub nobody_stands : (groups : Groups) (keys : ℕ → ℕ) (s : ℕ) (h : Holder → Bool) → IsNobodys IsArrays h → HoldersStand groups keys s h None
-nobody_stands groups keys s h free = record {
+pub nobody_matches : (groups : Groups) (keys : ℕ → ℕ) (s : ℕ) (h : Holder → Bool) → IsNobodys IsArrays h → HoldersStand groups keys s h None
+nobody_matches groups keys s h free = record {
   once = λ j k of_j of_k hj hk. absurd (no_one j of_j hj);
   inside = λ k of hk. absurd (no_one k of hk);
   waits = λ c is. absurd (cc);
@@ -28,9 +28,9 @@ nobody_stands groups keys s h free = record {
 pub worker_nobody : (h : Holder → Bool) (w : ℕ) → IsJust IsArrays h (Worker w) → IsNobodys IsArrays h
 worker_nobody h w is j of = is j of ∙ not_workers j w of
 
-pub ticket_stands : (groups : Groups) (keys : ℕ → ℕ) (s : ℕ) (h : Holder → Bool) (w : ℕ) (c : Waiting) → s < 65536 → IsJust IsArrays h (Ticket w)
+pub ticket_matches : (groups : Groups) (keys : ℕ → ℕ) (s : ℕ) (h : Holder → Bool) (w : ℕ) (c : Waiting) → s < 65536 → IsJust IsArrays h (Ticket w)
     → HoldersStand groups keys s h (Some c)
-ticket_stands groups keys s h w c inside is = record {
+ticket_matches groups keys s h w c inside is = record {
   once = just_once IsArrays h (Ticket w) is;
   inside = λ k of hk. inside;
   waits = λ d e. (w, just_held IsArrays h (Ticket w) is (for_ticket w));
@@ -39,9 +39,9 @@ ticket_stands groups keys s h w c inside is = record {
   shut = λ g hg. let e : Shut g ≡ Ticket w = just_is IsArrays h (Ticket w) (Shut g) is (for_shut g) hg in absurd (cc);
 }
 
-pub block_stands : (groups : Groups) (keys : ℕ → ℕ) (s : ℕ) (h : Holder → Bool) (b : ℕ) → s < 65536 → IsJust IsArrays h (Block b) → 0 < keys b
+pub block_matches : (groups : Groups) (keys : ℕ → ℕ) (s : ℕ) (h : Holder → Bool) (b : ℕ) → s < 65536 → IsJust IsArrays h (Block b) → 0 < keys b
     → (record_of b (keys b)).place ≡ s → HoldersStand groups keys s h None
-block_stands groups keys s h b inside is some place = record {
+block_matches groups keys s h b inside is some place = record {
   once = just_once IsArrays h (Block b) is;
   inside = λ k of hk. inside;
   waits = λ d e. absurd (cc);
@@ -85,13 +85,13 @@ holders_same groups keys s h k t u held ticket is =
     subst (λ x. HoldersStand groups keys s x u) (sym held) (subst (HoldersStand groups keys s h) (sym ticket) is)
 
 pub units_same : (payload : ℕ) (emitted : List Record) (writes : List Write) (keys : ℕ → ℕ) (s : ℕ) (class : Option Class) (t u : Option Waiting) (x y : Option Stored)
-    → u ≡ t → y ≡ x → UnitStands payload emitted writes keys s class t x → UnitStands payload emitted writes keys s class u y
+    → u ≡ t → y ≡ x → UnitMatches payload emitted writes keys s class t x → UnitMatches payload emitted writes keys s class u y
 units_same payload emitted writes keys s class t u x y ticket unit is =
-    subst (λ o. UnitStands payload emitted writes keys s class o y) (sym ticket) (subst (UnitStands payload emitted writes keys s class t) (sym unit) is)
+    subst (λ o. UnitMatches payload emitted writes keys s class o y) (sym ticket) (subst (UnitMatches payload emitted writes keys s class t) (sym unit) is)
 
 -- a ticket that ends leaves what is true of the unit
 pub unit_ended : (payload : ℕ) (emitted : List Record) (writes : List Write) (keys : ℕ → ℕ) (s : ℕ) (class : Option Class) (t : Option Waiting) (x : Option Stored)
-    → UnitStands payload emitted writes keys s class t x → UnitStands payload emitted writes keys s class None x
+    → UnitMatches payload emitted writes keys s class t x → UnitMatches payload emitted writes keys s class None x
 unit_ended payload emitted writes keys s class t x is = record {
   there = is.there;
   sized = is.sized;
@@ -108,7 +108,7 @@ at_same old new r x same is = record { stored = is.stored; there = same ∙ is.t
 -- what is true of a block's last write and newest place stays so where neither the writes, nor that place's unit and holder, changed
 pub block_same : (F G : Flat) (b key : ℕ) → last_write G.writes b ≡ last_write F.writes b
     → (F.held (record_of b key).place (Block b) ≡ true → (G.units (record_of b key).place ≡ F.units (record_of b key).place) × (G.held (record_of b key).place (Block b) ≡ true))
-    → BlockStands F b key → BlockStands G b key
+    → BlockMatches F b key → BlockMatches G b key
 block_same F G b key last stays is = (
   λ none. last ∙ is.0 none,
   λ some. let y = is.1 some in (
@@ -131,7 +131,7 @@ apart held p s b is not same = not (subst (λ n. held n (Block b) ≡ true) same
 pub history_as : {table : List (Option Group)} {drives : ℕ} {lost : ℕ → Bool} {failures : ℕ → Failures} {held : ℕ → Holder → Bool} {tickets : ℕ → Option Waiting} {units : ℕ → Option Stored}
     (F : Flat) (keys : ℕ → ℕ) → IsHistory F keys → 3 ≤ drives → drives ≤ 16 → GroupsStand (record F.groups { table = table }) drives
     → ((s : ℕ) → HoldersStand (record F.groups { table = table }) keys s (held s) (tickets s))
-    → ((s : ℕ) → UnitStands F.groups.payload F.emitted F.writes keys s (class_at (record F.groups { table = table }) s) (tickets s) (units s))
+    → ((s : ℕ) → UnitMatches F.groups.payload F.emitted F.writes keys s (class_at (record F.groups { table = table }) s) (tickets s) (units s))
     → ((b : ℕ) → F.held (record_of b (keys b)).place (Block b) ≡ true
     → (units (record_of b (keys b)).place ≡ F.units (record_of b (keys b)).place) × (held (record_of b (keys b)).place (Block b) ≡ true))
     → IsHistory (record F { groups = record F.groups { table = table }; drives = drives; lost = lost; failures = failures; held = held; tickets = tickets; units = units }) keys

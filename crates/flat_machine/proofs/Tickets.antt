@@ -6,17 +6,17 @@ use Rattle.std.proofs.lemmas.Option.{same_Some}
 use Rattle.map_join.specs.Record.{record_of}
 use Rattle.extents.specs.Header.{record_in}
 use Rattle.extent_groups.specs.declared.class.Class.{Class}
-use Rattle.flat_machine.specs.Flat.{Flat, IsArrays, for_ticket, for_block, IsKept, Content, Payload, Trim, IsSized, Holder, Worker, Ticket, Block, Waiting, content_of, Stored, waiting_unit, class_of, put, turned}
+use Rattle.flat_machine.specs.Flat.{Flat, IsArrays, for_ticket, for_block, IsArrayHeld, Content, Payload, Trim, IsSized, Holder, Worker, Ticket, Block, Waiting, content_of, Stored, waiting_unit, class_of, put, turned}
 use Rattle.flat_machine.specs.Cases.{ticketed, discarded}
-use Rattle.flat_machine.specs.History.{HoldersStand, UnitStands, WaitingStands, IsHistory}
+use Rattle.flat_machine.specs.History.{HoldersStand, UnitMatches, WaitingMatches, IsHistory}
 use Rattle.flat_machine.proofs.Pairs.{put_here, put_else, turned_else, just_one, turned_just, turned_free, IsJust}
-use Rattle.flat_machine.proofs.Slots.{nobody_stands, worker_nobody, ticket_stands, holders_same, units_same, unit_ended, history_as, apart}
+use Rattle.flat_machine.proofs.Slots.{nobody_matches, worker_nobody, ticket_matches, holders_same, units_same, unit_ended, history_as, apart}
 
 -- one slot changes, which no block held
 slot_kept : (F : Flat) (keys : ℕ → ℕ) (held : ℕ → Holder → Bool) (tickets : ℕ → Option Waiting) (units : ℕ → Option Stored) (s : ℕ) → IsHistory F keys
     → ((b : ℕ) → F.held s (Block b) ≡ true → ⊥)
     → ((t : ℕ) → (t ≡ s → ⊥) → held t ≡ F.held t) → ((t : ℕ) → (t ≡ s → ⊥) → tickets t ≡ F.tickets t) → ((t : ℕ) → (t ≡ s → ⊥) → units t ≡ F.units t)
-    → HoldersStand F.groups keys s (held s) (tickets s) → UnitStands F.groups.payload F.emitted F.writes keys s (class_of F s) (tickets s) (units s)
+    → HoldersStand F.groups keys s (held s) (tickets s) → UnitMatches F.groups.payload F.emitted F.writes keys s (class_of F s) (tickets s) (units s)
     → IsHistory (record F { held = held; tickets = tickets; units = units }) keys
 slot_kept F keys held tickets units s is free rest others elsewhere here unit =
     history_as F keys is is.limits.least is.limits.most is.groups (λ t. holders t (cases_eq t s)) (λ t. stored t (cases_eq t s))
@@ -27,8 +27,8 @@ slot_kept F keys held tickets units s is free rest others elsewhere here unit =
     holders t (inl e) = subst (λ n. HoldersStand F.groups keys n (held n) (tickets n)) (sym e) here
     holders t (inr ne) = holders_same F.groups keys t (F.held t) (held t) (F.tickets t) (tickets t) (rest t ne) (others t ne) (is.holders t)
 
-    stored : (t : ℕ) → (t ≡ s) ⊎ (t ≡ s → ⊥) → UnitStands F.groups.payload F.emitted F.writes keys t (class_of F t) (tickets t) (units t)
-    stored t (inl e) = subst (λ n. UnitStands F.groups.payload F.emitted F.writes keys n (class_of F n) (tickets n) (units n)) (sym e) unit
+    stored : (t : ℕ) → (t ≡ s) ⊎ (t ≡ s → ⊥) → UnitMatches F.groups.payload F.emitted F.writes keys t (class_of F t) (tickets t) (units t)
+    stored t (inl e) = subst (λ n. UnitMatches F.groups.payload F.emitted F.writes keys n (class_of F n) (tickets n) (units n)) (sym e) unit
     stored t (inr ne) = units_same F.groups.payload F.emitted F.writes keys t (class_of F t) (F.tickets t) (tickets t) (F.units t) (units t)
         (others t ne) (elsewhere t ne) (is.units t)
 
@@ -46,14 +46,14 @@ there_is : (class : Option Class) → class ≢ None → true ≡ is_some class
 there_is (Some c) some = refl
 there_is None some = absurd (some refl)
 
-pub ticket_keeps : (F : Flat) (keys : ℕ → ℕ) (w s : ℕ) (c : Waiting) → IsHistory F keys → s < 65536 → (IsKept F s → ⊥) → class_of F s ≢ None
-    → IsSized F.groups.payload (content_of c) → WaitingStands (class_of F s) F.writes keys c → IsHistory (ticketed F w s c) keys
+pub ticket_keeps : (F : Flat) (keys : ℕ → ℕ) (w s : ℕ) (c : Waiting) → IsHistory F keys → s < 65536 → (IsArrayHeld F s → ⊥) → class_of F s ≢ None
+    → IsSized F.groups.payload (content_of c) → WaitingMatches (class_of F s) F.writes keys c → IsHistory (ticketed F w s c) keys
 ticket_keeps F keys w s c is inside free there fits rests =
     slot_kept F keys (turned F.held s (Worker w) (Ticket w)) (put F.tickets s (Some c)) (put F.units s (Some u)) s is
     (λ b has. free (Block b, for_block b, has))
     (λ t ne. turned_else F.held s (Worker w) (Ticket w) t ne) (λ t ne. put_else F.tickets s (Some c) t ne) (λ t ne. put_else F.units s (Some u) t ne)
     (holders_same F.groups keys s (turned F.held s (Worker w) (Ticket w) s) (turned F.held s (Worker w) (Ticket w) s) (Some c) (put F.tickets s (Some c) s) refl
-    (put_here F.tickets s (Some c)) (ticket_stands F.groups keys s (turned F.held s (Worker w) (Ticket w) s) w c inside now))
+    (put_here F.tickets s (Some c)) (ticket_matches F.groups keys s (turned F.held s (Worker w) (Ticket w) s) w c inside now))
     (units_same F.groups.payload F.emitted F.writes keys s (class_of F s) (Some c) (put F.tickets s (Some c) s) (Some u) (put F.units s (Some u) s)
     (put_here F.tickets s (Some c)) (put_here F.units s (Some u)) unit)
   where
@@ -63,14 +63,14 @@ ticket_keeps F keys w s c is inside free there fits rests =
     now : IsJust IsArrays (turned F.held s (Worker w) (Ticket w) s) (Ticket w)
     now = turned_free IsArrays F.held s (Worker w) (Ticket w) (λ k of. unheld (F.held s k) (λ e. free (k, of, e)))
 
-    unit : UnitStands F.groups.payload F.emitted F.writes keys s (class_of F s) (Some c) (Some u)
+    unit : UnitMatches F.groups.payload F.emitted F.writes keys s (class_of F s) (Some c) (Some u)
     unit = record {
       there = there_is (class_of F s) there;
       sized = λ x e. subst (λ (y : Stored). length y.payload ≡ F.groups.payload) (same_Some u x e) (sized_bytes F.groups.payload (content_of c) fits);
       header = λ x r e header. let same : u ≡ x = same_Some u x e in let bad : None ≡ Some r = ap (λ (y : Stored). record_in y.header) same ∙ header in absurd (cc);
       content = λ x r z e header. let same : u ≡ x = same_Some u x e in let bad : None ≡ Some r = ap (λ (y : Stored). record_in y.header) same ∙ header in absurd (cc);
       blank = λ d e. ap (λ v. Some (waiting_unit F.groups.payload (content_of v))) (same_Some c d e);
-      rests = λ d e. subst (WaitingStands (class_of F s) F.writes keys) (same_Some c d e) rests;
+      rests = λ d e. subst (WaitingMatches (class_of F s) F.writes keys) (same_Some c d e) rests;
     }
 
 pub discard_keeps : (F : Flat) (keys : ℕ → ℕ) (w s : ℕ) → IsHistory F keys → F.held s (Ticket w) ≡ true → IsHistory (discarded F w s) keys
@@ -79,7 +79,7 @@ discard_keeps F keys w s is mine =
     (λ b has. let e : Block b ≡ Ticket w = (is.holders s).once (Block b) (Ticket w) (for_block b) (for_ticket w) has mine in cc)
     (λ t ne. turned_else F.held s (Ticket w) (Worker w) t ne) (λ t ne. put_else F.tickets s None t ne) (λ t ne. refl)
     (holders_same F.groups keys s (turned F.held s (Ticket w) (Worker w) s) (turned F.held s (Ticket w) (Worker w) s) None (put F.tickets s None s) refl
-    (put_here F.tickets s None) (nobody_stands F.groups keys s (turned F.held s (Ticket w) (Worker w) s) (worker_nobody (turned F.held s (Ticket w) (Worker w) s) w now)))
+    (put_here F.tickets s None) (nobody_matches F.groups keys s (turned F.held s (Ticket w) (Worker w) s) (worker_nobody (turned F.held s (Ticket w) (Worker w) s) w now)))
     (units_same F.groups.payload F.emitted F.writes keys s (class_of F s) None (put F.tickets s None s) (F.units s) (F.units s)
     (put_here F.tickets s None) refl
     (unit_ended F.groups.payload F.emitted F.writes keys s (class_of F s) (F.tickets s) (F.units s) (is.units s)))

@@ -16,13 +16,13 @@ use Rattle.extent_groups.proofs.Fresh.{no_members}
 use Rattle.flat_machine.specs.Groups.{class_below, GroupsStand}
 use Rattle.flat_machine.specs.Flat.{Flat, Holder, Worker, Ticket, Block, Shut, IsArrays, for_ticket, for_block, for_shut, Waiting, Write, Stored, waiting_unit, content_of, class_of, turned}
 use Rattle.flat_machine.specs.Moves.{IsIn, HasClaim, unmade}
-use Rattle.flat_machine.specs.History.{HoldersStand, UnitStands, IsHistory}
+use Rattle.flat_machine.specs.History.{HoldersStand, UnitMatches, IsHistory}
 use Rattle.flat_machine.proofs.Pairs.{equal, unequal, not_workers, IsNobodys, IsJust, just_once, just_is, turned_just}
 use Rattle.flat_machine.proofs.Slots.{history_as, free_waits}
 
 -- only the number of a dissolved group holds the slot
-shut_stands : (groups : Groups) (keys : ℕ → ℕ) (s g : ℕ) (h : Holder → Bool) → s < 65536 → IsJust IsArrays h (Shut g) → g ≡ s / 128 → group_at groups g ≡ None → HoldersStand groups keys s h None
-shut_stands groups keys s g h inside is group free = record {
+shut_matches : (groups : Groups) (keys : ℕ → ℕ) (s g : ℕ) (h : Holder → Bool) → s < 65536 → IsJust IsArrays h (Shut g) → g ≡ s / 128 → group_at groups g ≡ None → HoldersStand groups keys s h None
+shut_matches groups keys s g h inside is group free = record {
   once = just_once IsArrays h (Shut g) is;
   inside = λ k of hk. inside;
   waits = λ d e. absurd (cc);
@@ -90,13 +90,13 @@ class_below_none segments None i high = refl
 class_below_none segments (Some group) i high = ap (λ q. cond q (Some group.class) None) high
 
 -- a slot of no group has no unit, and nothing waits there
-bare_stands : (payload : ℕ) (emitted : List Record) (writes : List Write) (keys : ℕ → ℕ) (s : ℕ) (t : Option Waiting) → ((c : Waiting) → t ≡ Some c → ⊥)
-    → UnitStands payload emitted writes keys s None t None
-bare_stands payload emitted writes keys s t never = record {
+bare_matches : (payload : ℕ) (emitted : List Record) (writes : List Write) (keys : ℕ → ℕ) (s : ℕ) (t : Option Waiting) → ((c : Waiting) → t ≡ Some c → ⊥)
+    → UnitMatches payload emitted writes keys s None t None
+bare_matches payload emitted writes keys s t never = record {
   there = refl;
   sized = λ u e. absurd (cc);
-  header = λ u r e told. absurd (cc);
-  content = λ u r w e told. absurd (cc);
+  header = λ u r e reported. absurd (cc);
+  content = λ u r w e reported. absurd (cc);
   blank = λ c e. absurd (never c e);
   rests = λ c e. absurd (never c e);
 }
@@ -196,15 +196,15 @@ module _ (F : Flat) (keys : ℕ → ℕ) (w g : ℕ) (is : IsHistory F keys) (ma
           let none : F.tickets s ≡ None = free_waits F.groups keys s (F.held s) (F.tickets s) (is.holders s) nobody in
           subst (λ h. HoldersStand G.groups keys s h (F.tickets s)) (sym (held_in s same low))
           (subst (λ t. HoldersStand G.groups keys s (turned F.held s (Worker w) (Shut g) s) t) (sym none)
-          (shut_stands G.groups keys s g (turned F.held s (Worker w) (Shut g) s) (inside s same)
+          (shut_matches G.groups keys s g (turned F.held s (Worker w) (Shut g) s) (inside s same)
           (turned_just IsArrays F.held s (Worker w) (Shut g) (λ j of. nobody j of ∙ sym (not_workers j w of))) (sym same) (group_same F.groups g None within)))
 
-  units : (s : ℕ) → (s / 128 ≡ g) ⊎ (s / 128 ≡ g → ⊥) → UnitStands F.groups.payload F.emitted F.writes keys s (class_of G s) (F.tickets s) (G.units s)
-  units s (inl same) = subst (UnitStands F.groups.payload F.emitted F.writes keys s (class_of G s) (F.tickets s)) (sym (unit_here s same))
-      (subst (λ o. UnitStands F.groups.payload F.emitted F.writes keys s o (F.tickets s) None) (sym (class_here s same))
-      (bare_stands F.groups.payload F.emitted F.writes keys s (F.tickets s) (no_ticket s same (nat_lt (s % 128) count) refl)))
-  units s (inr ne) = subst (UnitStands F.groups.payload F.emitted F.writes keys s (class_of G s) (F.tickets s)) (sym (unit_else s ne))
-      (subst (λ o. UnitStands F.groups.payload F.emitted F.writes keys s o (F.tickets s) (F.units s)) (sym (class_else s ne)) (is.units s))
+  units : (s : ℕ) → (s / 128 ≡ g) ⊎ (s / 128 ≡ g → ⊥) → UnitMatches F.groups.payload F.emitted F.writes keys s (class_of G s) (F.tickets s) (G.units s)
+  units s (inl same) = subst (UnitMatches F.groups.payload F.emitted F.writes keys s (class_of G s) (F.tickets s)) (sym (unit_here s same))
+      (subst (λ o. UnitMatches F.groups.payload F.emitted F.writes keys s o (F.tickets s) None) (sym (class_here s same))
+      (bare_matches F.groups.payload F.emitted F.writes keys s (F.tickets s) (no_ticket s same (nat_lt (s % 128) count) refl)))
+  units s (inr ne) = subst (UnitMatches F.groups.payload F.emitted F.writes keys s (class_of G s) (F.tickets s)) (sym (unit_else s ne))
+      (subst (λ o. UnitMatches F.groups.payload F.emitted F.writes keys s o (F.tickets s) (F.units s)) (sym (class_else s ne)) (is.units s))
 
   places : (b : ℕ) → F.held (record_of b (keys b)).place (Block b) ≡ true
       → (G.units (record_of b (keys b)).place ≡ F.units (record_of b (keys b)).place) × (G.held (record_of b (keys b)).place (Block b) ≡ true)

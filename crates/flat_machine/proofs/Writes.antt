@@ -21,8 +21,8 @@ last_else (v ∷ ws) w block ne = ap (λ o. or_else o (cond (v.block == block) (
 -- the last write of a block is one of the list, and of the block
 there_more : (ws : List Write) (v w : Write) (b : ℕ) (o : Option Write) → (o ≡ Some w → (Contains ws w) × (w.block ≡ b))
     → or_else o (cond (v.block == b) (Some v) None) ≡ Some w → (Contains (v ∷ ws) w) × (w.block ≡ b)
-there_more ws v w b (Some x) behind e = let old = behind e in let low = old.0.1 in ((suc old.0.0, omega arith, old.0.2), old.1)
-there_more ws v w b None behind e = go (v.block == b) refl e
+there_more ws v w b (Some x) following e = let old = following e in let low = old.0.1 in ((suc old.0.0, omega arith, old.0.2), old.1)
+there_more ws v w b None following e = go (v.block == b) refl e
   where
     go : (q : Bool) → (v.block == b) ≡ q → cond q (Some v) None ≡ Some w → (Contains (v ∷ ws) w) × (w.block ≡ b)
     go true same is =

@@ -2,7 +2,7 @@
 -- case; what never comes is impossible.
 use Rattle.std.specs.Prelude.{◌≡◌, ◌≢◌, ◌⊎◌, ℕ, ◌+◌, ◌/◌, ◌%◌, ◌<◌, ◌≤◌, ◌==◌, ◌&&◌, not, nat_lt, Bool, true, false, if◌then◌else◌, List, [], ◌∷◌, ◌++◌, length, replicate, Option, Some, None}
 use Rattle.map_join.specs.declared.records.Record.{Record}
-use Rattle.extents.specs.Failures.{Failures, no_failures, Counts, StaysSteady}
+use Rattle.extents.specs.Failures.{Failures, no_failures, CountsFailure, StaysSteady}
 use Rattle.extents.specs.declared.header.Header.{Header}
 use Rattle.extents.specs.Header.{record_in}
 use Rattle.extent_groups.specs.declared.class.Class.{Class}
@@ -12,8 +12,8 @@ use Rattle.extent_groups.specs.Geometry.{slot_count}
 use Rattle.extent_groups.specs.Groups.{group_at, with_group}
 use Rattle.extent_groups.specs.Missing.{IsGone, MissAtMostOne}
 use Rattle.flat_machine.specs.declared.refusal.Refusal.TheVariants.{NoGroup, WrongClass, InUse, NoTicket, Outrun, VersionSpent, HopsSpent, Unwritten, Gone, SlotsHeld, DriveLost, Ahead, ExtentTaken, SameDrive, LogFull, Full, BadMember}
-use Rattle.flat_machine.specs.Groups.{AreMembers, AreApart, AreUnowned, ArePresent, IsFirstLost, IsLowestFree, IsFull}
-use Rattle.flat_machine.specs.Flat.{Flat, Write, Holder, Worker, Ticket, Block, Shut, Content, Payload, Trim, Waiting, Fresh, Moved, content_of, blank_header, header_for, Stored, content_in, waiting_unit, put, with_pair, without_pair, turned, same_holder, IsFree, IsKept, class_of, last_write, IsNewest}
+use Rattle.flat_machine.specs.Groups.{AreMembers, AreApart, AreUnowned, ArePresent, IsFirstLost, IsLowestFree, IsTableFull}
+use Rattle.flat_machine.specs.Flat.{Flat, Write, Holder, Worker, Ticket, Block, Shut, Content, Payload, Trim, Waiting, Fresh, Moved, content_of, blank_header, header_for, Stored, content_in, waiting_unit, put, with_pair, without_pair, turned, same_holder, IsUnheld, IsArrayHeld, class_of, last_write, IsNewest}
 use Rattle.map_join.specs.Record.{key_of}
 use Rattle.flat_machine.specs.Moves.{IsIn, HasClaim, IsFirstStray, unmade, IsMoveReason, MovePasses, IsBeyondOf, IsFirstGone, moved_to, with_new_drive}
 use Rattle.flat_machine.specs.Steps.{FlatStep, Claim, Release, Fill, Copy, Commit, Discard, Read, ReadAt, Make, Unmake, MoveExtent, AddDrive, Lose, Version, Seen, Data, Stale, FlatAnswer, Claimed, Taken, Released, NotHeld, Filled, Copied, Committed, Discarded, Found, FoundAt, MadeGroup, UnmadeGroup, MovedExtent, AddedDrive, LostDrive, Refused}
@@ -22,7 +22,7 @@ use Rattle.flat_machine.specs.Steps.{FlatStep, Claim, Release, Fill, Copy, Commi
 -- a steady one is lost now only if it was, and stays steady
 pub record Fares (was is : Bool) (before after : Failures) : Type 0 where
   pub stays : was ≡ true → is ≡ true
-  pub count : Counts was is before after
+  pub count : CountsFailure was is before after
   pub steady : StaysSteady was is before after
 
 -- G is the state x, but for drives that failed
@@ -46,7 +46,7 @@ longest_log = 4294967295
 
 -- claim: where nobody holds the slot, the worker does
 abbrev pub ClaimCase : Flat → ℕ → ℕ → FlatAnswer → Flat → Type 0
-ClaimCase F w s (Claimed t) G = (t ≡ s) × (IsFree F s) × (Leaves (record F { held = with_pair F.held s (Worker w) }) G)
+ClaimCase F w s (Claimed t) G = (t ≡ s) × (IsUnheld F s) × (Leaves (record F { held = with_pair F.held s (Worker w) }) G)
 ClaimCase F w s (Taken t) G = (t ≡ s) × ((k : Holder) × (F.held s k ≡ true)) × (Leaves F G)
 ClaimCase F w s _ G = ⊥
 
@@ -66,14 +66,14 @@ ticketed F w s waiting = record F {
 
 -- a fill passes all that it tests before it allocates
 abbrev pub FillPasses : Flat → ℕ → ℕ → Type 0
-FillPasses F w s = (F.held s (Worker w) ≡ true) × (class_of F s ≡ Some Mirrored) × (IsKept F s → ⊥)
+FillPasses F w s = (F.held s (Worker w) ≡ true) × (class_of F s ≡ Some Mirrored) × (IsArrayHeld F s → ⊥)
 
 -- fill: a fresh content into a mirrored slot that the worker holds
 abbrev pub FillCase : Flat → ℕ → ℕ → Content → FlatAnswer → Flat → Type 0
 FillCase F w s x (NotHeld t) G = (t ≡ s) × (F.held s (Worker w) ≡ false) × (Leaves F G)
 FillCase F w s x (Refused NoGroup) G = (F.held s (Worker w) ≡ true) × (class_of F s ≡ None) × (Leaves F G)
 FillCase F w s x (Refused WrongClass) G = (F.held s (Worker w) ≡ true) × (class_of F s ≡ Some Parity) × (Leaves F G)
-FillCase F w s x (Refused InUse) G = (F.held s (Worker w) ≡ true) × (class_of F s ≡ Some Mirrored) × (IsKept F s) × (Leaves F G)
+FillCase F w s x (Refused InUse) G = (F.held s (Worker w) ≡ true) × (class_of F s ≡ Some Mirrored) × (IsArrayHeld F s) × (Leaves F G)
 FillCase F w s x (Refused (Gone t)) G = (t ≡ s) × (FillPasses F w s) × (IsGoneIn G s) × (Leaves F G)
 FillCase F w s x (Filled t) G = (t ≡ s) × (FillPasses F w s) × (IsGoneIn G s → ⊥) × (Leaves (ticketed F w s (Fresh x)) G)
 FillCase F w s x _ G = ⊥
@@ -81,18 +81,18 @@ FillCase F w s x _ G = ⊥
 -- a copy of the record passes all that it tests before it allocates
 abbrev pub CopyPasses : Flat → ℕ → ℕ → ℕ → Record → Type 0
 CopyPasses F w s b r =
-    (F.held s (Worker w) ≡ true) × (class_of F s ≢ None) × (IsKept F s → ⊥) × (IsNewest F.emitted b (Some r)) × (r.hop < last_hop)
+    (F.held s (Worker w) ≡ true) × (class_of F s ≢ None) × (IsArrayHeld F s → ⊥) × (IsNewest F.emitted b (Some r)) × (r.hop < last_hop)
 
 -- copy: the content of a block's last write into a slot that the worker holds, in a group of either class; the source is read
 -- before the slot is written, and drives may fail at either
 abbrev pub CopyCase : Flat → ℕ → ℕ → ℕ → FlatAnswer → Flat → Type 0
 CopyCase F w s b (NotHeld t) G = (t ≡ s) × (F.held s (Worker w) ≡ false) × (Leaves F G)
 CopyCase F w s b (Refused NoGroup) G = (F.held s (Worker w) ≡ true) × (class_of F s ≡ None) × (Leaves F G)
-CopyCase F w s b (Refused InUse) G = (F.held s (Worker w) ≡ true) × (class_of F s ≢ None) × (IsKept F s) × (Leaves F G)
+CopyCase F w s b (Refused InUse) G = (F.held s (Worker w) ≡ true) × (class_of F s ≢ None) × (IsArrayHeld F s) × (Leaves F G)
 CopyCase F w s b (Refused Unwritten) G =
-    (F.held s (Worker w) ≡ true) × (class_of F s ≢ None) × (IsKept F s → ⊥) × (IsNewest F.emitted b None) × (Leaves F G)
+    (F.held s (Worker w) ≡ true) × (class_of F s ≢ None) × (IsArrayHeld F s → ⊥) × (IsNewest F.emitted b None) × (Leaves F G)
 CopyCase F w s b (Refused HopsSpent) G =
-    (F.held s (Worker w) ≡ true) × (class_of F s ≢ None) × (IsKept F s → ⊥)
+    (F.held s (Worker w) ≡ true) × (class_of F s ≢ None) × (IsArrayHeld F s → ⊥)
     × ((r : Record) × (IsNewest F.emitted b (Some r)) × (last_hop ≤ r.hop)) × (Leaves F G)
 CopyCase F w s b (Refused (Gone t)) G =
     ((r : Record) × (CopyPasses F w s b r)
@@ -130,9 +130,9 @@ committed F w s b found writes content r = record F {
 }
 
 -- the newest record has the version and the hop that were copied
-abbrev pub HasStamp : Option Record → ℕ → ℕ → Type 0
-HasStamp None v h = ⊥
-HasStamp (Some n) v h = (n.version ≡ v) × (n.hop ≡ h)
+abbrev pub HasCopiedStamp : Option Record → ℕ → ℕ → Type 0
+HasCopiedStamp None v h = ⊥
+HasCopiedStamp (Some n) v h = (n.version ≡ v) × (n.hop ≡ h)
 
 -- what waits can be committed to the block: a fresh content to any, a copy to the block that it is of
 abbrev pub IsFor : Option Waiting → ℕ → Type 0
@@ -151,12 +151,12 @@ CommitWith F w s b found (Some (Fresh x)) (Committed r) G =
     (next_version found ≤ last_version) × (length F.emitted < longest_log) × (IsGoneIn G s → ⊥)
     × (r ≡ record { block = b; version = next_version found; hop = 0; place = s })
     × (Leaves (committed F w s b found (F.writes ++ record { block = b; version = next_version found; content = x } ∷ []) x r) G)
-CommitWith F w s b found (Some (Moved c v h x)) (Refused (Outrun n)) G = (found ≡ Some n) × (HasStamp found v h → ⊥) × (Leaves F G)
-CommitWith F w s b found (Some (Moved c v h x)) (Refused LogFull) G = (HasStamp found v h) × (longest_log ≤ length F.emitted) × (Leaves F G)
+CommitWith F w s b found (Some (Moved c v h x)) (Refused (Outrun n)) G = (found ≡ Some n) × (HasCopiedStamp found v h → ⊥) × (Leaves F G)
+CommitWith F w s b found (Some (Moved c v h x)) (Refused LogFull) G = (HasCopiedStamp found v h) × (longest_log ≤ length F.emitted) × (Leaves F G)
 CommitWith F w s b found (Some (Moved c v h x)) (Refused (Gone t)) G =
-    (HasStamp found v h) × (length F.emitted < longest_log) × (t ≡ s) × (IsGoneIn G s) × (Leaves F G)
+    (HasCopiedStamp found v h) × (length F.emitted < longest_log) × (t ≡ s) × (IsGoneIn G s) × (Leaves F G)
 CommitWith F w s b found (Some (Moved c v h x)) (Committed r) G =
-    (HasStamp found v h) × (length F.emitted < longest_log) × (IsGoneIn G s → ⊥)
+    (HasCopiedStamp found v h) × (length F.emitted < longest_log) × (IsGoneIn G s → ⊥)
     × (r ≡ record { block = b; version = v; hop = h + 1; place = s })
     × (Leaves (committed F w s b found F.writes x r) G)
 CommitWith F w s b found _ _ G = ⊥
@@ -210,22 +210,22 @@ IsAhead r None = Unit {0}
 IsAhead r (Some n) = key_of n < key_of r
 
 -- a record is at most the newest of its block
-abbrev pub IsBehind : Flat → Record → Type 0
-IsBehind F r = (n : Record) × (IsNewest F.emitted r.block (Some n)) × (key_of r ≤ key_of n)
+abbrev pub IsNotAhead : Flat → Record → Type 0
+IsNotAhead F r = (n : Record) × (IsNewest F.emitted r.block (Some n)) × (key_of r ≤ key_of n)
 
 -- read at a record's place: what is seen there, where the record isn't ahead of the newest
 abbrev pub ReadAtCase : Flat → Record → FlatAnswer → Flat → Type 0
 ReadAtCase F r (Refused (Ahead found)) G = (IsNewest F.emitted r.block found) × (IsAhead r found) × (Leaves F G)
-ReadAtCase F r (Refused (Gone t)) G = (IsBehind F r) × (t ≡ r.place) × (IsGoneIn G t) × (Leaves F G)
-ReadAtCase F r (FoundAt seen) G = (IsBehind F r) × (IsGoneIn G r.place → ⊥) × (IsSeen (F.units r.place) r seen) × (Leaves F G)
+ReadAtCase F r (Refused (Gone t)) G = (IsNotAhead F r) × (t ≡ r.place) × (IsGoneIn G t) × (Leaves F G)
+ReadAtCase F r (FoundAt seen) G = (IsNotAhead F r) × (IsGoneIn G r.place → ⊥) × (IsSeen (F.units r.place) r seen) × (Leaves F G)
 ReadAtCase F r _ G = ⊥
 
 -- what is learned of a record whose place was seen: the record with its content, or where that is stale the newest record
 -- of the block with the content of its last write
 abbrev pub IsLearned : Flat → Record → Seen → Record → Content → Type 0
-IsLearned F r (Data x) told content = (told ≡ r) × (content ≡ x)
-IsLearned F r (Stale found) told content =
-    (IsNewest F.emitted r.block (Some told)) × ((w : Write) × (last_write F.writes r.block ≡ Some w) × (content ≡ w.content))
+IsLearned F r (Data x) reported content = (reported ≡ r) × (content ≡ x)
+IsLearned F r (Stale found) reported content =
+    (IsNewest F.emitted r.block (Some reported)) × ((w : Write) × (last_write F.writes r.block ≡ Some w) × (content ≡ w.content))
 
 -- the units, those of a group's first slots blank with payload zero
 abbrev pub wiped : (ℕ → Option Stored) → ℕ → ℕ → ℕ → ℕ → Option Stored
@@ -259,7 +259,7 @@ MakeCase F class members (Refused ExtentTaken) G =
     (AreMembers F.groups.extents F.drives members) × (AreApart members) × (AreUnowned F.groups members → ⊥) × (Leaves F G)
 MakeCase F class members (Refused (DriveLost d)) G =
     (AreFit F members) × ((IsFirstLost F.lost members d) ⊎ (((g : ℕ) × MakePasses F members g) × (IsFirstLost G.lost members d))) × (Leaves F G)
-MakeCase F class members (Refused Full) G = (AreFit F members) × (ArePresent F.lost members) × (IsFull F.groups) × (Leaves F G)
+MakeCase F class members (Refused Full) G = (AreFit F members) × (ArePresent F.lost members) × (IsTableFull F.groups) × (Leaves F G)
 MakeCase F class members (MadeGroup g) G = (MakePasses F members g) × (ArePresent G.lost members) × (Leaves (made F class members g) G)
 MakeCase F class members _ G = ⊥
 
@@ -324,22 +324,22 @@ Case F (Lose d) answer G = LoseCase F d answer G
 -- a commit of a ticket, given the newest record of the block, passes all that is tested before an allocation
 abbrev pub CommitPasses : Flat → Option Record → Option Waiting → Type 0
 CommitPasses F found (Some (Fresh x)) = (next_version found ≤ last_version) × (length F.emitted < longest_log)
-CommitPasses F found (Some (Moved c v h x)) = (HasStamp found v h) × (length F.emitted < longest_log)
+CommitPasses F found (Some (Moved c v h x)) = (HasCopiedStamp found v h) × (length F.emitted < longest_log)
 CommitPasses F found None = ⊥
 
 -- a step may run out of memory: it passes all that it tests before it allocates
-abbrev pub IsWanted : Flat → FlatStep → Type 0
-IsWanted F (Fill w s x) = FillPasses F w s
-IsWanted F (Copy w s b) = (r : Record) × CopyPasses F w s b r
-IsWanted F (Commit w s b) = (F.held s (Ticket w) ≡ true) × (IsFor (F.tickets s) b)
+abbrev pub IsAllocating : Flat → FlatStep → Type 0
+IsAllocating F (Fill w s x) = FillPasses F w s
+IsAllocating F (Copy w s b) = (r : Record) × CopyPasses F w s b r
+IsAllocating F (Commit w s b) = (F.held s (Ticket w) ≡ true) × (IsFor (F.tickets s) b)
     × ((found : Option Record) × (IsNewest F.emitted b found) × CommitPasses F found (F.tickets s))
-IsWanted F (Read b) = (r : Record) × IsNewest F.emitted b (Some r)
-IsWanted F (ReadAt r) = IsBehind F r
-IsWanted F (Make class members) = (g : ℕ) × MakePasses F members g
-IsWanted F (Unmake w g) = (group_at F.groups g ≢ None) × ((s : ℕ) → IsIn F g s → HasClaim F w s)
-IsWanted F (MoveExtent g k to) = MovePasses F g k to
-IsWanted F AddDrive = F.drives < most_drives
-IsWanted F _ = ⊥
+IsAllocating F (Read b) = (r : Record) × IsNewest F.emitted b (Some r)
+IsAllocating F (ReadAt r) = IsNotAhead F r
+IsAllocating F (Make class members) = (g : ℕ) × MakePasses F members g
+IsAllocating F (Unmake w g) = (group_at F.groups g ≢ None) × ((s : ℕ) → IsIn F g s → HasClaim F w s)
+IsAllocating F (MoveExtent g k to) = MovePasses F g k to
+IsAllocating F AddDrive = F.drives < most_drives
+IsAllocating F _ = ⊥
 
 -- a run of the flat machine over a list of steps, with one answer for each
 abbrev pub Runs : Flat → List FlatStep → List FlatAnswer → Flat → Type 0
@@ -355,6 +355,6 @@ NeverMissesTwo F [] (answer ∷ answers) G run = ⊥
 NeverMissesTwo F (step ∷ steps) [] G run = ⊥
 
 -- an answer that names no slot as lost
-abbrev pub TellsPresent : FlatAnswer → Type 0
-TellsPresent (Refused (Gone t)) = ⊥
-TellsPresent _ = Unit {0}
+abbrev pub ReportsPresent : FlatAnswer → Type 0
+ReportsPresent (Refused (Gone t)) = ⊥
+ReportsPresent _ = Unit {0}

@@ -132,8 +132,8 @@ abbrev pub turned : (ℕ → Holder → Bool) → ℕ → Holder → Holder → 
 turned held slot one other = with_pair (without_pair held slot one) slot other
 
 -- nobody holds the slot
-abbrev pub IsFree : Flat → ℕ → Type 0
-IsFree F slot = (k : Holder) → F.held slot k ≡ false
+abbrev pub IsUnheld : Flat → ℕ → Type 0
+IsUnheld F slot = (k : Holder) → F.held slot k ≡ false
 
 -- the array itself holds the slot: for a ticket, a block or a dissolved group
 pub data IsArrays : Holder → Type 0 where
@@ -141,8 +141,8 @@ pub data IsArrays : Holder → Type 0 where
   for_block : (b : ℕ) → IsArrays (Block b)
   for_shut : (g : ℕ) → IsArrays (Shut g)
 
-abbrev pub IsKept : Flat → ℕ → Type 0
-IsKept F slot = (k : Holder) × (IsArrays k) × (F.held slot k ≡ true)
+abbrev pub IsArrayHeld : Flat → ℕ → Type 0
+IsArrayHeld F slot = (k : Holder) × (IsArrays k) × (F.held slot k ≡ true)
 
 -- no slot has two holders
 abbrev pub HeldOnce : Flat → Type 0

@@ -4,7 +4,7 @@ use Rattle.extents.specs.Sizes.{AreInRange}
 use Rattle.extent_groups.specs.declared.class.Class.{Class}
 use Rattle.extent_groups.specs.declared.class.Member.{Member}
 use Rattle.extent_groups.specs.Geometry.{slot_count}
-use Rattle.extent_groups.specs.Groups.{Group, Groups, group_at, members_of, AreGroups, Stands}
+use Rattle.extent_groups.specs.Groups.{Group, Groups, group_at, members_of, AreGroups, HasMemberAt}
 
 -- the four sizes are within their limits
 abbrev pub AreSizes : Groups → Type 0
@@ -35,7 +35,7 @@ AreApart members = (j k : ℕ) (a b : Member) → slice_get members j ≡ Some a
 
 -- no made group has one of the members
 abbrev pub AreUnowned : Groups → List Member → Type 0
-AreUnowned groups members = (g drive extent : ℕ) → Stands (members_of groups g) drive extent → Stands members drive extent → ⊥
+AreUnowned groups members = (g drive extent : ℕ) → HasMemberAt (members_of groups g) drive extent → HasMemberAt members drive extent → ⊥
 
 -- no member's drive is lost
 abbrev pub ArePresent : (ℕ → Bool) → List Member → Type 0
@@ -62,8 +62,8 @@ pub record IsLowestFree (groups : Groups) (g : ℕ) : Type 0 where
   pub below : (h : ℕ) → h < g → group_at groups h ≢ None
 
 -- a group is made of every number
-abbrev pub IsFull : Groups → Type 0
-IsFull groups = (g : ℕ) → g < 512 → group_at groups g ≢ None
+abbrev pub IsTableFull : Groups → Type 0
+IsTableFull groups = (g : ℕ) → g < 512 → group_at groups g ≢ None
 
 -- no group is made, of numbers that there are
 pub record IsEmpty (groups : Groups) : Type 0 where

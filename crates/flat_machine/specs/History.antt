@@ -68,21 +68,21 @@ pub record IsCopy (writes : List Write) (b v h : ℕ) (x : Content) (key : ℕ) 
   pub write : Contains writes (record { block = b; version = v; content = x })
 
 -- what waits at a slot of this class: a fresh content only where the class is mirrored, or a copy
-abbrev pub WaitingStands : Option Class → List Write → (ℕ → ℕ) → Waiting → Type 0
-WaitingStands class writes keys (Fresh x) = class ≡ Some Mirrored
-WaitingStands class writes keys (Moved b v h x) = IsCopy writes b v h x (keys b)
+abbrev pub WaitingMatches : Option Class → List Write → (ℕ → ℕ) → Waiting → Type 0
+WaitingMatches class writes keys (Fresh x) = class ≡ Some Mirrored
+WaitingMatches class writes keys (Moved b v h x) = IsCopy writes b v h x (keys b)
 
 -- the unit of one slot: there exactly where the slot is one of a made group, as long as a payload, its header as above; where
 -- that is an emitted record, it holds what the acknowledged write of its block and version does; and a ticket's unit has its
 -- content under a blank header
-pub record UnitStands (payload : ℕ) (emitted : List Record) (writes : List Write) (keys : ℕ → ℕ) (s : ℕ) (class : Option Class) (ticket : Option Waiting) (unit : Option Stored) : Type 0 where
+pub record UnitMatches (payload : ℕ) (emitted : List Record) (writes : List Write) (keys : ℕ → ℕ) (s : ℕ) (class : Option Class) (ticket : Option Waiting) (unit : Option Stored) : Type 0 where
   pub there : is_some unit ≡ is_some class
   pub sized : (u : Stored) → unit ≡ Some u → length u.payload ≡ payload
   pub header : (u : Stored) (r : Record) → unit ≡ Some u → record_in u.header ≡ Some r → IsHeaderOf keys s r
   pub content : (u : Stored) (r : Record) (w : Write) → unit ≡ Some u → record_in u.header ≡ Some r → Contains emitted r
       → Contains writes w → IsWriteOf r w → content_in u ≡ w.content
   pub blank : (c : Waiting) → ticket ≡ Some c → unit ≡ Some (waiting_unit payload (content_of c))
-  pub rests : (c : Waiting) → ticket ≡ Some c → WaitingStands class writes keys c
+  pub rests : (c : Waiting) → ticket ≡ Some c → WaitingMatches class writes keys c
 
 -- the unit at a record's place has that record in its header, and this content
 pub record IsAt (units : ℕ → Option Stored) (r : Record) (x : Content) : Type 0 where
@@ -92,14 +92,14 @@ pub record IsAt (units : ℕ → Option Stored) (r : Record) (x : Content) : Typ
   pub content : content_in stored ≡ x
 
 -- the block's last write lies at its newest place, under its record, and the block holds that place
-pub record IsWritten (F : Flat) (b key : ℕ) (w : Write) : Type 0 where
+pub record IsLastWrite (F : Flat) (b key : ℕ) (w : Write) : Type 0 where
   pub version : w.version ≡ (record_of b key).version
   pub unit : IsAt F.units (record_of b key) w.content
   pub place : F.held (record_of b key).place (Block b) ≡ true
 
 -- a block that has no key was never written, and one that has a key was
-abbrev pub BlockStands : Flat → ℕ → ℕ → Type 0
-BlockStands F b key = (key ≡ 0 → last_write F.writes b ≡ None) × (0 < key → (w : Write) × (last_write F.writes b ≡ Some w) × (IsWritten F b key w))
+abbrev pub BlockMatches : Flat → ℕ → ℕ → Type 0
+BlockMatches F b key = (key ≡ 0 → last_write F.writes b ≡ None) × (0 < key → (w : Write) × (last_write F.writes b ≡ Some w) × (IsLastWrite F b key w))
 
 -- what is true of a flat state after any steps, where `keys` is the map of its log
 pub record IsHistory (F : Flat) (keys : ℕ → ℕ) : Type 0 where
@@ -116,9 +116,9 @@ pub record IsHistory (F : Flat) (keys : ℕ → ℕ) : Type 0 where
   pub versions : IsWriteChain [] F.writes
   -- of each slot: its holders, and its unit
   pub holders : (s : ℕ) → HoldersStand F.groups keys s (F.held s) (F.tickets s)
-  pub units : (s : ℕ) → UnitStands F.groups.payload F.emitted F.writes keys s (class_of F s) (F.tickets s) (F.units s)
+  pub units : (s : ℕ) → UnitMatches F.groups.payload F.emitted F.writes keys s (class_of F s) (F.tickets s) (F.units s)
   -- of each block: its last write, and its newest place
-  pub written : (b : ℕ) → BlockStands F b (keys b)
+  pub written : (b : ℕ) → BlockMatches F b (keys b)
 
 -- no slot has two holders, workers among them, and each slot that is held is one of the 65,536
 pub record AreHeld (F : Flat) : Type 0 where
@@ -126,17 +126,17 @@ pub record AreHeld (F : Flat) : Type 0 where
   pub inside : (s : ℕ) (k : Holder) → F.held s k ≡ true → s < 65536
 
 -- a step of numbers that there are: slots below 65,536, blocks of the array, and contents that fit its units
-abbrev pub IsStep : Groups → FlatStep → Type 0
-IsStep z (Claim w s) = s < 65536
-IsStep z (Release w s) = Unit {0}
-IsStep z (Fill w s x) = (s < 65536) × IsSized z.payload x
-IsStep z (Copy w s b) = (s < 65536) × (b < z.blocks)
-IsStep z (Commit w s b) = b < z.blocks
-IsStep z (Discard w s) = Unit {0}
-IsStep z (Read b) = Unit {0}
-IsStep z (ReadAt r) = Unit {0}
-IsStep z (Make class members) = Unit {0}
-IsStep z (Unmake w g) = Unit {0}
-IsStep z (MoveExtent g k to) = Unit {0}
-IsStep z AddDrive = Unit {0}
-IsStep z (Lose d) = Unit {0}
+abbrev pub IsValidStep : Groups → FlatStep → Type 0
+IsValidStep z (Claim w s) = s < 65536
+IsValidStep z (Release w s) = Unit {0}
+IsValidStep z (Fill w s x) = (s < 65536) × IsSized z.payload x
+IsValidStep z (Copy w s b) = (s < 65536) × (b < z.blocks)
+IsValidStep z (Commit w s b) = b < z.blocks
+IsValidStep z (Discard w s) = Unit {0}
+IsValidStep z (Read b) = Unit {0}
+IsValidStep z (ReadAt r) = Unit {0}
+IsValidStep z (Make class members) = Unit {0}
+IsValidStep z (Unmake w g) = Unit {0}
+IsValidStep z (MoveExtent g k to) = Unit {0}
+IsValidStep z AddDrive = Unit {0}
+IsValidStep z (Lose d) = Unit {0}

@@ -5,11 +5,11 @@ use Rattle.extents.specs.Failures.{Failures, fused}
 use Rattle.extent_groups.specs.declared.class.Member.{Member}
 use Rattle.flat_machine.specs.declared.refusal.Refusal.{Refusal}
 use Rattle.flat_machine.specs.declared.refusal.Refusal.TheVariants.{NoGroup, BadMember, SameDrive, ExtentTaken}
-use Rattle.extent_groups.specs.Groups.{Groups, group_at, members_of, slots_in, with_group, swapped_in, Stands}
+use Rattle.extent_groups.specs.Groups.{Groups, group_at, members_of, slots_in, with_group, swapped_in, HasMemberAt}
 use Rattle.extent_groups.specs.Missing.{IsGone, IsGoneAt}
 use Rattle.extent_groups.specs.Stores.{HasMemberOn, IsDriveOf}
 use Rattle.extent_groups.specs.Units.{Site, site_of}
-use Rattle.flat_machine.specs.Flat.{Flat, Holder, Worker, Shut, Stored, IsKept, class_of, put, turned}
+use Rattle.flat_machine.specs.Flat.{Flat, Holder, Worker, Shut, Stored, IsArrayHeld, class_of, put, turned}
 
 -- a slot of the group
 pub record IsIn (F : Flat) (g slot : ℕ) : Type 0 where
@@ -18,7 +18,7 @@ pub record IsIn (F : Flat) (g slot : ℕ) : Type 0 where
 
 -- the worker has a plain claim of the slot: the array itself holds it for nothing
 abbrev pub HasClaim : Flat → ℕ → ℕ → Type 0
-HasClaim F w slot = (F.held slot (Worker w) ≡ true) × (IsKept F slot → ⊥)
+HasClaim F w slot = (F.held slot (Worker w) ≡ true) × (IsArrayHeld F slot → ⊥)
 
 -- the lowest slot of the group that the worker has no plain claim of
 pub record IsFirstStray (F : Flat) (w g slot : ℕ) : Type 0 where
@@ -44,11 +44,11 @@ unmade F w g = record F {
 }
 
 -- an extent that is there, on a drive of none of the group's members, and of no group
-pub record IsTarget (groups : Groups) (drives g : ℕ) (to : Member) : Type 0 where
+pub record IsMoveTarget (groups : Groups) (drives g : ℕ) (to : Member) : Type 0 where
   pub drive : to.drive < drives
   pub extent : to.extent < groups.extents
   pub apart : HasMemberOn groups g to.drive → ⊥
-  pub unowned : (h : ℕ) → Stands (members_of groups h) to.drive to.extent → ⊥
+  pub unowned : (h : ℕ) → HasMemberAt (members_of groups h) to.drive to.extent → ⊥
 
 -- why the group's member of this number can't go onto the extent, lost drives aside; none where nothing speaks against it
 abbrev pub IsMoveReason : Groups → ℕ → ℕ → ℕ → Member → Option Refusal → Type 0
@@ -59,8 +59,8 @@ IsMoveReason groups drives g k to (Some SameDrive) =
     (slice_get (members_of groups g) k ≢ None) × (to.drive < drives) × (to.extent < groups.extents) × (HasMemberOn groups g to.drive)
 IsMoveReason groups drives g k to (Some ExtentTaken) =
     (slice_get (members_of groups g) k ≢ None) × (to.drive < drives) × (to.extent < groups.extents) × (HasMemberOn groups g to.drive → ⊥)
-    × ((h : ℕ) × (Stands (members_of groups h) to.drive to.extent))
-IsMoveReason groups drives g k to None = (slice_get (members_of groups g) k ≢ None) × (IsTarget groups drives g to)
+    × ((h : ℕ) × (HasMemberAt (members_of groups h) to.drive to.extent))
+IsMoveReason groups drives g k to None = (slice_get (members_of groups g) k ≢ None) × (IsMoveTarget groups drives g to)
 IsMoveReason groups drives g k to (Some _) = ⊥
 
 -- moving the group's member of this number passes all that it tests before it allocates
@@ -68,7 +68,7 @@ abbrev pub MovePasses : Flat → ℕ → ℕ → Member → Type 0
 MovePasses F g k to = (IsMoveReason F.groups F.drives g k to None) × (F.lost to.drive ≡ false)
 
 -- what lies on a lost drive for a group can't be rebuilt: a slot of the group that has a unit there is lost
-pub record IsBeyond (groups : Groups) (missing : ℕ → Bool) (g drive : ℕ) : Type 0 where
+pub record IsUnrecoverable (groups : Groups) (missing : ℕ → Bool) (g drive : ℕ) : Type 0 where
   pub lost : missing drive ≡ true
   pub slot : ℕ
   pub group : slot / 128 ≡ g
@@ -85,7 +85,7 @@ pub record IsFirstGone (groups : Groups) (missing : ℕ → Bool) (g slot : ℕ)
 
 -- a unit of the group's member of this number can't be rebuilt
 abbrev pub IsBeyondOf : Groups → (ℕ → Bool) → ℕ → ℕ → Type 0
-IsBeyondOf groups missing g k = (was : Member) × (slice_get (members_of groups g) k ≡ Some was) × (IsBeyond groups missing g was.drive)
+IsBeyondOf groups missing g k = (was : Member) × (slice_get (members_of groups g) k ≡ Some was) × (IsUnrecoverable groups missing g was.drive)
 
 -- the state in which the group's member of this number is another extent: slots, units and holders are as they were
 abbrev pub moved_to : Flat → ℕ → ℕ → Member → Flat

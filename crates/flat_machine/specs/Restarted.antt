@@ -12,7 +12,7 @@ use Rattle.flat_machine.specs.History.{IsHeaderOf, IsAt}
 -- the units of an array's groups have this map: each slot of a group has a unit, as long as a payload, and no other slot has
 -- one; a record in a header is of one of the blocks and of that very slot, and is the map's or has a stamp below the map's; and
 -- each record of the map is in the header of its place
-pub record TellMap (groups : Groups) (units : ℕ → Option Stored) (keys : ℕ → ℕ) : Type 0 where
+pub record ReportMap (groups : Groups) (units : ℕ → Option Stored) (keys : ℕ → ℕ) : Type 0 where
   pub there : (s : ℕ) → is_some (units s) ≡ is_some (class_at groups s)
   pub sized : (s : ℕ) (u : Stored) → units s ≡ Some u → length u.payload ≡ groups.payload
   pub header : (s : ℕ) (u : Stored) (r : Record) → units s ≡ Some u → record_in u.header ≡ Some r → IsHeaderOf keys s r
@@ -20,7 +20,7 @@ pub record TellMap (groups : Groups) (units : ℕ → Option Stored) (keys : ℕ
   pub found : (b : ℕ) → 0 < keys b → (x : Content) × IsAt units (record_of b (keys b)) x
 
 -- the records of a map are of an array's blocks, each in a slot of a group, and no two in one slot
-pub record HasPlaces (groups : Groups) (keys : ℕ → ℕ) : Type 0 where
+pub record HasDistinctSlots (groups : Groups) (keys : ℕ → ℕ) : Type 0 where
   pub blocks : (b : ℕ) → 0 < keys b → b < groups.blocks
   pub slots : (b : ℕ) → 0 < keys b → class_at groups (record_of b (keys b)).place ≢ None
   pub apart : (b c : ℕ) → 0 < keys b → 0 < keys c → (record_of b (keys b)).place ≡ (record_of c (keys c)).place → b ≡ c

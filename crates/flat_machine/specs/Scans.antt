@@ -8,8 +8,8 @@ use Rattle.flat_machine.specs.Restarted.{restarted}
 
 -- what a scan answers: the key of each block, or a slot whose unit is lost
 pub data ScanAnswer : Type 0 where
-  Told : (ℕ → ℕ) → ScanAnswer
-  NotTold : ℕ → ScanAnswer
+  Reported : (ℕ → ℕ) → ScanAnswer
+  NotReported : ℕ → ScanAnswer
 
 -- what a restart answers: how many blocks there are, or a slot whose unit is lost
 pub data RestartAnswer : Type 0 where
@@ -29,8 +29,8 @@ pub record AreNewest (emitted : List Record) (keys : ℕ → ℕ) (records : Lis
 
 -- scan: where no slot is lost, the map of the emitted records
 abbrev pub ScanCase : Flat → ScanAnswer → Flat → Type 0
-ScanCase F (Told keys) G = ((s : ℕ) → IsGoneIn F s → ⊥) × IsMapOf F.emitted keys × Leaves F G
-ScanCase F (NotTold s) G = FindsGone F G s
+ScanCase F (Reported keys) G = ((s : ℕ) → IsGoneIn F s → ⊥) × IsMapOf F.emitted keys × Leaves F G
+ScanCase F (NotReported s) G = FindsGone F G s
 
 -- restart: where no slot is lost, the state is restarted with the map of the newest records
 abbrev pub RestartCase : Flat → RestartAnswer → Flat → Type 0

@@ -8,7 +8,7 @@ use Rattle.extent_groups.specs.declared.place.Place.{Place}
 use Rattle.extent_groups.specs.Calls.{FadesAt}
 use Rattle.extent_groups.specs.Cells.{Cells, held}
 use Rattle.extent_groups.specs.Groups.{Groups}
-use Rattle.extent_groups.specs.Planned.{over, after, wanted_in, wanted_parity}
+use Rattle.extent_groups.specs.Planned.{over, after, expected_in, expected_parity}
 use Rattle.extent_groups.specs.Stores.{unit_bytes}
 use Rattle.extent_groups.specs.Units.{Site, Pair, InStripe, site_of}
 use Rattle.extent_groups.proofs.Fading.{fades_trans}
@@ -16,16 +16,16 @@ use Rattle.extent_groups.proofs.Losses.{kept_fades}
 use Rattle.extent_groups.proofs.Missing.{missing_if}
 use Rattle.extent_groups.proofs.Sites.{site_places}
 use Rattle.flat_machine.specs.Flat.{Flat}
-use Rattle.array_parts.specs.declared.micro.Micro.{Micro}
-use Rattle.array_parts.specs.declared.note.Note.{Note}
-use Rattle.array_parts.specs.declared.parts.Parts.{Parts}
-use Rattle.array_parts.specs.Fit.{IsFit}
-use Rattle.array_parts.specs.Losses.{LosesOnly}
-use Rattle.array_parts.specs.Micros.{writes_in, note_after}
-use Rattle.array_parts.specs.Notes.{note_view, AreFinished, IsBadNote, IsFineNote, IsGoodNote, IsParityFor, WasFinished}
-use Rattle.array_parts.specs.Slots.{cells_in, missing_in}
-use Rattle.array_parts.proofs.Reading.{slot_there}
-use Rattle.header_scan.specs.Stops.{IsLeft, IsMicro, IsNotedList, settled}
+use Rattle.unit_store.specs.declared.micro.Micro.{Micro}
+use Rattle.unit_store.specs.declared.note.Note.{Note}
+use Rattle.unit_store.specs.declared.parts.Parts.{Parts}
+use Rattle.unit_store.specs.Fit.{IsFit}
+use Rattle.unit_store.specs.Losses.{LosesOnly}
+use Rattle.unit_store.specs.Micros.{writes_in, note_after}
+use Rattle.unit_store.specs.Notes.{note_view, AreFinished, IsBadNote, IsFineNote, IsGoodNote, IsParityFor, WasFinished}
+use Rattle.unit_store.specs.Slots.{cells_in, missing_in}
+use Rattle.unit_store.proofs.Reading.{slot_there}
+use Rattle.header_scan.specs.Stops.{IsLeftByStop, IsMicro, IsNotedList, finished_count}
 use Rattle.header_scan.proofs.Settling.{begun_fades, faded_none, front_note, settles, still_none, unbegun, whole_note, whole_writes}
 
 -- a note is good or bad, not both
@@ -60,7 +60,7 @@ module _ {D : Type 0} (units : D → List (List ℕ)) (lost : D → Bool) (failu
   cleared = loses.tables.note ∙ done.cleared
 
   -- what the drives hold in the end
-  ends : (n : ℕ) → IsLeft units lost p q list n → (x : Place) → FadesAt (after c (writes_in (take (settled n list) list))) (cells_in units lost left) x
+  ends : (n : ℕ) → IsLeftByStop units lost p q list n → (x : Place) → FadesAt (after c (writes_in (take (finished_count n list) list))) (cells_in units lost left) x
   ends zero stop x =
       fades_trans _ _ _ (begun_fades units lost failures p q mid F G list micro done stop x)
       (subst (λ (m : Parts D). FadesAt (cells_in units lost m) (cells_in units lost left) x) (unbegun units lost failures p q mid F G list micro done stop) (kept_fades loses.drives x))
@@ -68,11 +68,11 @@ module _ {D : Type 0} (units : D → List (List ℕ)) (lost : D → Bool) (failu
       subst (λ ws. FadesAt (after c ws) (cells_in units lost left) x) (sym all_writes)
       (fades_trans _ _ _ (settles units lost failures p q mid F G list micro done k stop x) (kept_fades loses.drives x))
 
-  note_is : (n : ℕ) → note_after p.note (take (settled n list) list) ≡ None
+  note_is : (n : ℕ) → note_after p.note (take (finished_count n list) list) ≡ None
   note_is zero = micro.none
   note_is (suc k) = all_note
 
-  pub left_again : (n : ℕ) → IsLeft units lost p q list n → IsLeft units lost p left list (settled n list)
+  pub left_again : (n : ℕ) → IsLeftByStop units lost p q list n → IsLeftByStop units lost p left list (finished_count n list)
   left_again n stop = record {
     note = cleared ∙ sym (note_is n);
     groups = record {
@@ -81,11 +81,11 @@ module _ {D : Type 0} (units : D → List (List ℕ)) (lost : D → Bool) (failu
       extents = loses.tables.extents ∙ done.extents ∙ stop.groups.extents;
     };
     many = loses.drives.many ∙ many_finished units lost failures q.note q mid done.finished ∙ stop.many;
-    none = λ x none. faded_none _ _ (ends n stop x) (still_none c (writes_in (take (settled n list) list)) x none);
+    none = λ x none. faded_none _ _ (ends n stop x) (still_none c (writes_in (take (finished_count n list) list)) x none);
     cells = λ x never. ends n stop x;
   }
 
-module _ {D : Type 0} (units : D → List (List ℕ)) (lost : D → Bool) (p q : Parts D) (F G : Flat) (list : List Micro) (fit : IsFit units q) (micro : IsMicro units lost p F G list) (n : ℕ) (stop : IsLeft units lost p q list n) where
+module _ {D : Type 0} (units : D → List (List ℕ)) (lost : D → Bool) (p q : Parts D) (F G : Flat) (list : List Micro) (fit : IsFit units q) (micro : IsMicro units lost p F G list) (n : ℕ) (stop : IsLeftByStop units lost p q list n) where
   abbrev groups_are : q.groups ≡ p.groups
   groups_are = stop.groups.groups
 
@@ -101,17 +101,17 @@ module _ {D : Type 0} (units : D → List (List ℕ)) (lost : D → Bool) (p q :
       (stop.none x none)
 
   parity_as : (row : List Place) (parity i : ℕ) → site_of p.groups micro.note.slot ≡ Some (InStripe row parity i) → (o : Option Place) → slice_get row parity ≡ o
-      → IsParityFor (unit_bytes p.groups) (missing_in lost q) (Some (InStripe row parity i)) (wanted_in was micro.wanted o)
+      → IsParityFor (unit_bytes p.groups) (missing_in lost q) (Some (InStripe row parity i)) (expected_in was micro.expected o)
   parity_as row parity i at None e = λ x is. absurd (none-some x (sym e ∙ is))
   parity_as row parity i at (Some y) e = by (held was y) refl
     where
-      by : (u : Option (List ℕ)) → held was y ≡ u → IsParityFor (unit_bytes p.groups) (missing_in lost q) (Some (InStripe row parity i)) (over u (micro.wanted y))
+      by : (u : Option (List ℕ)) → held was y ≡ u → IsParityFor (unit_bytes p.groups) (missing_in lost q) (Some (InStripe row parity i)) (over u (micro.expected y))
       by None none = λ x is.
           let same : y ≡ x = same_Some y x (sym e ∙ is) in
           subst (λ (z : Place). missing_in lost q z.drive ≡ true) same (row_lost row parity i at y e none)
       by (Some u) there = micro.plan.sized y
 
-  parity_fine : (site : Option Site) → site_of p.groups micro.note.slot ≡ site → IsParityFor (unit_bytes p.groups) (missing_in lost q) site (wanted_parity was micro.wanted site)
+  parity_fine : (site : Option Site) → site_of p.groups micro.note.slot ≡ site → IsParityFor (unit_bytes p.groups) (missing_in lost q) site (expected_parity was micro.expected site)
   parity_fine None e = absurd (let there = slot_there p.groups micro.note.slot micro.slot in none-some there.0 (sym e ∙ there.1))
   parity_fine (Some (Pair a b)) e = tt
   parity_fine (Some (InStripe row parity i)) e = parity_as row parity i e (slice_get row parity) refl

@@ -7,16 +7,16 @@ use Rattle.extent_groups.specs.Groups.{Groups}
 use Rattle.extent_groups.specs.Cells.{Cells}
 use Rattle.extent_groups.specs.Stores.{unit_of, AreSound}
 use Rattle.flat_machine.specs.Scanned.{HasHeader, IsScanned}
-use Rattle.header_scan.specs.Faults.{Bytes, between, Tells, AreFine, IsTwice}
+use Rattle.header_scan.specs.Faults.{SlotUnits, between, Reports, AreFine, IsTwice}
 use Rattle.header_scan.specs.Found.{place_in, HasStamp, IsNoted, IsTwin, IsUnderway}
 use Rattle.header_scan.proofs.Noting.{most}
-use Rattle.header_scan.proofs.Scanning.{has_unit, within, told_record, great_stamp}
+use Rattle.header_scan.proofs.Scanning.{has_unit, within, reported_record, great_stamp}
 
 -- nothing is noted of no slots
-nothing : (low : ℕ) (bytes : Bytes) (block slot st : ℕ) → HasStamp (between low low bytes) block slot st → ⊥
+nothing : (low : ℕ) (bytes : SlotUnits) (block slot st : ℕ) → HasStamp (between low low bytes) block slot st → ⊥
 nothing low bytes block slot st h = let w = within low low bytes slot h.0 h.1 in let a = w.0 in let b = w.1 in omega (arith, a, b)
 
-none_noted : (low : ℕ) (bytes : Bytes) (block n t : ℕ) → n ≡ 0 → t ≡ 0 → IsNoted (HasStamp (between low low bytes) block) n t
+none_noted : (low : ℕ) (bytes : SlotUnits) (block n t : ℕ) → n ≡ 0 → t ≡ 0 → IsNoted (HasStamp (between low low bytes) block) n t
 none_noted low bytes block n t one two = record {
   found = λ h. absurd (omega (arith, h, one));
   first = λ slot st h. absurd (nothing low bytes block slot st h);
@@ -33,17 +33,17 @@ begun groups start low M T sound one two = record {
 }
 
 -- of slots that are fine, a header that is there is read
-pub own_told : (groups : Groups) (start : Cells) (low high slot : ℕ) (r : Record) → AreFine groups low high (unit_of groups start) → HasHeader (between low high (unit_of groups start)) slot r
-    → Tells groups.blocks (unit_of groups start) slot (Some r)
-own_told groups start low high slot r fine h =
+pub own_reported : (groups : Groups) (start : Cells) (low high slot : ℕ) (r : Record) → AreFine groups low high (unit_of groups start) → HasHeader (between low high (unit_of groups start)) slot r
+    → Reports groups.blocks (unit_of groups start) slot (Some r)
+own_reported groups start low high slot r fine h =
     let w = within low high (unit_of groups start) slot r h in
-    let told = fine slot (has_unit groups start slot w.2.0 w.2.1) w.0 w.1 in
-    subst (λ o. Tells groups.blocks (unit_of groups start) slot o) (told_record groups.blocks (unit_of groups start) slot told.0 r told.1 w.2) told.1
+    let reported = fine slot (has_unit groups start slot w.2.0 w.2.1) w.0 w.1 in
+    subst (λ o. Reports groups.blocks (unit_of groups start) slot o) (reported_record groups.blocks (unit_of groups start) slot reported.0 r reported.1 w.2) reported.1
 
 -- and names its own slot
 pub own_place : (groups : Groups) (start : Cells) (low high slot : ℕ) (r : Record) → AreFine groups low high (unit_of groups start) → HasHeader (between low high (unit_of groups start)) slot r
     → (r.place ≡ slot) × (r.block < groups.blocks)
-own_place groups start low high slot r fine h = let tells = own_told groups start low high slot r fine h in (tells.3.1, tells.3.0)
+own_place groups start low high slot r fine h = let reports = own_reported groups start low high slot r fine h in (reports.3.1, reports.3.0)
 
 record_key : (r : Record) (slot key : ℕ) → r.place ≡ slot → slot ≡ place_in key → stamp_of r ≡ stamp_in key → key_of r ≡ key
 record_key r slot key place is stamp = omega (arith, place, is, stamp)
@@ -95,7 +95,7 @@ twice groups start now low high b M T under twin =
 -- a block that occurs twice is noted as such
 pub noted_twice : (groups : Groups) (start now : Cells) (low high b p q : ℕ) (M T : ℕ → ℕ) → IsUnderway groups start now low high M T → IsTwice (between low high (unit_of groups start)) b p q → IsTwin (M b) (T b) × (b < groups.blocks)
 noted_twice groups start now low high b p q M T under is =
-    let bytes : Bytes = between low high (unit_of groups start) in
+    let bytes : SlotUnits = between low high (unit_of groups start) in
     let noted = under.noted b in
     let one : HasStamp bytes b p (stamp_of is.one) = (is.one, is.here.0, is.here.1, refl) in
     let two : HasStamp bytes b q (stamp_of is.one) = (is.other, is.there.0, is.there.1, is.same) in

@@ -10,7 +10,7 @@ use Rattle.extent_groups.specs.Cells.{Cells}
 use Rattle.extent_groups.specs.Stores.{unit_of}
 use Rattle.header_scan.specs.declared.fault.ScanFault.{ScanFault}
 use Rattle.header_scan.specs.declared.fault.ScanFault.TheVariants.{Twice}
-use Rattle.header_scan.specs.Faults.{Bytes, between, IsTwice, IsFirstFault}
+use Rattle.header_scan.specs.Faults.{SlotUnits, between, IsTwice, IsFirstFault}
 use Rattle.header_scan.specs.Found.{place_in, IsTwin, twins_in, HasNoTwins, AreFirstTwins, IsUnderway, Keeps}
 use Rattle.header_scan.proofs.Scanning.{key_size, twin_size}
 use Rattle.header_scan.proofs.Ending.{own_place, twice, noted_twice}
@@ -95,21 +95,21 @@ no_twin block n t (inr some) (inr any) e twin =
 pub first_twice : (groups : Groups) (start new : Cells) (low high b p q : ℕ) (M T : ℕ → ℕ) → IsUnderway groups start new low high M T → AreFirstTwins M T b p q
     → IsFirstFault groups low high (unit_of groups start) (unit_of groups new) (Twice b p q)
 first_twice groups start new low high b p q M T under twins =
-    let bytes : Bytes = between low high (unit_of groups start) in
+    let bytes : SlotUnits = between low high (unit_of groups start) in
     let noted = under.noted b in
     let is = twin_is b (M b) (T b) p q (key_size bytes b (M b) (T b) noted) (twin_size bytes b (M b) (T b) noted) twins.here in (
       under.fine,
       subst (λ y. IsTwice bytes b p y) is.2 (subst (λ x. IsTwice bytes b x (place_in (T b))) is.1 (twice groups start new low high b M T under is.0)),
-      λ lower x y less stands.
+      λ lower x y less matches.
           let own = under.noted lower in
           no_twin lower (M lower) (T lower) (key_size bytes lower (M lower) (T lower) own) (twin_size bytes lower (M lower) (T lower) own) (twins.lower lower less)
-          (noted_twice groups start new low high lower x y M T under stands).0,
+          (noted_twice groups start new low high lower x y M T under matches).0,
     )
 
 -- without twins below the array's blocks there are none
 pub no_twins : (groups : Groups) (start new : Cells) (low high blocks : ℕ) (M T : ℕ → ℕ) → IsUnderway groups start new low high M T → blocks ≡ groups.blocks → HasNoTwins M T blocks → (b : ℕ) → IsTwin (M b) (T b) → ⊥
 no_twins groups start new low high blocks M T under many none b twin =
-    let bytes : Bytes = between low high (unit_of groups start) in
+    let bytes : SlotUnits = between low high (unit_of groups start) in
     let noted = under.noted b in
     let h = (noted.again twin.0).0 in
     let own = (own_place groups start low high (place_in (T b)) h.0 under.fine h.1).1 in

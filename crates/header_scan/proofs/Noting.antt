@@ -55,14 +55,14 @@ twin Old New s stamp n t next step noted equal more is =
     let place : place_in next ≡ s = omega (arith, is, small) in
     let top : stamp_in next ≡ stamp = omega (arith, is, small) in
     let some : 0 < n = omega (arith, equal, great) in
-    let behind : place_in n < s = step.below (place_in n) (stamp_in n) (noted.found some) in
+    let following : place_in n < s = step.below (place_in n) (stamp_in n) (noted.found some) in
     record {
       found = λ any. step.grows (place_in n) (stamp_in n) (noted.found any);
       first = λ slot st h. elim (step.only slot st h) [
         | inl old ↦ noted.first slot st old
-        | inr new ↦ inr ((let a = new.1 in omega (arith, a, equal)), (let a = new.0 in omega (arith, a, behind)))
+        | inr new ↦ inr ((let a = new.1 in omega (arith, a, equal)), (let a = new.0 in omega (arith, a, following)))
       ];
-      again = λ any. (at_key New s stamp next is step.small step.here, λ same. omega (arith, behind, place));
+      again = λ any. (at_key New s stamp next is step.small step.here, λ same. omega (arith, following, place));
       second = λ slot st h same. elim (step.only slot st h) [
         | inl old ↦ elim (noted.second slot st old same) [ inl q ↦ inl q | inr both ↦ absurd (let a = both.0 in omega (arith, a, equal, more)) ]
         | inr new ↦ inr ((omega (arith, top, equal)), (let a = new.0 in omega (arith, a, place)))
@@ -74,14 +74,14 @@ third Old New s stamp n t step noted equal more =
     let great = step.great in
     let some : 0 < n = omega (arith, equal, great) in
     let any : 0 < t = omega (arith, more, great) in
-    let behind : place_in n < s = step.below (place_in n) (stamp_in n) (noted.found some) in
+    let following : place_in n < s = step.below (place_in n) (stamp_in n) (noted.found some) in
     let later : place_in t < s = step.below (place_in t) (stamp_in t) (noted.again any).0 in
     let less = twin_most Old n t noted any in
     record {
       found = λ h. step.grows (place_in n) (stamp_in n) (noted.found h);
       first = λ slot st h. elim (step.only slot st h) [
         | inl old ↦ noted.first slot st old
-        | inr new ↦ inr ((let a = new.1 in omega (arith, a, equal)), (let a = new.0 in omega (arith, a, behind)))
+        | inr new ↦ inr ((let a = new.1 in omega (arith, a, equal)), (let a = new.0 in omega (arith, a, following)))
       ];
       again = λ h. (step.grows (place_in t) (stamp_in t) (noted.again h).0, (noted.again h).1);
       second = λ slot st h same. elim (step.only slot st h) [

@@ -33,9 +33,9 @@ greater a b c h k e = grind (arith, nat_tests)
 pub joined : (whole one other : ℕ → Option (List ℕ)) (K M N : ℕ → ℕ) → MakeUp whole one other → IsScanned whole K → IsScanned one M → IsScanned other N → IsSame (join M N) K
 joined whole one other K M N parts all first second b =
     greater (M b) (N b) (K b) (below whole one M K (λ s r h. (parts s r).1 (inl h)) first all b) (below whole other N K (λ s r h. (parts s r).1 (inr h)) second all b)
-    told where
-      told : (K b ≤ M b) ⊎ (K b ≤ N b)
-      told = elim (zero_or_not (K b)) [
+    reported where
+      reported : (K b ≤ M b) ⊎ (K b ≤ N b)
+      reported = elim (zero_or_not (K b)) [
         | inl none ↦ inl (omega arith)
         | inr there ↦
             (let f = all.found b there in

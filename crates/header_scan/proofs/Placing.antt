@@ -10,7 +10,7 @@ use Rattle.map_join.specs.Maps.{Entries, at, IsSame, join, only}
 use Rattle.extent_groups.specs.Geometry.{slot_count}
 use Rattle.extent_groups.specs.Groups.{Group, Groups, group_at, slots_in}
 use Rattle.flat_machine.specs.Groups.{class_below, class_at}
-use Rattle.array_parts.specs.Slots.{IsSlot}
+use Rattle.unit_store.specs.Slots.{IsSlot}
 use Rattle.header_scan.specs.Faults.{IsFine}
 use Rattle.header_scan.specs.Found.{key_in, place_in, stamp_at, ArePlaced}
 use Rattle.header_scan.proofs.Stepping.{IsNote}

@@ -9,11 +9,11 @@ use Rattle.extent_groups.specs.Cells.{Cells}
 use Rattle.extent_groups.specs.Stores.{unit_of, AreSound, KeepsUnits}
 use Rattle.flat_machine.specs.Scanned.{HasHeader, IsScanned}
 use Rattle.header_scan.specs.declared.fault.ScanFault.{ScanFault}
-use Rattle.header_scan.specs.Faults.{Bytes, between, AreFine, IsFirstFault, IsTwice}
+use Rattle.header_scan.specs.Faults.{SlotUnits, between, AreFine, IsFirstFault, IsTwice}
 use Rattle.header_scan.specs.Found.{Keeps}
 use Rattle.header_scan.specs.Ranges.{MakeUp, IsMapOfRange, HasNoTwice, ShareNoStamp, IsFaultOfRanges}
 use Rattle.header_scan.proofs.Scanning.{has_unit, within, ranged, great_stamp}
-use Rattle.header_scan.proofs.Stepping.{tells_kept}
+use Rattle.header_scan.proofs.Stepping.{reports_kept}
 use Rattle.header_scan.proofs.Ending.{own_place}
 use Rattle.header_scan.proofs.Parts.{one_map, joined}
 
@@ -25,25 +25,25 @@ some_or zero = inl refl
 some_or (suc n) = inr (omega arith)
 
 -- a header of the whole range is one of either part
-split : (low middle high : ℕ) (bytes : Bytes) (slot : ℕ) (r : Record) → HasHeader (between low high bytes) slot r
+split : (low middle high : ℕ) (bytes : SlotUnits) (slot : ℕ) (r : Record) → HasHeader (between low high bytes) slot r
     → HasHeader (between low middle bytes) slot r ⊎ HasHeader (between middle high bytes) slot r
 split low middle high bytes slot r h =
     let w = within low high bytes slot r h in
     elim (below_or slot middle) [ inl less ↦ inl (ranged low middle bytes slot r w.0 less w.2) | inr more ↦ inr (ranged middle high bytes slot r more w.1 w.2) ]
 
 -- and the other way round
-first_in : (low middle high : ℕ) (bytes : Bytes) (slot : ℕ) (r : Record) → middle ≤ high → HasHeader (between low middle bytes) slot r → HasHeader (between low high bytes) slot r
+first_in : (low middle high : ℕ) (bytes : SlotUnits) (slot : ℕ) (r : Record) → middle ≤ high → HasHeader (between low middle bytes) slot r → HasHeader (between low high bytes) slot r
 first_in low middle high bytes slot r wide h = let w = within low middle bytes slot r h in let k = w.1 in ranged low high bytes slot r w.0 (omega (arith, k, wide)) w.2
 
-second_in : (low middle high : ℕ) (bytes : Bytes) (slot : ℕ) (r : Record) → low ≤ middle → HasHeader (between middle high bytes) slot r → HasHeader (between low high bytes) slot r
+second_in : (low middle high : ℕ) (bytes : SlotUnits) (slot : ℕ) (r : Record) → low ≤ middle → HasHeader (between middle high bytes) slot r → HasHeader (between low high bytes) slot r
 second_in low middle high bytes slot r wide h = let w = within middle high bytes slot r h in let k = w.0 in ranged low high bytes slot r (omega (arith, k, wide)) w.1 w.2
 
-pub make_up : (low middle high : ℕ) (bytes : Bytes) → low ≤ middle → middle ≤ high → MakeUp (between low high bytes) (between low middle bytes) (between middle high bytes)
+pub make_up : (low middle high : ℕ) (bytes : SlotUnits) → low ≤ middle → middle ≤ high → MakeUp (between low high bytes) (between low middle bytes) (between middle high bytes)
 make_up low middle high bytes l m slot r =
     ((λ h. split low middle high bytes slot r h), (λ e. elim e [ inl h ↦ first_in low middle high bytes slot r m h | inr h ↦ second_in low middle high bytes slot r l h ]))
 
 -- of the same units
-pub same_units : (bytes : Bytes) (low middle high : ℕ) (K M N : ℕ → ℕ) → low ≤ middle → middle ≤ high → IsScanned (between low middle bytes) M → IsScanned (between middle high bytes) N → IsScanned (between low high bytes) K
+pub same_units : (bytes : SlotUnits) (low middle high : ℕ) (K M N : ℕ → ℕ) → low ≤ middle → middle ≤ high → IsScanned (between low middle bytes) M → IsScanned (between middle high bytes) N → IsScanned (between low high bytes) K
     → IsSame (join M N) K
 same_units bytes low middle high K M N l m one other all =
     joined (between low high bytes) (between low middle bytes) (between middle high bytes) K M N (make_up low middle high bytes l m) all one other
@@ -54,7 +54,7 @@ chosen a b = elim (below_or a b) [ inl less ↦ inr (grind (arith, nat_tests)) |
 at_least : (a b : ℕ) → (a ≤ max a b) × (b ≤ max a b)
 at_least a b = ((grind (arith, nat_tests)), (grind (arith, nat_tests)))
 
-pub joined_map : (bytes : Bytes) (low middle high : ℕ) (M N : ℕ → ℕ) → low ≤ middle → middle ≤ high → IsScanned (between low middle bytes) M → IsScanned (between middle high bytes) N
+pub joined_map : (bytes : SlotUnits) (low middle high : ℕ) (M N : ℕ → ℕ) → low ≤ middle → middle ≤ high → IsScanned (between low middle bytes) M → IsScanned (between middle high bytes) N
     → IsScanned (between low high bytes) (join M N)
 joined_map bytes low middle high M N l m one other = record {
   found = λ b some. elim (chosen (M b) (N b)) [
@@ -82,13 +82,13 @@ module _ (groups : Groups) (start now : Cells) (low high : ℕ) (keeps : KeepsUn
   still : (slot : ℕ) (r : Record) → HasHeader (between low high (unit_of groups start)) slot r → HasHeader (between low high (unit_of groups now)) slot r
   still slot r h =
       let w = within low high (unit_of groups start) slot r h in
-      let tells = (fine slot (has_unit groups start slot w.2.0 w.2.1) w.0 w.1).1 in
-      let same : Some w.2.0 ≡ Some tells.0 = sym w.2.1 ∙ keeps slot tells.0 tells.1 in
-      let unit : unit_of groups now slot ≡ Some w.2.0 = tells.1 ∙ sym same in
+      let reports = (fine slot (has_unit groups start slot w.2.0 w.2.1) w.0 w.1).1 in
+      let same : Some w.2.0 ≡ Some reports.0 = sym w.2.1 ∙ keeps slot reports.0 reports.1 in
+      let unit : unit_of groups now slot ≡ Some w.2.0 = reports.1 ∙ sym same in
       ranged low high (unit_of groups now) slot r w.0 w.1 (w.2.0, unit, w.2.2)
 
   pub fine_before : AreFine groups low high (unit_of groups start)
-  fine_before = λ slot is l h. (let told = fine slot is l h in (told.0, tells_kept groups.blocks slot (unit_of groups now) (unit_of groups start) told.0 keeps told.1))
+  fine_before = λ slot is l h. (let reported = fine slot is l h in (reported.0, reports_kept groups.blocks slot (unit_of groups now) (unit_of groups start) reported.0 keeps reported.1))
 
   pub map_before : (M : ℕ → ℕ) → IsScanned (between low high (unit_of groups now)) M → IsScanned (between low high (unit_of groups start)) M
   map_before M is = record {
@@ -119,7 +119,7 @@ pub earlier_once : (groups : Groups) (start now : Cells) (low high : ℕ) (M : �
 earlier_once groups start now low high M keeps is = once_before groups start now low high keeps is.fine
 
 -- both ranges are fine, so the whole is
-both_fine : (groups : Groups) (low middle high : ℕ) (bytes : Bytes) → AreFine groups low middle bytes → AreFine groups middle high bytes → AreFine groups low high bytes
+both_fine : (groups : Groups) (low middle high : ℕ) (bytes : SlotUnits) → AreFine groups low middle bytes → AreFine groups middle high bytes → AreFine groups low high bytes
 both_fine groups low middle high bytes one other slot is l h = elim (below_or slot middle) [ inl less ↦ one slot is l less | inr more ↦ other slot is more h ]
 
 pub calls : (groups : Groups) (c : Cells) (low middle high : ℕ) (M N : ℕ → ℕ) → low ≤ middle → middle ≤ high → IsMapOfRange groups c low middle M → IsMapOfRange groups c middle high N
@@ -151,7 +151,7 @@ top groups c low high slot M r small is h most =
 -- a block that is twice in the whole range and in neither part has one stamp in both maps
 module _ (groups : Groups) (c : Cells) (low middle high b p q : ℕ) (M N : ℕ → ℕ) (l : low ≤ middle) (m : middle ≤ high) (small : high ≤ 65536) (one : IsMapOfRange groups c low middle M)
     (other : IsMapOfRange groups c middle high N) (is : IsTwice (between low high (unit_of groups c)) b p q) where
-  abbrev bytes : Bytes
+  abbrev bytes : SlotUnits
   bytes = unit_of groups c
 
   in_first : HasHeader (between low middle bytes) p is.one → HasHeader (between low middle bytes) q is.other → IsTwice (between low middle bytes) b p q

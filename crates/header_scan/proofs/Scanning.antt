@@ -16,15 +16,15 @@ use Rattle.extent_groups.specs.Units.{Site, site_of, unit_in}
 use Rattle.extent_groups.specs.Stores.{unit_bytes, unit_of, AreSound, KeepsUnits}
 use Rattle.extent_groups.proofs.LayoutLaw.{slot_of}
 use Rattle.flat_machine.specs.Scanned.{HasHeader}
-use Rattle.array_parts.specs.Slots.{IsSlot}
+use Rattle.unit_store.specs.Slots.{IsSlot}
 use Rattle.header_scan.specs.declared.fault.ScanFault.{ScanFault}
-use Rattle.header_scan.specs.Faults.{Bytes, between, Tells, IsFaultAt}
+use Rattle.header_scan.specs.Faults.{SlotUnits, between, Reports, IsFaultAt}
 use Rattle.header_scan.specs.Found.{place_in, stamp_in_option, HasStamp, IsNoted}
 
 -- what a look returns for a slot, over one and the same groups
 abbrev pub Looked : Groups → Groups → Cells → Cells → ℕ → ℕ → Result (Option Record) ScanFault → Type 0
 Looked groups after c new blocks slot result =
-    (AreSound groups c → IfOk result (Tells blocks (unit_of groups c) slot))
+    (AreSound groups c → IfOk result (Reports blocks (unit_of groups c) slot))
     × (AreSound groups c → IfErr result (IsFaultAt blocks (unit_of groups c) (unit_of after new) slot))
     × (AreSound groups c → KeepsUnits groups c new)
     × (AreSound groups c → AreSound after new)
@@ -53,38 +53,38 @@ in_range low high slot e = ((grind (arith, nat_tests)), (grind (arith, nat_tests
 is_range : (low high slot : ℕ) → low ≤ slot → slot < high → (nat_le low slot && nat_lt slot high) ≡ true
 is_range low high slot l h = grind (arith, nat_tests)
 
-pub in_between : (low high : ℕ) (bytes : Bytes) (slot : ℕ) (v : List ℕ) → between low high bytes slot ≡ Some v → (low ≤ slot) × (slot < high) × (bytes slot ≡ Some v)
+pub in_between : (low high : ℕ) (bytes : SlotUnits) (slot : ℕ) (v : List ℕ) → between low high bytes slot ≡ Some v → (low ≤ slot) × (slot < high) × (bytes slot ≡ Some v)
 in_between low high bytes slot v e =
     let c = chosen (nat_le low slot && nat_lt slot high) (bytes slot) v e in
     let b = in_range low high slot c.0 in
     (b.0, b.1, c.1)
 
-pub within : (low high : ℕ) (bytes : Bytes) (slot : ℕ) (r : Record) → HasHeader (between low high bytes) slot r → (low ≤ slot) × (slot < high) × HasHeader bytes slot r
+pub within : (low high : ℕ) (bytes : SlotUnits) (slot : ℕ) (r : Record) → HasHeader (between low high bytes) slot r → (low ≤ slot) × (slot < high) × HasHeader bytes slot r
 within low high bytes slot r h = let is = in_between low high bytes slot h.0 h.1 in (is.0, is.1, (h.0, is.2, h.2))
 
-pub ranged : (low high : ℕ) (bytes : Bytes) (slot : ℕ) (r : Record) → low ≤ slot → slot < high → HasHeader bytes slot r → HasHeader (between low high bytes) slot r
+pub ranged : (low high : ℕ) (bytes : SlotUnits) (slot : ℕ) (r : Record) → low ≤ slot → slot < high → HasHeader bytes slot r → HasHeader (between low high bytes) slot r
 ranged low high bytes slot r l k h = (h.0, ap (λ b. if b then bytes slot else None) (is_range low high slot l k) ∙ h.1, h.2)
 
 -- where the header of a slot holds a record, a look at the slot returns that record
-pub told_record : (blocks : ℕ) (bytes : Bytes) (slot : ℕ) (told : Option Record) (r : Record) → Tells blocks bytes slot told → HasHeader bytes slot r → told ≡ Some r
-told_record blocks bytes slot told r tells h =
-    let same : tells.0 ≡ h.0 = same_Some _ _ (sym tells.1 ∙ h.1) in
-    let spelled : Spells (take 32 h.0) tells.2.0 = subst (λ u. Spells (take 32 u) tells.2.0) same tells.2.1 in
-    sym tells.2.2 ∙ ap record_in (one_header (take 32 h.0) tells.2.0 h.2.0 spelled h.2.1) ∙ h.2.2
+pub reported_record : (blocks : ℕ) (bytes : SlotUnits) (slot : ℕ) (reported : Option Record) (r : Record) → Reports blocks bytes slot reported → HasHeader bytes slot r → reported ≡ Some r
+reported_record blocks bytes slot reported r reports h =
+    let same : reports.0 ≡ h.0 = same_Some _ _ (sym reports.1 ∙ h.1) in
+    let spelled : Spells (take 32 h.0) reports.2.0 = subst (λ u. Spells (take 32 u) reports.2.0) same reports.2.1 in
+    sym reports.2.2 ∙ ap record_in (one_header (take 32 h.0) reports.2.0 h.2.0 spelled h.2.1) ∙ h.2.2
 
 -- and where a look returns a record, the header of the slot holds it
-pub told_header : (blocks : ℕ) (bytes : Bytes) (slot : ℕ) (r : Record) → Tells blocks bytes slot (Some r) → HasHeader bytes slot r
-told_header blocks bytes slot r tells = (tells.0, tells.1, (tells.2.0, tells.2.1, tells.2.2))
+pub reported_header : (blocks : ℕ) (bytes : SlotUnits) (slot : ℕ) (r : Record) → Reports blocks bytes slot (Some r) → HasHeader bytes slot r
+reported_header blocks bytes slot r reports = (reports.0, reports.1, (reports.2.0, reports.2.1, reports.2.2))
 
 -- a record that a header holds was written: it has a version
-told_written : (b : List ℕ) (h : Header) (r : Record) → Spells b h → record_in h ≡ Some r → 0 < r.version
-told_written b Blank r told e = absurd (let both : None ≡ Some r = e in cc)
-told_written b (Is q k) r told e = subst (λ (x : Record). 0 < x.version) (same_Some q r e) told.0.written
+reported_written : (b : List ℕ) (h : Header) (r : Record) → Spells b h → record_in h ≡ Some r → 0 < r.version
+reported_written b Blank r reported e = absurd (let both : None ≡ Some r = e in cc)
+reported_written b (Is q k) r reported e = subst (λ (x : Record). 0 < x.version) (same_Some q r e) reported.0.written
 
 -- a stamp of a header has a version
-pub great_stamp : (bytes : Bytes) (block slot st : ℕ) → HasStamp bytes block slot st → 2 ^ 16 ≤ st
+pub great_stamp : (bytes : SlotUnits) (block slot st : ℕ) → HasStamp bytes block slot st → 2 ^ 16 ≤ st
 great_stamp bytes block slot st h =
-    let written = told_written (take 32 h.1.0) h.1.2.0 h.0 h.1.2.1 h.1.2.2 in
+    let written = reported_written (take 32 h.1.0) h.1.2.0 h.0 h.1.2.1 h.1.2.2 in
     let is = h.3 in
     omega (arith, written, is)
 
@@ -103,20 +103,20 @@ none_or : (n : ℕ) → (n ≡ 0) ⊎ (0 < n)
 none_or zero = inl refl
 none_or (suc n) = inr (omega arith)
 
-pub key_size : (bytes : Bytes) (block n t : ℕ) → IsNoted (HasStamp bytes block) n t → (n ≡ 0) ⊎ (2 ^ 32 ≤ n)
+pub key_size : (bytes : SlotUnits) (block n t : ℕ) → IsNoted (HasStamp bytes block) n t → (n ≡ 0) ⊎ (2 ^ 32 ≤ n)
 key_size bytes block n t noted = elim (none_or n) [
   | inl none ↦ inl none
   | inr some ↦ inr (let great = great_stamp bytes block (place_in n) (stamp_in n) (noted.found some) in omega (arith, great))
 ]
 
-pub twin_size : (bytes : Bytes) (block n t : ℕ) → IsNoted (HasStamp bytes block) n t → (t ≡ 0) ⊎ (2 ^ 32 ≤ t)
+pub twin_size : (bytes : SlotUnits) (block n t : ℕ) → IsNoted (HasStamp bytes block) n t → (t ≡ 0) ⊎ (2 ^ 32 ≤ t)
 twin_size bytes block n t noted = elim (none_or t) [
   | inl none ↦ inl none
   | inr some ↦ inr (let great = great_stamp bytes block (place_in t) (stamp_in t) (noted.again some).0 in omega (arith, great))
 ]
 
-pub newest_stamp : (bytes : Bytes) (block n t : ℕ) → IsNoted (HasStamp bytes block) n t → stamp_in_option (record_at block n) ≡ stamp_in n
+pub newest_stamp : (bytes : SlotUnits) (block n t : ℕ) → IsNoted (HasStamp bytes block) n t → stamp_in_option (record_at block n) ≡ stamp_in n
 newest_stamp bytes block n t noted = stamp_of_key block n (key_size bytes block n t noted)
 
-pub twin_stamp : (bytes : Bytes) (block n t : ℕ) → IsNoted (HasStamp bytes block) n t → stamp_in_option (record_at block t) ≡ stamp_in t
+pub twin_stamp : (bytes : SlotUnits) (block n t : ℕ) → IsNoted (HasStamp bytes block) n t → stamp_in_option (record_at block t) ≡ stamp_in t
 twin_stamp bytes block n t noted = stamp_of_key block t (twin_size bytes block n t noted)

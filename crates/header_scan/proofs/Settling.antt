@@ -6,20 +6,20 @@ use Rattle.extents.specs.Failures.{Failures}
 use Rattle.extent_groups.specs.declared.place.Place.{Place}
 use Rattle.extent_groups.specs.Calls.{Fades, FadesAt}
 use Rattle.extent_groups.specs.Cells.{Cells, held}
-use Rattle.extent_groups.specs.Planned.{Wanted, over, with_unit, after, IsFinished}
+use Rattle.extent_groups.specs.Planned.{Intended, over, with_unit, after, IsFinished}
 use Rattle.extent_groups.specs.Units.{site_of}
 use Rattle.extent_groups.specs.Stores.{IsOwnOf}
 use Rattle.extent_groups.proofs.Fading.{fades_trans}
 use Rattle.extent_groups.proofs.Finishing.{front_else, own_or_not, writes_else}
 use Rattle.flat_machine.specs.Flat.{Flat}
-use Rattle.array_parts.specs.declared.micro.Micro.{Micro}
-use Rattle.array_parts.specs.declared.micro.Micro.TheVariants.{NoteSet, Write, NoteClear}
-use Rattle.array_parts.specs.declared.note.Note.{Note}
-use Rattle.array_parts.specs.declared.parts.Parts.{Parts}
-use Rattle.array_parts.specs.Micros.{writes_in, note_after}
-use Rattle.array_parts.specs.Notes.{note_view, noted_unit, WasFinished, AreFinished}
-use Rattle.array_parts.specs.Slots.{cells_in}
-use Rattle.header_scan.specs.Stops.{ArePuts, IsLeft, IsMicro, IsNotedList, IsNotedPlace, IsStopped}
+use Rattle.unit_store.specs.declared.micro.Micro.{Micro}
+use Rattle.unit_store.specs.declared.micro.Micro.TheVariants.{NoteSet, Write, NoteClear}
+use Rattle.unit_store.specs.declared.note.Note.{Note}
+use Rattle.unit_store.specs.declared.parts.Parts.{Parts}
+use Rattle.unit_store.specs.Micros.{writes_in, note_after}
+use Rattle.unit_store.specs.Notes.{note_view, noted_unit, WasFinished, AreFinished}
+use Rattle.unit_store.specs.Slots.{cells_in}
+use Rattle.header_scan.specs.Stops.{ArePuts, IsLeftByStop, IsMicro, IsNotedList, IsNotedPlace, IsStopped}
 
 -- the writes in a prefix of a list are a prefix of its writes
 front_writes : (puts : List Micro) (k : ℕ) → ArePuts puts → writes_in (take k (puts ++ NoteClear ∷ [])) ≡ take k (writes_in puts)
@@ -59,7 +59,7 @@ over_none : (a : Option (List ℕ)) (u : List ℕ) → a ≡ None → over a u �
 over_none a u e = ap (λ o. over o u) e
 
 -- a place that held nothing holds nothing after writes
-pub still_none : (c : Cells) (ws : List Wanted) (x : Place) → held c x ≡ None → held (after c ws) x ≡ None
+pub still_none : (c : Cells) (ws : List Intended) (x : Place) → held c x ≡ None → held (after c ws) x ≡ None
 still_none c [] x none = none
 still_none c (w ∷ ws) x none = still_none (with_unit c w) ws x (one ((x.drive == w.place.drive) && (x.address == w.place.address)))
   where
@@ -72,12 +72,12 @@ faded_none a b (inl same) none = same ∙ none
 faded_none a b (inr gone) none = gone
 
 -- what was wanted, where a write of what was noted ends, whatever lay there before
-finished_one : (was torn now : Option (List ℕ)) (wanted noted : List ℕ) → (was ≡ None → torn ≡ None) → ((was ≡ None → ⊥) → wanted ≡ noted)
-    → (now ≡ over torn noted) ⊎ (now ≡ None) → Fades (over was wanted) now
-finished_one was torn now wanted noted lost same (inr gone) = inr gone
-finished_one None torn now wanted noted lost same (inl is) = inr (is ∙ ap (λ o. over o noted) (lost refl))
-finished_one (Some v) None now wanted noted lost same (inl is) = inr is
-finished_one (Some v) (Some w) now wanted noted lost same (inl is) = inl (is ∙ ap (λ u. Some u) (sym (same (λ e. none-some v (sym e)))))
+finished_one : (was torn now : Option (List ℕ)) (expected noted : List ℕ) → (was ≡ None → torn ≡ None) → ((was ≡ None → ⊥) → expected ≡ noted)
+    → (now ≡ over torn noted) ⊎ (now ≡ None) → Fades (over was expected) now
+finished_one was torn now expected noted lost same (inr gone) = inr gone
+finished_one None torn now expected noted lost same (inl is) = inr (is ∙ ap (λ o. over o noted) (lost refl))
+finished_one (Some v) None now expected noted lost same (inl is) = inr is
+finished_one (Some v) (Some w) now expected noted lost same (inl is) = inl (is ∙ ap (λ u. Some u) (sym (same (λ e. none-some v (sym e)))))
 
 -- the note of a whole list is cleared
 pub whole_note : (note : Note) (puts : List Micro) → ArePuts puts → note_after (Some note) (puts ++ NoteClear ∷ []) ≡ None
@@ -94,7 +94,7 @@ whole_writes (Write drive at unit ∷ puts) only = ap (λ ws. record { place = r
 whole_writes (NoteClear ∷ puts) only = absurd only
 
 -- what a carried-out list leaves is what a stop leaves
-pub left_stopped : {D : Type 0} (units : D → List (List ℕ)) (lost : D → Bool) (p q : Parts D) (list : List Micro) (n : ℕ) → IsStopped units lost p q list n → IsLeft units lost p q list n
+pub left_stopped : {D : Type 0} (units : D → List (List ℕ)) (lost : D → Bool) (p q : Parts D) (list : List Micro) (n : ℕ) → IsStopped units lost p q list n → IsLeftByStop units lost p q list n
 left_stopped units lost p q list n stop = record {
   note = stop.note;
   groups = stop.groups;
@@ -119,7 +119,7 @@ module _ {D : Type 0} (units : D → List (List ℕ)) (lost : D → Bool) (failu
   same_mid none = subst (λ o. AreFinished units lost failures o q mid) none done.finished
 
   -- the writes are of places of the slot
-  elsewhere : (x : Place) → (IsOwnOf p.groups micro.note.slot x → ⊥) → (w : Wanted) → Contains micro.writes w → w.place ≢ x
+  elsewhere : (x : Place) → (IsOwnOf p.groups micro.note.slot x → ⊥) → (w : Intended) → Contains micro.writes w → w.place ≢ x
   elsewhere x never w has is = never (subst (IsOwnOf p.groups micro.note.slot) is (micro.plan.planned.own w has).0)
 
   -- with the note set: whatever its slot's places hold, they end as the whole list leaves them
@@ -132,7 +132,7 @@ module _ {D : Type 0} (units : D → List (List ℕ)) (lost : D → Bool) (failu
       subst (λ t. IsFinished t d e micro.note.slot (noted_unit (site_of t micro.note.slot) (note_view micro.note))) groups ended in
       elim (own_or_not p.groups micro.note.slot x) [
         | inl own ↦ subst (λ o. Fades o (held e x)) (sym (micro.plan.planned.all x own))
-            (finished_one (held c x) (held d x) (held e x) (micro.wanted x) _ (lost_stays x) (micro.noted x own) (again.own x own))
+            (finished_one (held c x) (held d x) (held e x) (micro.expected x) _ (lost_stays x) (micro.noted x own) (again.own x own))
         | inr never ↦
             let front = front_else micro.writes c k x (elsewhere x never) in
             let whole = writes_else micro.writes c x (elsewhere x never) in
@@ -140,7 +140,7 @@ module _ {D : Type 0} (units : D → List (List ℕ)) (lost : D → Bool) (failu
       ]
 
   -- after any number of entries but none
-  pub settles : (k : ℕ) → IsLeft units lost p q list (suc k) → (x : Place) → FadesAt (after c micro.writes) e x
+  pub settles : (k : ℕ) → IsLeftByStop units lost p q list (suc k) → (x : Place) → FadesAt (after c micro.writes) e x
   settles k stop = elim (front_note micro.note l.puts k l.only) [
     | inl set ↦
         let is = note ∙ set in
@@ -164,8 +164,8 @@ module _ {D : Type 0} (units : D → List (List ℕ)) (lost : D → Bool) (failu
       note = stop.note ∙ ap (λ ms. note_after p.note (take (suc k) ms)) l.is
 
   -- with no entry carried out there is no note, and the drives were lost at most
-  pub unbegun : IsLeft units lost p q list zero → mid ≡ q
+  pub unbegun : IsLeftByStop units lost p q list zero → mid ≡ q
   unbegun stop = same_mid (stop.note ∙ micro.none)
 
-  pub begun_fades : IsLeft units lost p q list zero → (x : Place) → FadesAt c d x
+  pub begun_fades : IsLeftByStop units lost p q list zero → (x : Place) → FadesAt c d x
   begun_fades stop x = stop.cells x (λ own. subst (λ o. IsNotedPlace p.groups o x) (stop.note ∙ micro.none) own)

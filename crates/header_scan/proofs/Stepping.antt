@@ -12,36 +12,36 @@ use Rattle.extent_groups.specs.Stores.{unit_of, header_of, AreSound, KeepsUnits}
 use Rattle.std.proofs.lemmas.Bool.{cases_order}
 use Rattle.extent_groups.proofs.Places.{same_or_not}
 use Rattle.flat_machine.specs.Scanned.{HasHeader}
-use Rattle.array_parts.specs.Slots.{IsSlot}
+use Rattle.unit_store.specs.Slots.{IsSlot}
 use Rattle.header_scan.specs.declared.fault.ScanFault.{ScanFault}
 use Rattle.header_scan.specs.declared.fault.ScanFault.TheVariants.{Memory, BadHeader, WrongSlot, Twice, Gone, NoClaim, BadNote}
-use Rattle.header_scan.specs.Faults.{Bytes, between, Tells, AreFine, IsFaultAt, IsFirstFault}
+use Rattle.header_scan.specs.Faults.{SlotUnits, between, Reports, AreFine, IsFaultAt, IsFirstFault}
 use Rattle.header_scan.specs.Found.{key_in, stamp_at, HasStamp, IsNoted, IsUnderway}
 use Rattle.header_scan.proofs.Noting.{IsNext, newer, twin, third, older, as_well}
-use Rattle.header_scan.proofs.Scanning.{Looked, has_unit, within, ranged, told_record, told_header, newest_stamp, twin_stamp}
+use Rattle.header_scan.proofs.Scanning.{Looked, has_unit, within, ranged, reported_record, reported_header, newest_stamp, twin_stamp}
 
 last_or : (slot s : ℕ) → slot < s + 1 → (slot < s) ⊎ (slot ≡ s)
 last_or slot s h = elim (cases_order slot s) [ inl e ↦ inr e | inr o ↦ inl (elim o [ inl below ↦ below | inr above ↦ absurd (omega arith) ]) ]
 
 -- a look at sound units, over the units at the start
-pub tells_kept : (blocks slot : ℕ) (bytes all : Bytes) (told : Option Record) → ((other : ℕ) (v : List ℕ) → bytes other ≡ Some v → all other ≡ Some v) → Tells blocks bytes slot told → Tells blocks all slot told
-tells_kept blocks slot bytes all told keeps tells = (tells.0, keeps slot tells.0 tells.1, tells.2, tells.3, tells.4)
+pub reports_kept : (blocks slot : ℕ) (bytes all : SlotUnits) (reported : Option Record) → ((other : ℕ) (v : List ℕ) → bytes other ≡ Some v → all other ≡ Some v) → Reports blocks bytes slot reported → Reports blocks all slot reported
+reports_kept blocks slot bytes all reported keeps reports = (reports.0, keeps slot reports.0 reports.1, reports.2, reports.3, reports.4)
 
-fine_more : (groups : Groups) (low s : ℕ) (bytes : Bytes) (told : Option Record) → AreFine groups low s bytes → Tells groups.blocks bytes s told → AreFine groups low (s + 1) bytes
-fine_more groups low s bytes told fine tells = λ slot is l h. elim (last_or slot s h) [
+fine_more : (groups : Groups) (low s : ℕ) (bytes : SlotUnits) (reported : Option Record) → AreFine groups low s bytes → Reports groups.blocks bytes s reported → AreFine groups low (s + 1) bytes
+fine_more groups low s bytes reported fine reports = λ slot is l h. elim (last_or slot s h) [
   | inl less ↦ fine slot is l less
-  | inr q ↦ subst (λ x. (o : Option Record) × Tells groups.blocks bytes x o) (sym q) (told, tells)
+  | inr q ↦ subst (λ x. (o : Option Record) × Reports groups.blocks bytes x o) (sym q) (reported, reports)
 ]
 
 -- a stamp of the slots so far is one of more slots
-grows : (low high more : ℕ) (bytes : Bytes) (block slot st : ℕ) → high ≤ more → HasStamp (between low high bytes) block slot st → HasStamp (between low more bytes) block slot st
+grows : (low high more : ℕ) (bytes : SlotUnits) (block slot st : ℕ) → high ≤ more → HasStamp (between low high bytes) block slot st → HasStamp (between low more bytes) block slot st
 grows low high more bytes block slot st wide h =
     let w = within low high bytes slot h.0 h.1 in
     let k = w.1 in
     (h.0, ranged low more bytes slot h.0 w.0 (omega (arith, k, wide)) w.2, h.2, h.3)
 
 -- a stamp of one slot more is of the slots so far, or of that slot
-back_or : (low s : ℕ) (bytes : Bytes) (block slot st : ℕ) → HasStamp (between low (s + 1) bytes) block slot st
+back_or : (low s : ℕ) (bytes : SlotUnits) (block slot st : ℕ) → HasStamp (between low (s + 1) bytes) block slot st
     → HasStamp (between low s bytes) block slot st ⊎ ((slot ≡ s) × ((r : Record) × HasHeader bytes s r × (r.block ≡ block) × (stamp_of r ≡ st)))
 back_or low s bytes block slot st h =
     let w = within low (s + 1) bytes slot h.0 h.1 in
@@ -50,33 +50,33 @@ back_or low s bytes block slot st h =
       | inr q ↦ inr (q, (h.0, subst (λ x. HasHeader bytes x h.0) q w.2, h.2, h.3))
     ]
 
-none_noted : (blocks low s : ℕ) (bytes : Bytes) (block n t : ℕ) → Tells blocks bytes s None → IsNoted (HasStamp (between low s bytes) block) n t → IsNoted (HasStamp (between low (s + 1) bytes) block) n t
-none_noted blocks low s bytes block n t tells noted =
+none_noted : (blocks low s : ℕ) (bytes : SlotUnits) (block n t : ℕ) → Reports blocks bytes s None → IsNoted (HasStamp (between low s bytes) block) n t → IsNoted (HasStamp (between low (s + 1) bytes) block) n t
+none_noted blocks low s bytes block n t reports noted =
     as_well (HasStamp (between low s bytes) block) (HasStamp (between low (s + 1) bytes) block) n t n t (λ slot st h. grows low s (s + 1) bytes block slot st (omega arith) h)
-    (λ slot st h. elim (back_or low s bytes block slot st h) [ inl old ↦ old | inr new ↦ absurd (let both : None ≡ Some new.1.0 = told_record blocks bytes s None new.1.0 tells new.1.1 in cc) ])
+    (λ slot st h. elim (back_or low s bytes block slot st h) [ inl old ↦ old | inr new ↦ absurd (let both : None ≡ Some new.1.0 = reported_record blocks bytes s None new.1.0 reports new.1.1 in cc) ])
     refl refl noted
 
-other_noted : (blocks low s : ℕ) (bytes : Bytes) (r : Record) (block n t m u : ℕ) → Tells blocks bytes s (Some r) → block ≢ r.block → n ≡ m → t ≡ u → IsNoted (HasStamp (between low s bytes) block) n t
+other_noted : (blocks low s : ℕ) (bytes : SlotUnits) (r : Record) (block n t m u : ℕ) → Reports blocks bytes s (Some r) → block ≢ r.block → n ≡ m → t ≡ u → IsNoted (HasStamp (between low s bytes) block) n t
     → IsNoted (HasStamp (between low (s + 1) bytes) block) m u
-other_noted blocks low s bytes r block n t m u tells ne one two noted =
+other_noted blocks low s bytes r block n t m u reports ne one two noted =
     as_well (HasStamp (between low s bytes) block) (HasStamp (between low (s + 1) bytes) block) n t m u (λ slot st h. grows low s (s + 1) bytes block slot st (omega arith) h)
     (λ slot st h. elim (back_or low s bytes block slot st h) [
       | inl old ↦ old
-      | inr new ↦ absurd (let both : Some r ≡ Some new.1.0 = told_record blocks bytes s (Some r) new.1.0 tells new.1.1 in let same : r ≡ new.1.0 = cc in ne (sym (ap (λ (x : Record). x.block) same ∙ new.1.2)))
+      | inr new ↦ absurd (let both : Some r ≡ Some new.1.0 = reported_record blocks bytes s (Some r) new.1.0 reports new.1.1 in let same : r ≡ new.1.0 = cc in ne (sym (ap (λ (x : Record). x.block) same ∙ new.1.2)))
     ])
     one two noted
 
-next : (blocks low s : ℕ) (bytes : Bytes) (r : Record) → low ≤ s → s < 2 ^ 16 → Tells blocks bytes s (Some r)
+next : (blocks low s : ℕ) (bytes : SlotUnits) (r : Record) → low ≤ s → s < 2 ^ 16 → Reports blocks bytes s (Some r)
     → IsNext (HasStamp (between low s bytes) r.block) (HasStamp (between low (s + 1) bytes) r.block) s (stamp_of r)
-next blocks low s bytes r l small tells = record {
+next blocks low s bytes r l small reports = record {
   grows = λ slot st h. grows low s (s + 1) bytes r.block slot st (omega arith) h;
-  here = (r, ranged low (s + 1) bytes s r l (omega arith) (told_header blocks bytes s r tells), refl, refl);
+  here = (r, ranged low (s + 1) bytes s r l (omega arith) (reported_header blocks bytes s r reports), refl, refl);
   only = λ slot st h. elim (back_or low s bytes r.block slot st h) [
     | inl old ↦ inl old
-    | inr new ↦ inr (new.0, (let both : Some r ≡ Some new.1.0 = told_record blocks bytes s (Some r) new.1.0 tells new.1.1 in let same : r ≡ new.1.0 = cc in sym (ap (λ (x : Record). stamp_of x) same ∙ new.1.3)))
+    | inr new ↦ inr (new.0, (let both : Some r ≡ Some new.1.0 = reported_record blocks bytes s (Some r) new.1.0 reports new.1.1 in let same : r ≡ new.1.0 = cc in sym (ap (λ (x : Record). stamp_of x) same ∙ new.1.3)))
   ];
   below = λ slot st h. (within low s bytes slot h.0 h.1).1;
-  great = let written = tells.4.written in omega (arith, written);
+  great = let written = reports.4.written in omega (arith, written);
   small = small;
 }
 
@@ -96,12 +96,12 @@ join_here : (M N : ℕ → ℕ) (r : Record) → IsSame N (join M (only r)) → 
 join_here M N r same less = same r.block ∙ ap (λ t. max (M r.block) (if t then key_of r else 0)) (eq-eqb r.block r.block refl) ∙ max_more (M r.block) (key_of r) less
 
 -- the keys are noted of every block where they are of the record's, and the others are as they were
-spread : (blocks low s : ℕ) (bytes : Bytes) (r : Record) (M T N U : ℕ → ℕ) → Tells blocks bytes s (Some r) → ((b : ℕ) → b ≢ r.block → M b ≡ N b) → ((b : ℕ) → b ≢ r.block → T b ≡ U b)
+spread : (blocks low s : ℕ) (bytes : SlotUnits) (r : Record) (M T N U : ℕ → ℕ) → Reports blocks bytes s (Some r) → ((b : ℕ) → b ≢ r.block → M b ≡ N b) → ((b : ℕ) → b ≢ r.block → T b ≡ U b)
     → ((b : ℕ) → IsNoted (HasStamp (between low s bytes) b) (M b) (T b)) → IsNoted (HasStamp (between low (s + 1) bytes) r.block) (N r.block) (U r.block)
     → (b : ℕ) → IsNoted (HasStamp (between low (s + 1) bytes) b) (N b) (U b)
-spread blocks low s bytes r M T N U tells one two noted here b = elim (same_or_not b r.block) [
+spread blocks low s bytes r M T N U reports one two noted here b = elim (same_or_not b r.block) [
   | inl q ↦ subst (λ x. IsNoted (HasStamp (between low (s + 1) bytes) x) (N x) (U x)) (sym q) here
-  | inr ne ↦ other_noted blocks low s bytes r b (M b) (T b) (N b) (U b) tells ne (one b ne) (two b ne) (noted b)
+  | inr ne ↦ other_noted blocks low s bytes r b (M b) (T b) (N b) (U b) reports ne (one b ne) (two b ne) (noted b)
 ]
 
 -- what a note of a record says, where it isn't refused
@@ -111,9 +111,9 @@ pub record IsNote (M : List ℕ) (T : Entries) (N : List ℕ) (U : Entries) (r :
   pub older : stamp_of r < stamp_at (key_in M) r.block → (N ≡ M) × (U ≡ T)
   pub third : stamp_at (key_in M) r.block ≡ stamp_of r → stamp_of r ≤ stamp_at (at T) r.block → (N ≡ M) × (U ≡ T)
 
-pub some_noted : (blocks low s : ℕ) (bytes : Bytes) (r : Record) (M : List ℕ) (T : Entries) (N : List ℕ) (U : Entries) → low ≤ s → s < 2 ^ 16 → Tells blocks bytes s (Some r) → IsNote M T N U r
+pub some_noted : (blocks low s : ℕ) (bytes : SlotUnits) (r : Record) (M : List ℕ) (T : Entries) (N : List ℕ) (U : Entries) → low ≤ s → s < 2 ^ 16 → Reports blocks bytes s (Some r) → IsNote M T N U r
     → ((b : ℕ) → IsNoted (HasStamp (between low s bytes) b) (key_in M b) (at T b)) → (b : ℕ) → IsNoted (HasStamp (between low (s + 1) bytes) b) (key_in N b) (at U b)
-some_noted blocks low s bytes r M T N U l small tells note noted =
+some_noted blocks low s bytes r M T N U l small reports note noted =
     elim (cases_order (stamp_of r) (stamp_at (key_in M) r.block)) [
       | inl e ↦ elim (cases_order (stamp_of r) (stamp_at (at T) r.block)) [
         | inl f ↦ kept (note.third (sym e) (omega (arith, f))) (third Old New s (stamp_of r) n t step here (omega (arith, e, top)) (omega (arith, f, again)))
@@ -123,7 +123,7 @@ some_noted blocks low s bytes r M T N U l small tells note noted =
               (let changed = note.twin (sym e) above in
               let less : t < key_of r = omega (arith, above, again) in
               let is : at U r.block ≡ stamp_of r * 2 ^ 16 + s = join_here (at T) (at U) r changed.1 less ∙ key in
-              spread blocks low s bytes r (key_in M) (at T) (key_in N) (at U) tells (λ b ne. ap (λ (x : List ℕ). key_in x b) (sym changed.0)) (λ b ne. join_other (at T) (at U) r b changed.1 ne) noted
+              spread blocks low s bytes r (key_in M) (at T) (key_in N) (at U) reports (λ b ne. ap (λ (x : List ℕ). key_in x b) (sym changed.0)) (λ b ne. join_other (at T) (at U) r b changed.1 ne) noted
               (subst (λ (x : List ℕ). IsNoted New (key_in x r.block) (at U r.block)) (sym changed.0) (twin Old New s (stamp_of r) n t (at U r.block) step here (omega (arith, e, top)) (omega (arith, above, again)) is)))
         ]
       ]
@@ -133,7 +133,7 @@ some_noted blocks low s bytes r M T N U l small tells note noted =
             (let changed = note.newer above in
             let less : n < key_of r = omega (arith, above, top) in
             let is : key_in N r.block ≡ stamp_of r * 2 ^ 16 + s = join_here (key_in M) (key_in N) r changed.0 less ∙ key in
-            spread blocks low s bytes r (key_in M) (at T) (key_in N) (at U) tells (λ b ne. join_other (key_in M) (key_in N) r b changed.0 ne) (λ b ne. ap (λ (x : Entries). at x b) (sym changed.1)) noted
+            spread blocks low s bytes r (key_in M) (at T) (key_in N) (at U) reports (λ b ne. join_other (key_in M) (key_in N) r b changed.0 ne) (λ b ne. ap (λ (x : Entries). at x b) (sym changed.1)) noted
             (subst (λ (x : Entries). IsNoted New (key_in N r.block) (at x r.block)) (sym changed.1) (newer Old New s (stamp_of r) n t (key_in N r.block) step here (omega (arith, above, top)) is)))
       ]
     ] where
@@ -153,7 +153,7 @@ some_noted blocks low s bytes r M T N U l small tells note noted =
       here = noted r.block
 
       step : IsNext Old New s (stamp_of r)
-      step = next blocks low s bytes r l small tells
+      step = next blocks low s bytes r l small reports
 
       top : stamp_at (key_in M) r.block ≡ stamp_in n
       top = newest_stamp (between low s bytes) r.block n t here
@@ -162,37 +162,37 @@ some_noted blocks low s bytes r M T N U l small tells note noted =
       again = twin_stamp (between low s bytes) r.block n t here
 
       key : key_of r ≡ stamp_of r * 2 ^ 16 + s
-      key = let place : r.place ≡ s = tells.3.1 in omega (arith, place)
+      key = let place : r.place ≡ s = reports.3.1 in omega (arith, place)
 
       kept : (N ≡ M) × (U ≡ T) → IsNoted New n t → (b : ℕ) → IsNoted (HasStamp (between low (s + 1) bytes) b) (key_in N b) (at U b)
-      kept same is = spread blocks low s bytes r (key_in M) (at T) (key_in N) (at U) tells (λ b ne. ap (λ (x : List ℕ). key_in x b) (sym same.0)) (λ b ne. ap (λ (x : Entries). at x b) (sym same.1)) noted
+      kept same is = spread blocks low s bytes r (key_in M) (at T) (key_in N) (at U) reports (λ b ne. ap (λ (x : List ℕ). key_in x b) (sym same.0)) (λ b ne. ap (λ (x : Entries). at x b) (sym same.1)) noted
           (subst (λ (x : List ℕ). IsNoted New (key_in x r.block) (at U r.block)) (sym same.0) (subst (λ (x : Entries). IsNoted New n (at x r.block)) (sym same.1) is))
 
 -- one slot more is read, which holds nothing
 pub none_more : (groups : Groups) (start c new : Cells) (low s : ℕ) (M T : ℕ → ℕ) → IsUnderway groups start c low s M T → Looked groups groups c new groups.blocks s (Ok None) → IsUnderway groups start new low (s + 1) M T
 none_more groups start c new low s M T was look =
-    let tells : Tells groups.blocks (unit_of groups start) s None = tells_kept groups.blocks s (unit_of groups c) (unit_of groups start) None was.keeps (look.0 was.sound) in
+    let reports : Reports groups.blocks (unit_of groups start) s None = reports_kept groups.blocks s (unit_of groups c) (unit_of groups start) None was.keeps (look.0 was.sound) in
     record {
       sound = look.3 was.sound;
       keeps = λ other v e. was.keeps other v (look.2 was.sound other v e);
-      fine = fine_more groups low s (unit_of groups start) None was.fine tells;
-      noted = λ block. none_noted groups.blocks low s (unit_of groups start) block (M block) (T block) tells (was.noted block);
+      fine = fine_more groups low s (unit_of groups start) None was.fine reports;
+      noted = λ block. none_noted groups.blocks low s (unit_of groups start) block (M block) (T block) reports (was.noted block);
     }
 
 -- or holds a record, which is noted
 pub some_more : (groups : Groups) (start c new : Cells) (low s : ℕ) (r : Record) (M : List ℕ) (T : Entries) (N : List ℕ) (U : Entries) → low ≤ s → s < 2 ^ 16 → IsNote M T N U r
     → IsUnderway groups start c low s (key_in M) (at T) → Looked groups groups c new groups.blocks s (Ok (Some r)) → IsUnderway groups start new low (s + 1) (key_in N) (at U)
 some_more groups start c new low s r M T N U l small note was look =
-    let tells : Tells groups.blocks (unit_of groups start) s (Some r) = tells_kept groups.blocks s (unit_of groups c) (unit_of groups start) (Some r) was.keeps (look.0 was.sound) in
+    let reports : Reports groups.blocks (unit_of groups start) s (Some r) = reports_kept groups.blocks s (unit_of groups c) (unit_of groups start) (Some r) was.keeps (look.0 was.sound) in
     record {
       sound = look.3 was.sound;
       keeps = λ other v e. was.keeps other v (look.2 was.sound other v e);
-      fine = fine_more groups low s (unit_of groups start) (Some r) was.fine tells;
-      noted = some_noted groups.blocks low s (unit_of groups start) r M T N U l small tells note was.noted;
+      fine = fine_more groups low s (unit_of groups start) (Some r) was.fine reports;
+      noted = some_noted groups.blocks low s (unit_of groups start) r M T N U l small reports note was.noted;
     }
 
 -- a slot's fault is the first one of the scan, where all before it are fine
-fault_first : (groups : Groups) (low high s : ℕ) (bytes all left : Bytes) (e : ScanFault) → ((other : ℕ) (v : List ℕ) → bytes other ≡ Some v → all other ≡ Some v) → IsSlot groups s → low ≤ s → s < high → AreFine groups low s all
+fault_first : (groups : Groups) (low high s : ℕ) (bytes all left : SlotUnits) (e : ScanFault) → ((other : ℕ) (v : List ℕ) → bytes other ≡ Some v → all other ≡ Some v) → IsSlot groups s → low ≤ s → s < high → AreFine groups low s all
     → IsFaultAt groups.blocks bytes left s e → IsFirstFault groups low high all left e
 fault_first groups low high s bytes all left Memory keeps is l h fine at = tt
 fault_first groups low high s bytes all left (BadHeader p) keeps is l h fine at = (s, is, l, h, (at.0, (at.1.0, keeps s at.1.0 at.1.1, at.1.2)), fine)
@@ -236,8 +236,8 @@ is_slot groups g index h few =
 -- what a look at a header that was read returned, over the reads of its group
 pub look_of : (groups after : Groups) (c new : Cells) (blocks slot : ℕ) (header : List ℕ) (result out : Result (Option Record) ScanFault) → blocks ≡ groups.blocks → after ≡ groups → result ≡ out
     → (AreSound groups c → header_of groups c slot ≡ Some header)
-    → ((bytes : Bytes) → front HEADER_BYTES (bytes slot) ≡ Some header → IfOk result (Tells blocks bytes slot))
-    → ((bytes left : Bytes) → front HEADER_BYTES (bytes slot) ≡ Some header → IfErr result (IsFaultAt blocks bytes left slot))
+    → ((bytes : SlotUnits) → front HEADER_BYTES (bytes slot) ≡ Some header → IfOk result (Reports blocks bytes slot))
+    → ((bytes left : SlotUnits) → front HEADER_BYTES (bytes slot) ≡ Some header → IfErr result (IsFaultAt blocks bytes left slot))
     → (AreSound groups c → KeepsUnits groups c new) → (AreSound groups c → AreSound after new) → Looked groups groups c new groups.blocks slot out
 look_of groups after c new blocks slot header result out many same is read ok err units sound =
     subst (λ r. Looked groups groups c new groups.blocks slot r) is (subst (λ n. Looked groups groups c new n slot result) many (

@@ -6,7 +6,7 @@ use Rattle.extent_groups.specs.declared.place.Place.{Place}
 use Rattle.extent_groups.specs.Calls.{FadesAt}
 use Rattle.extent_groups.specs.Cells.{Cells}
 use Rattle.extent_groups.specs.Planned.{after}
-use Rattle.extent_groups.specs.Stores.{unit_bytes, Wrote}
+use Rattle.extent_groups.specs.Stores.{unit_bytes, WroteSlot}
 use Rattle.extent_groups.proofs.Finishing.{after_sized}
 use Rattle.extent_groups.proofs.LayoutLaw.{layout_law}
 use Rattle.extent_groups.proofs.SlotWrites.{slots_fade}
@@ -14,20 +14,20 @@ use Rattle.extent_groups.proofs.Places.{same_or_not}
 use Rattle.extent_groups.proofs.StoreCalls.{sized_cells}
 use Rattle.flat_machine.specs.Flat.{Flat, Stored, put}
 use Rattle.flat_machine.specs.Groups.{class_at}
-use Rattle.array_parts.specs.declared.micro.Micro.{Micro}
-use Rattle.array_parts.specs.declared.parts.Parts.{Parts}
-use Rattle.array_parts.specs.Fit.{IsFit}
-use Rattle.array_parts.specs.Notes.{WasFinished}
-use Rattle.array_parts.specs.Shows.{ShowsUnits}
-use Rattle.array_parts.specs.Slots.{cells_in}
-use Rattle.array_parts.specs.Views.{view_of, cells_of, lost_of, failed_of}
-use Rattle.array_parts.proofs.Calls.{shows_in}
-use Rattle.array_parts.proofs.Shows.{shows_wrote}
-use Rattle.array_parts.proofs.Stopped.{shows_unbegun}
-use Rattle.array_parts.proofs.Views.{view_cells, view_length}
+use Rattle.unit_store.specs.declared.micro.Micro.{Micro}
+use Rattle.unit_store.specs.declared.parts.Parts.{Parts}
+use Rattle.unit_store.specs.Fit.{IsFit}
+use Rattle.unit_store.specs.Notes.{WasFinished}
+use Rattle.unit_store.specs.Shows.{ShowsUnits}
+use Rattle.unit_store.specs.Slots.{cells_in}
+use Rattle.unit_store.specs.Views.{view_of, drive_cells, lost_of, failed_of}
+use Rattle.unit_store.proofs.Calls.{shows_in}
+use Rattle.unit_store.proofs.Shows.{shows_wrote}
+use Rattle.unit_store.proofs.Stopped.{shows_unbegun}
+use Rattle.unit_store.proofs.Views.{view_cells, view_length}
 use Rattle.slot_tables.specs.Adopted.{HasParts}
 use Rattle.header_scan.specs.Restarts.{HasUnits}
-use Rattle.header_scan.specs.Stops.{IsLeft, IsMicro, standing}
+use Rattle.header_scan.specs.Stops.{IsLeftByStop, IsMicro, standing}
 use Rattle.header_scan.proofs.Placing.{classed}
 use Rattle.header_scan.proofs.Settling.{begun_fades, settles, unbegun}
 
@@ -58,16 +58,16 @@ module _ {D : Type 0} (units : D → List (List ℕ)) (lost : D → Bool) (failu
   shows_made : ((x : Place) → FadesAt (after c micro.writes) e x) → ShowsUnits p.groups e (put F.units micro.note.slot (Some micro.unit))
   shows_made fades =
       let planned = micro.plan.planned in
-      let sized = after_sized p.groups c micro.note.slot micro.note.unit.items micro.wanted micro.writes (unit_bytes p.groups) planned micro.plan.sized (sized_cells units lost p.groups p.drives.items fit.drives) in
+      let sized = after_sized p.groups c micro.note.slot micro.note.unit.items micro.expected micro.writes (unit_bytes p.groups) planned micro.plan.sized (sized_cells units lost p.groups p.drives.items fit.drives) in
       let kept = slots_fade p.groups (after c micro.writes) e (layout_law p.groups fit.groups) sized (planned.wrote.sound shown.sound) fades in
-      let wrote : Wrote p.groups c e micro.note.slot micro.note.unit.items = record {
+      let wrote : WroteSlot p.groups c e micro.note.slot micro.note.unit.items = record {
         unit = λ v holds. planned.wrote.unit v (kept.0 micro.note.slot v holds);
         others = λ sound other v ne holds. planned.wrote.others sound other v ne (kept.0 other v holds);
         sound = λ sound. kept.1;
       } in
       shows_wrote p.groups c e F.units micro.note.slot micro.note.unit.items micro.unit shown wrote micro.is
 
-  shows_standing : (n : ℕ) → IsLeft units lost p q list n → ShowsUnits p.groups e (standing n F G).units
+  shows_standing : (n : ℕ) → IsLeftByStop units lost p q list n → ShowsUnits p.groups e (standing n F G).units
   shows_standing zero stop =
       subst (λ (m : Parts D). ShowsUnits p.groups (cells_in units lost m) F.units) (sym (unbegun units lost failures p q mid F G list micro done stop))
       (shows_unbegun p.groups c (cells_in units lost q) F.units (layout_law p.groups fit.groups) (sized_cells units lost p.groups p.drives.items fit.drives) shown (begun_fades units lost failures p q mid F G list micro done stop))
@@ -81,14 +81,14 @@ module _ {D : Type 0} (units : D → List (List ℕ)) (lost : D → Bool) (failu
   groups_found zero = has.groups
   groups_found (suc n) = micro.groups ∙ has.groups
 
-  pub has_found : (n : ℕ) → IsLeft units lost p q list n → HasParts (view_of units lost failures mid) (found n)
+  pub has_found : (n : ℕ) → IsLeftByStop units lost p q list n → HasParts (view_of units lost failures mid) (found n)
   has_found n stop =
       let same : mid.groups ≡ p.groups = done.groups ∙ stop.groups.groups in record {
         groups = groups_found n ∙ sym same;
         drives = sym (view_length units lost failures mid);
         lost = refl;
         failures = refl;
-        units = subst (λ t. ShowsUnits t (cells_of (view_of units lost failures mid)) (standing n F G).units) (sym same)
+        units = subst (λ t. ShowsUnits t (drive_cells (view_of units lost failures mid)) (standing n F G).units) (sym same)
             (subst (λ (x : Cells). ShowsUnits p.groups x (standing n F G).units) (sym (view_cells units lost failures mid)) (shows_standing n stop));
       }
 

@@ -17,31 +17,31 @@ use Rattle.extent_groups.specs.Stores.{unit_bytes, AreSound, AreDrives}
 use Rattle.extent_groups.proofs.DriveCalls.{cells_sized}
 use Rattle.extent_groups.proofs.Fading.{row_sized}
 use Rattle.extent_groups.proofs.Totals.{total_sized, put_sized}
-use Rattle.array_parts.specs.Shows.{IsUnit}
-use Rattle.array_parts.specs.Slots.{IsSlot}
-use Rattle.array_parts.specs.Views.{PartsView, Shows, cells_of, drive_units, drive_lost}
-use Rattle.array_parts.proofs.Shows.{shown_header}
+use Rattle.unit_store.specs.Shows.{IsUnit}
+use Rattle.unit_store.specs.Slots.{IsSlot}
+use Rattle.unit_store.specs.Views.{PartsView, Shows, drive_cells, drive_units, drive_lost}
+use Rattle.unit_store.proofs.Shows.{shown_header}
 use Rattle.slot_tables.proofs.Wholes.{slot_of_class}
 use Rattle.flat_machine.specs.Flat.{Stored, Content, content_in}
 use Rattle.flat_machine.specs.Groups.{class_at}
 use Rattle.flat_machine.specs.History.{IsHeaderOf, IsAt}
-use Rattle.flat_machine.specs.Restarted.{TellMap}
+use Rattle.flat_machine.specs.Restarted.{ReportMap}
 use Rattle.flat_machine.specs.Scanned.{HasHeader, IsScanned}
-use Rattle.flat_machine.proofs.Newest.{told_again, key_least}
-use Rattle.step_core.specs.Headline.{bytes_of}
-use Rattle.header_scan.specs.Faults.{Bytes, between, Tells, AreFine, IsTwice}
-use Rattle.header_scan.proofs.Scanning.{has_unit, ranged, told_header}
-use Rattle.header_scan.proofs.Ending.{own_told}
+use Rattle.flat_machine.proofs.Newest.{reported_again, key_least}
+use Rattle.step_core.specs.Headline.{slot_bytes}
+use Rattle.header_scan.specs.Faults.{SlotUnits, between, Reports, AreFine, IsTwice}
+use Rattle.header_scan.proofs.Scanning.{has_unit, ranged, reported_header}
+use Rattle.header_scan.proofs.Ending.{own_reported}
 use Rattle.header_scan.proofs.Placing.{classed}
-use Rattle.header_scan.proofs.Twins.{has_or_not, stands_once}
+use Rattle.header_scan.proofs.Twins.{has_or_not, matches_once}
 
 -- the units of all slots
-abbrev pub all_units : PartsView → Bytes
-all_units v = between 0 (2 ^ 16) (bytes_of v)
+abbrev pub all_units : PartsView → SlotUnits
+all_units v = between 0 (2 ^ 16) (slot_bytes v)
 
 -- their headers are fine
 abbrev pub AllFine : PartsView → Type 0
-AllFine v = AreFine v.groups 0 (2 ^ 16) (bytes_of v)
+AllFine v = AreFine v.groups 0 (2 ^ 16) (slot_bytes v)
 
 -- and no block occurs twice
 abbrev pub NoneTwice : PartsView → Type 0
@@ -78,9 +78,9 @@ in_sized : (n : ℕ) (c : Cells) (o : Option Site) → ((x : Place) (u : List �
 in_sized n c None sized v e = absurd (none-some v e)
 in_sized n c (Some site) sized v e = site_sized n c site sized v e
 
-unit_sized : (v : PartsView) (slot : ℕ) (unit : List ℕ) → AreDrives drive_units v.groups v.drives → bytes_of v slot ≡ Some unit → length unit ≡ unit_bytes v.groups
+unit_sized : (v : PartsView) (slot : ℕ) (unit : List ℕ) → AreDrives drive_units v.groups v.drives → slot_bytes v slot ≡ Some unit → length unit ≡ unit_bytes v.groups
 unit_sized v slot unit drives e =
-    in_sized (unit_bytes v.groups) (cells_of v) (site_of v.groups slot) (cells_sized drive_units drive_lost (unit_bytes v.groups) v.drives drives.sized) unit e
+    in_sized (unit_bytes v.groups) (drive_cells v) (site_of v.groups slot) (cells_sized drive_units drive_lost (unit_bytes v.groups) v.drives drives.sized) unit e
 
 -- a slot that has a unit where those with a class have one has a class
 has_class : (unit : Option Stored) (class : Option Class) (u : Stored) → is_some unit ≡ is_some class → unit ≡ Some u → class ≢ None
@@ -88,64 +88,64 @@ has_class unit class u same at none = let bad : true ≡ false = sym (ap is_some
 
 module _ (v : PartsView) (groups : AreGroups v.groups) (drives : AreDrives drive_units v.groups v.drives) (units : ℕ → Option Stored) (shows : Shows v units) (there : (s : ℕ) → is_some (units s) ≡ is_some (class_at v.groups s)) (fine : AllFine v) where
   -- the header of a slot that has a unit is read
-  slot_told : (s : ℕ) (u : Stored) → units s ≡ Some u → (o : Option Record) × Tells v.groups.blocks (bytes_of v) s o
-  slot_told s u at =
+  slot_reported : (s : ℕ) (u : Stored) → units s ≡ Some u → (o : Option Record) × Reports v.groups.blocks (slot_bytes v) s o
+  slot_reported s u at =
       let is = slot_of_class v.groups s (has_class (units s) (class_at v.groups s) u (there s) at) in
       fine s is (omega arith) (slot_low v.groups s groups is)
 
   -- the bytes of a slot are those of its unit
-  is_unit : (s : ℕ) (u : Stored) (bytes : List ℕ) → units s ≡ Some u → bytes_of v s ≡ Some bytes → IsUnit bytes u
+  is_unit : (s : ℕ) (u : Stored) (bytes : List ℕ) → units s ≡ Some u → slot_bytes v s ≡ Some bytes → IsUnit bytes u
   is_unit s u bytes at e = let w = shows.shown s bytes e in subst (IsUnit bytes) (same_Some w.0 u (sym w.1 ∙ at)) w.2
 
   payload_sized : (s : ℕ) (u : Stored) → units s ≡ Some u → length u.payload ≡ v.groups.payload
   payload_sized s u at =
-      let told = (slot_told s u at).1 in
-      let long = unit_sized v s told.0 drives told.1 in
-      let short = length-drop 32 told.0 in
-      let payload : length (drop 32 told.0) ≡ length u.payload = ap length (is_unit s u told.0 at told.1).1 in
+      let reported = (slot_reported s u at).1 in
+      let long = unit_sized v s reported.0 drives reported.1 in
+      let short = length-drop 32 reported.0 in
+      let payload : length (drop 32 reported.0) ≡ length u.payload = ap length (is_unit s u reported.0 at reported.1).1 in
       omega (arith, long, short, payload)
 
   -- a record in the header of a unit is read
-  pub record_told : (s : ℕ) (u : Stored) (r : Record) → units s ≡ Some u → record_in u.header ≡ Some r → Tells v.groups.blocks (bytes_of v) s (Some r)
-  record_told s u r at header =
-      let told = slot_told s u at in
-      let spelled = (is_unit s u told.1.0 at told.1.1).0 in
-      let same : told.0 ≡ Some r = sym told.1.2.2 ∙ ap record_in (one_header (take 32 told.1.0) told.1.2.0 u.header told.1.2.1 spelled) ∙ header in
-      subst (λ o. Tells v.groups.blocks (bytes_of v) s o) same told.1
+  pub record_reported : (s : ℕ) (u : Stored) (r : Record) → units s ≡ Some u → record_in u.header ≡ Some r → Reports v.groups.blocks (slot_bytes v) s (Some r)
+  record_reported s u r at header =
+      let reported = slot_reported s u at in
+      let spelled = (is_unit s u reported.1.0 at reported.1.1).0 in
+      let same : reported.0 ≡ Some r = sym reported.1.2.2 ∙ ap record_in (one_header (take 32 reported.1.0) reported.1.2.0 u.header reported.1.2.1 spelled) ∙ header in
+      subst (λ o. Reports v.groups.blocks (slot_bytes v) s o) same reported.1
 
   module _ (M : ℕ → ℕ) (map : IsScanned (all_units v) M) where
     -- a header of the scan, and the unit that shows it
     header_there : (slot : ℕ) (r : Record) → HasHeader (all_units v) slot r → (u : Stored) × (units r.place ≡ Some u) × (record_in u.header ≡ Some r)
     header_there slot r h =
-        let told = own_told v.groups (cells_of v) 0 (2 ^ 16) slot r fine h in
-        let w = told_header v.groups.blocks (bytes_of v) slot r told in
+        let reported = own_reported v.groups (drive_cells v) 0 (2 ^ 16) slot r fine h in
+        let w = reported_header v.groups.blocks (slot_bytes v) slot r reported in
         let shown = shows.shown slot w.0 w.1 in
-        (shown.0, ap units told.3.1 ∙ shown.1, ap record_in (shown_header w.0 shown.0 w.2.0 shown.2 w.2.1) ∙ w.2.2)
+        (shown.0, ap units reported.3.1 ∙ shown.1, ap record_in (shown_header w.0 shown.0 w.2.0 shown.2 w.2.1) ∙ w.2.2)
 
     -- a key's record is in the header of its place
     key_there : (b : ℕ) → 0 < M b → (x : Content) × IsAt units (record_of b (M b)) x
     key_there b some =
         let f = map.found b some in
-        let told = own_told v.groups (cells_of v) 0 (2 ^ 16) f.0 f.1 fine f.2 in
+        let reported = own_reported v.groups (drive_cells v) 0 (2 ^ 16) f.0 f.1 fine f.2 in
         let unit = header_there f.0 f.1 f.2 in
-        let same : record_of b (M b) ≡ f.1 = ap (λ key. record_of b key) (sym f.4) ∙ ap (λ c. record_of c (key_of f.1)) (sym f.3) ∙ told_again f.1 told.4 in (
+        let same : record_of b (M b) ≡ f.1 = ap (λ key. record_of b key) (sym f.4) ∙ ap (λ c. record_of c (key_of f.1)) (sym f.3) ∙ reported_again f.1 reported.4 in (
           content_in unit.0,
           subst (λ (r : Record). IsAt units r (content_in unit.0)) (sym same) (record { stored = unit.0; there = unit.1; header = unit.2; content = refl }),
         )
 
     module _ (once : NoneTwice v) where
       -- a record of the newest stamp is the newest
-      newest_or_older : (s : ℕ) (r : Record) → Tells v.groups.blocks (bytes_of v) s (Some r) → s < 2 ^ 16 → (key_of r ≡ M r.block) ⊎ (stamp_of r < stamp_in (M r.block))
-      newest_or_older s r tells low = by (cases_order (stamp_of r) (stamp_in (M r.block)))
+      newest_or_older : (s : ℕ) (r : Record) → Reports v.groups.blocks (slot_bytes v) s (Some r) → s < 2 ^ 16 → (key_of r ≡ M r.block) ⊎ (stamp_of r < stamp_in (M r.block))
+      newest_or_older s r reports low = by (cases_order (stamp_of r) (stamp_in (M r.block)))
         where
           here : HasHeader (all_units v) s r
-          here = ranged 0 (2 ^ 16) (bytes_of v) s r (omega arith) low (told_header v.groups.blocks (bytes_of v) s r tells)
+          here = ranged 0 (2 ^ 16) (slot_bytes v) s r (omega arith) low (reported_header v.groups.blocks (slot_bytes v) s r reports)
 
           most : key_of r ≤ M r.block
           most = map.most s r here
 
           some : 0 < M r.block
-          some = let least = key_least r tells.4 in omega (arith, least, most)
+          some = let least = key_least r reports.4 in omega (arith, least, most)
 
           top : (q : Record) (slot : ℕ) → HasHeader (all_units v) slot q → q.block ≡ r.block → stamp_of q ≤ stamp_in (M r.block)
           top q slot h block = let less = map.most slot q h in let same : M q.block ≡ M r.block = ap M block in omega (arith, less, same)
@@ -155,43 +155,43 @@ module _ (v : PartsView) (groups : AreGroups v.groups) (drives : AreDrives drive
           by (inr (inr more)) = absurd (omega (arith, more, most))
           by (inl e) =
               let f = map.found r.block some in
-              let told = own_told v.groups (cells_of v) 0 (2 ^ 16) f.0 f.1 fine f.2 in
-              let small = told.4.place in
+              let reported = own_reported v.groups (drive_cells v) 0 (2 ^ 16) f.0 f.1 fine f.2 in
+              let small = reported.4.place in
               let key = f.4 in
               let stamp : stamp_of f.1 ≡ stamp_in (M r.block) = omega (arith, key, small) in
-              let slot : s ≡ f.0 = stands_once (all_units v) r.block (stamp_in (M r.block))
-              (λ t. has_or_not v.groups (cells_of v) 0 (2 ^ 16) r.block (stamp_in (M r.block)) t fine) (λ t q h block. top q t h block) (once r.block) s f.0 (r, here, refl, e) (f.1, f.2, f.3, stamp)
+              let slot : s ≡ f.0 = matches_once (all_units v) r.block (stamp_in (M r.block))
+              (λ t. has_or_not v.groups (drive_cells v) 0 (2 ^ 16) r.block (stamp_in (M r.block)) t fine) (λ t q h block. top q t h block) (once r.block) s f.0 (r, here, refl, e) (f.1, f.2, f.3, stamp)
               in
-              let one = tells.3.1 in
-              let other = told.3.1 in
+              let one = reports.3.1 in
+              let other = reported.3.1 in
               inl (omega (arith, e, stamp, slot, one, other, key))
 
       header_of : (s : ℕ) (u : Stored) (r : Record) → units s ≡ Some u → record_in u.header ≡ Some r → IsHeaderOf M s r
       header_of s u r at header =
-          let tells = record_told s u r at header in
+          let reports = record_reported s u r at header in
           let is = slot_of_class v.groups s (has_class (units s) (class_at v.groups s) u (there s) at) in
-          record { ranges = tells.4; place = tells.3.1; newest = newest_or_older s r tells (slot_low v.groups s groups is) }
+          record { ranges = reports.4; place = reports.3.1; newest = newest_or_older s r reports (slot_low v.groups s groups is) }
 
-      pub scan_tells : TellMap v.groups units M
-      scan_tells = record {
+      pub scan_reports : ReportMap v.groups units M
+      scan_reports = record {
         there = there;
         sized = payload_sized;
         header = header_of;
-        blocks = λ s u r at header. (record_told s u r at header).3.0;
+        blocks = λ s u r at header. (record_reported s u r at header).3.0;
         found = key_there;
       }
 
 module _ (v : PartsView) (groups : AreGroups v.groups) (fine : AllFine v) where
   -- of a slot that has a class, what its header holds
-  class_told : (s : ℕ) (class : Class) → class_at v.groups s ≡ Some class → (o : Option Record) × Tells v.groups.blocks (bytes_of v) s o
-  class_told s class e =
+  class_reported : (s : ℕ) (class : Class) → class_at v.groups s ≡ Some class → (o : Option Record) × Reports v.groups.blocks (slot_bytes v) s o
+  class_reported s class e =
       let is = slot_of_class v.groups s (λ none. none-some class (sym none ∙ e)) in
       fine s is (omega arith) (slot_low v.groups s groups is)
 
   -- the unit that the bytes of a slot spell, if the slot is of a group
   abbrev spelled : (s : ℕ) (o : Option Class) → class_at v.groups s ≡ o → Option Stored
   spelled s None e = None
-  spelled s (Some class) e = Some (record { header = (class_told s class e).1.2.0; payload = drop 32 (class_told s class e).1.0 })
+  spelled s (Some class) e = Some (record { header = (class_reported s class e).1.2.0; payload = drop 32 (class_reported s class e).1.0 })
 
   abbrev spelled_units : ℕ → Option Stored
   spelled_units s = spelled s (class_at v.groups s) refl
@@ -200,15 +200,15 @@ module _ (v : PartsView) (groups : AreGroups v.groups) (fine : AllFine v) where
   spelled_there s None e = refl
   spelled_there s (Some class) e = refl
 
-  spelled_shown : (s : ℕ) (o : Option Class) (e : class_at v.groups s ≡ o) (bytes : List ℕ) → bytes_of v s ≡ Some bytes → (u : Stored) × (spelled s o e ≡ Some u) × IsUnit bytes u
-  spelled_shown s None e bytes at = absurd (classed v.groups s (has_unit v.groups (cells_of v) s bytes at) e)
+  spelled_shown : (s : ℕ) (o : Option Class) (e : class_at v.groups s ≡ o) (bytes : List ℕ) → slot_bytes v s ≡ Some bytes → (u : Stored) × (spelled s o e ≡ Some u) × IsUnit bytes u
+  spelled_shown s None e bytes at = absurd (classed v.groups s (has_unit v.groups (drive_cells v) s bytes at) e)
   spelled_shown s (Some class) e bytes at =
-      let told = (class_told s class e).1 in
-      let same : told.0 ≡ bytes = same_Some told.0 bytes (sym told.1 ∙ at) in
-      (record { header = told.2.0; payload = drop 32 told.0 }, refl, (subst (λ b. Spells (take 32 b) told.2.0) same told.2.1, sym (ap (λ b. drop 32 b) same)))
+      let reported = (class_reported s class e).1 in
+      let same : reported.0 ≡ bytes = same_Some reported.0 bytes (sym reported.1 ∙ at) in
+      (record { header = reported.2.0; payload = drop 32 reported.0 }, refl, (subst (λ b. Spells (take 32 b) reported.2.0) same reported.2.1, sym (ap (λ b. drop 32 b) same)))
 
   -- the drives show units, one for each slot of a group
-  pub scan_units : AreSound v.groups (cells_of v) → (units : ℕ → Option Stored) × Shows v units × ((s : ℕ) → is_some (units s) ≡ is_some (class_at v.groups s))
+  pub scan_units : AreSound v.groups (drive_cells v) → (units : ℕ → Option Stored) × Shows v units × ((s : ℕ) → is_some (units s) ≡ is_some (class_at v.groups s))
   scan_units sound = (
     spelled_units,
     record { sound = sound; shown = λ s bytes at. spelled_shown s (class_at v.groups s) refl bytes at },

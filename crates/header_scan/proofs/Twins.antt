@@ -8,9 +8,9 @@ use Rattle.extent_groups.specs.Groups.{Groups}
 use Rattle.extent_groups.specs.Cells.{Cells}
 use Rattle.extent_groups.specs.Stores.{unit_of}
 use Rattle.flat_machine.specs.Scanned.{HasHeader}
-use Rattle.header_scan.specs.Faults.{Bytes, between, Tells, AreFine, IsTwice}
+use Rattle.header_scan.specs.Faults.{SlotUnits, between, Reports, AreFine, IsTwice}
 use Rattle.header_scan.specs.Found.{HasStamp}
-use Rattle.header_scan.proofs.Scanning.{has_unit, in_between, within, ranged, told_record, told_header}
+use Rattle.header_scan.proofs.Scanning.{has_unit, in_between, within, ranged, reported_record, reported_header}
 
 -- the lowest number that has a property
 pub record IsFirst (P : ℕ → Type 0) (m : ℕ) : Type 0 where
@@ -41,7 +41,7 @@ first_of P test n has = by (first_below P test (suc n))
     by (inl f) = f
     by (inr none) = absurd (none n (omega arith) has)
 
-module _ (bytes : Bytes) (b st : ℕ) (test : (slot : ℕ) → HasStamp bytes b slot st ⊎ (HasStamp bytes b slot st → ⊥)) (most : (slot : ℕ) (r : Record) → HasHeader bytes slot r → r.block ≡ b → stamp_of r ≤ st) where
+module _ (bytes : SlotUnits) (b st : ℕ) (test : (slot : ℕ) → HasStamp bytes b slot st ⊎ (HasStamp bytes b slot st → ⊥)) (most : (slot : ℕ) (r : Record) → HasHeader bytes slot r → r.block ≡ b → stamp_of r ≤ st) where
   abbrev Has : ℕ → Type 0
   Has slot = HasStamp bytes b slot st
 
@@ -85,20 +85,20 @@ module _ (bytes : Bytes) (b st : ℕ) (test : (slot : ℕ) → HasStamp bytes b 
             ];
       }
 
-  stands_twice : (p q : ℕ) → p < q → Has p → Has q → (x : ℕ) × (y : ℕ) × IsTwice bytes b x y
-  stands_twice p q order one other =
+  matches_twice : (p q : ℕ) → p < q → Has p → Has q → (x : ℕ) × (y : ℕ) × IsTwice bytes b x y
+  matches_twice p q order one other =
       let first = first_of Has test p one in
       let low = first.1 in
       let second = first_of (HasLater first.0) (later first.0) q ((omega (arith, low, order)), other) in
       (first.0, second.0, two_lowest first.0 second.0 second.2.has.0 first.2 second.2)
 
   -- so where no block occurs twice the greatest stamp occurs once
-  pub stands_once : ((p q : ℕ) → IsTwice bytes b p q → ⊥) → (p q : ℕ) → Has p → Has q → p ≡ q
-  stands_once never p q one other = elim (cases_order p q) [
+  pub matches_once : ((p q : ℕ) → IsTwice bytes b p q → ⊥) → (p q : ℕ) → Has p → Has q → p ≡ q
+  matches_once never p q one other = elim (cases_order p q) [
     | inl e ↦ e
     | inr o ↦ elim o [
-      | inl less ↦ absurd (let is = stands_twice p q less one other in never is.0 is.1 is.2)
-      | inr more ↦ absurd (let is = stands_twice q p more other one in never is.0 is.1 is.2)
+      | inl less ↦ absurd (let is = matches_twice p q less one other in never is.0 is.1 is.2)
+      | inr more ↦ absurd (let is = matches_twice q p more other one in never is.0 is.1 is.2)
     ]
   ]
 
@@ -110,15 +110,15 @@ has_or_not groups c low high b st slot fine = by (between low high (unit_of grou
     Has : Type 0
     Has = HasStamp (between low high (unit_of groups c)) b slot st
 
-    told : (o : Option Record) → low ≤ slot → slot < high → Tells groups.blocks (unit_of groups c) slot o → Has ⊎ (Has → ⊥)
-    told None l h tells = inr (λ has. let both : None ≡ Some has.0 = told_record groups.blocks (unit_of groups c) slot None has.0 tells (within low high (unit_of groups c) slot has.0 has.1).2 in cc)
-    told (Some r) l h tells = test (cases_eq r.block b) (cases_eq (stamp_of r) st)
+    reported : (o : Option Record) → low ≤ slot → slot < high → Reports groups.blocks (unit_of groups c) slot o → Has ⊎ (Has → ⊥)
+    reported None l h reports = inr (λ has. let both : None ≡ Some has.0 = reported_record groups.blocks (unit_of groups c) slot None has.0 reports (within low high (unit_of groups c) slot has.0 has.1).2 in cc)
+    reported (Some r) l h reports = test (cases_eq r.block b) (cases_eq (stamp_of r) st)
       where
         only : (has : Has) → r ≡ has.0
-        only has = let both : Some r ≡ Some has.0 = told_record groups.blocks (unit_of groups c) slot (Some r) has.0 tells (within low high (unit_of groups c) slot has.0 has.1).2 in cc
+        only has = let both : Some r ≡ Some has.0 = reported_record groups.blocks (unit_of groups c) slot (Some r) has.0 reports (within low high (unit_of groups c) slot has.0 has.1).2 in cc
 
         test : (r.block ≡ b) ⊎ (r.block ≡ b → ⊥) → (stamp_of r ≡ st) ⊎ (stamp_of r ≡ st → ⊥) → Has ⊎ (Has → ⊥)
-        test (inl block) (inl stamp) = inl (r, ranged low high (unit_of groups c) slot r l h (told_header groups.blocks (unit_of groups c) slot r tells), block, stamp)
+        test (inl block) (inl stamp) = inl (r, ranged low high (unit_of groups c) slot r l h (reported_header groups.blocks (unit_of groups c) slot r reports), block, stamp)
         test (inr ne) stamp = inr (λ has. ne (ap (λ (q : Record). q.block) (only has) ∙ has.2))
         test (inl block) (inr ne) = inr (λ has. ne (ap (λ (q : Record). stamp_of q) (only has) ∙ has.3))
 
@@ -127,4 +127,4 @@ has_or_not groups c low high b st slot fine = by (between low high (unit_of grou
     by (Some u) e =
         let is = in_between low high (unit_of groups c) slot u e in
         let o = fine slot (has_unit groups c slot u is.2) is.0 is.1 in
-        told o.0 is.0 is.1 o.1
+        reported o.0 is.0 is.1 o.1

@@ -3,11 +3,11 @@ use Rattle.std.specs.Prelude.{◌≡◌, ◌⊎◌, ℕ, ◌==◌, if◌then◌e
 use Rattle.map_join.specs.declared.records.Record.{Record}
 use Rattle.map_join.specs.Record.{stamp_of, stamp_in, record_of, record_at}
 use Rattle.flat_machine.specs.Scanned.{HasHeader}
-use Rattle.flat_machine.specs.Restarted.{HasPlaces}
+use Rattle.flat_machine.specs.Restarted.{HasDistinctSlots}
 use Rattle.extent_groups.specs.Groups.{Groups}
 use Rattle.extent_groups.specs.Cells.{Cells}
 use Rattle.extent_groups.specs.Stores.{unit_of, AreSound, KeepsUnits}
-use Rattle.header_scan.specs.Faults.{Bytes, between, AreFine}
+use Rattle.header_scan.specs.Faults.{SlotUnits, between, AreFine}
 
 -- the key of a block, by a table of the blocks' keys
 abbrev pub key_in : List ℕ → ℕ → ℕ
@@ -27,7 +27,7 @@ abbrev pub stamp_at : (ℕ → ℕ) → ℕ → ℕ
 stamp_at M block = stamp_in_option (record_at block (M block))
 
 -- the slot's header is a record of the block with this stamp
-abbrev pub HasStamp : Bytes → ℕ → ℕ → ℕ → Type 0
+abbrev pub HasStamp : SlotUnits → ℕ → ℕ → ℕ → Type 0
 HasStamp bytes block slot stamp = (r : Record) × HasHeader bytes slot r × (r.block ≡ block) × (stamp_of r ≡ stamp)
 
 -- of the stamps of one block, each at its slot: `newest` is the key of the greatest at its lowest slot, and `twin` that of a
@@ -82,5 +82,5 @@ pub record WasOnlyRead {S : Type 0} (groups_of : S → Groups) (cells_of : S →
 
 -- the records of a map have their places, all below a slot
 pub record ArePlaced (groups : Groups) (bound : ℕ) (keys : ℕ → ℕ) : Type 0 where
-  pub places : HasPlaces groups keys
+  pub places : HasDistinctSlots groups keys
   pub below : (b : ℕ) → 0 < keys b → (record_of b (keys b)).place < bound

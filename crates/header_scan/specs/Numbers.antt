@@ -6,7 +6,7 @@ use Rattle.header_scan.specs.declared.fault.ScanFault.TheVariants.{Memory, BadHe
 abbrev pub number_of : ScanFault → ℕ
 number_of Memory = 1
 number_of (BadHeader slot) = 2
-number_of (WrongSlot slot told) = 3
+number_of (WrongSlot slot reported) = 3
 number_of (Twice block first second) = 4
 number_of (Gone slot) = 5
 number_of (NoClaim slot) = 6

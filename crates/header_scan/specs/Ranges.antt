@@ -7,7 +7,7 @@ use Rattle.extent_groups.specs.Cells.{Cells}
 use Rattle.extent_groups.specs.Stores.{unit_of, KeepsUnits}
 use Rattle.flat_machine.specs.Scanned.{HasHeader, IsScanned}
 use Rattle.header_scan.specs.declared.fault.ScanFault.{ScanFault}
-use Rattle.header_scan.specs.Faults.{Bytes, between, AreFine, IsFirstFault, IsTwice}
+use Rattle.header_scan.specs.Faults.{SlotUnits, between, AreFine, IsFirstFault, IsTwice}
 
 -- two parts make up the whole: each header of the whole is one of theirs, and each of theirs one of the whole
 abbrev pub MakeUp : (whole one other : ℕ → Option (List ℕ)) → Type 0
@@ -20,7 +20,7 @@ pub record IsMapOfRange (groups : Groups) (c : Cells) (low high : ℕ) (M : ℕ 
   pub fine : AreFine groups low high (unit_of groups c)
 
 -- no block's greatest stamp is at two of these slots: clause `once` of a scan of the range that returned a map
-abbrev pub HasNoTwice : Bytes → Type 0
+abbrev pub HasNoTwice : SlotUnits → Type 0
 HasNoTwice bytes = (b p q : ℕ) → IsTwice bytes b p q → ⊥
 
 -- no block has one stamp in both maps

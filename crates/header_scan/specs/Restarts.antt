@@ -2,11 +2,11 @@
 use Rattle.std.specs.Prelude.{◌≡◌, ◌⊎◌, ℕ, ◌^◌, is_some, option_map, Bool, Some, List}
 use Rattle.extents.specs.Failures.{Failures}
 use Rattle.extent_groups.specs.Stores.{unit_of, AreSound}
-use Rattle.array_parts.specs.declared.parts.Parts.{Parts}
-use Rattle.array_parts.specs.Losses.{LosesOnly}
-use Rattle.array_parts.specs.Slots.{cells_in, missing_in}
-use Rattle.array_parts.specs.Notes.{IsFineNote, IsBadNote, WasFinished}
-use Rattle.array_parts.specs.Views.{view_of}
+use Rattle.unit_store.specs.declared.parts.Parts.{Parts}
+use Rattle.unit_store.specs.Losses.{LosesOnly}
+use Rattle.unit_store.specs.Slots.{cells_in, missing_in}
+use Rattle.unit_store.specs.Notes.{IsFineNote, IsBadNote, WasFinished}
+use Rattle.unit_store.specs.Views.{view_of}
 use Rattle.flat_machine.specs.Cases.{Leaves}
 use Rattle.flat_machine.specs.Flat.{Flat}
 use Rattle.flat_machine.specs.Groups.{class_at}
@@ -15,7 +15,7 @@ use Rattle.flat_machine.specs.Scanned.{IsScanned}
 use Rattle.slot_tables.specs.Adopted.{HasParts, IsAdopted}
 use Rattle.slot_tables.specs.Represents.{ShowsArray}
 use Rattle.slot_tables.specs.Views.{ArrayView}
-use Rattle.step_core.specs.Claims.{IsUnclaimed, IsIdle}
+use Rattle.step_core.specs.Claims.{IsUnclaimed, IsWorkerFree}
 use Rattle.step_core.specs.NotAdopted.{NotAdopted}
 use Rattle.step_core.specs.NotAdopted.TheVariants as adopted
 use Rattle.header_scan.specs.Faults.{between, AreFine, IsFirstFault, IsTwice}
@@ -31,7 +31,7 @@ abbrev pub AreAllSound : {D : Type 0} → (D → List (List ℕ)) → (D → Boo
 AreAllSound units lost parts = AreSound parts.groups (cells_in units lost parts)
 
 -- the parts' headers hold this map, without a fault
-pub record TellAll {D : Type 0} (units : D → List (List ℕ)) (lost : D → Bool) (parts : Parts D) (keys : ℕ → ℕ) : Type 0 where
+pub record ReportAll {D : Type 0} (units : D → List (List ℕ)) (lost : D → Bool) (parts : Parts D) (keys : ℕ → ℕ) : Type 0 where
   pub scanned : IsScanned (between 0 (2 ^ 16) (unit_of parts.groups (cells_in units lost parts))) keys
   pub fine : AreFine parts.groups 0 (2 ^ 16) (unit_of parts.groups (cells_in units lost parts))
   pub once : (b p q : ℕ) → IsTwice (between 0 (2 ^ 16) (unit_of parts.groups (cells_in units lost parts))) b p q → ⊥
@@ -43,22 +43,22 @@ pub record WasMade {D : Type 0} (units : D → List (List ℕ)) (lost : D → Bo
   pub keys : ℕ → ℕ
   pub loses : LosesOnly units lost failures parts left
   pub adopted : IsAdopted (view_of units lost failures left) keys a
-  pub told : AreAllSound units lost parts → TellAll units lost parts keys
+  pub reported : AreAllSound units lost parts → ReportAll units lost parts keys
   pub flat : (F : Flat) → HasParts (view_of units lost failures parts) F → HasUnits F
       → (G : Flat) × (H : Flat) × Leaves F G × IsRestarted G keys H × ShowsArray a H
 
 -- there is a state whose groups, drives and units the parts are, and the array represents one in which nobody works
-pub record StandsForOne {D : Type 0} (units : D → List (List ℕ)) (lost : D → Bool) (failures : D → Failures) (parts : Parts D) (a : ArrayView) : Type 0 where
+pub record RepresentsOne {D : Type 0} (units : D → List (List ℕ)) (lost : D → Bool) (failures : D → Failures) (parts : Parts D) (a : ArrayView) : Type 0 where
   pub before : Flat
   pub has : HasParts (view_of units lost failures parts) before
   pub there : HasUnits before
   pub after : Flat
   pub shows : ShowsArray a after
-  pub idle : IsIdle after
+  pub idle : IsWorkerFree after
 
 -- why none was: the fault of the scan; else the lowest newest place of which there is no claim
 abbrev pub IsRestartFault : {D C : Type 0} → (D → List (List ℕ)) → (D → Bool) → Parts D → Parts D → (C → ℕ) → List C → ScanFault → Type 0
-IsRestartFault units lost parts left names claims (NoClaim slot) = (keys : ℕ → ℕ) × TellAll units lost parts keys × IsUnclaimed names claims keys slot
+IsRestartFault units lost parts left names claims (NoClaim slot) = (keys : ℕ → ℕ) × ReportAll units lost parts keys × IsUnclaimed names claims keys slot
 IsRestartFault units lost parts left names claims fault =
     IsFirstFault parts.groups 0 (2 ^ 16) (unit_of parts.groups (cells_in units lost parts)) (unit_of parts.groups (cells_in units lost left)) fault
 

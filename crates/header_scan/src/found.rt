@@ -34,30 +34,30 @@ fn stamp_in(found: Option<Record>) -> u64
 
 impl Found {
     /// Notes the record of the next slot.
-    pub(crate) fn note(&mut self, alloc: Global, told: Record) -> Result<(), MapRefusal>
-        requires written { 0 < told.version }
-        requires within { told.block < length self.old.newest }
+    pub(crate) fn note(&mut self, alloc: Global, reported: Record) -> Result<(), MapRefusal>
+        requires written { 0 < reported.version }
+        requires within { reported.block < length self.old.newest }
         ensures many { length self.new.newest ≡ length self.old.newest }
-        ensures newer { stamp_at (key_in self.old.newest) told.block < stamp_of told
-            → IsOk result × IsSame (key_in self.new.newest) (join (key_in self.old.newest) (only told)) × (self.new.twins ≡ self.old.twins) }
-        ensures twin { stamp_at (key_in self.old.newest) told.block ≡ stamp_of told → stamp_at (at self.old.twins) told.block < stamp_of told
-            → OnOk result ((self.new.newest ≡ self.old.newest) × IsSame (at self.new.twins) (join (at self.old.twins) (only told))) }
-        ensures older { stamp_of told < stamp_at (key_in self.old.newest) told.block → IsOk result × (self.new.newest ≡ self.old.newest)
+        ensures newer { stamp_at (key_in self.old.newest) reported.block < stamp_of reported
+            → IsOk result × IsSame (key_in self.new.newest) (join (key_in self.old.newest) (only reported)) × (self.new.twins ≡ self.old.twins) }
+        ensures twin { stamp_at (key_in self.old.newest) reported.block ≡ stamp_of reported → stamp_at (at self.old.twins) reported.block < stamp_of reported
+            → OnOk result ((self.new.newest ≡ self.old.newest) × IsSame (at self.new.twins) (join (at self.old.twins) (only reported))) }
+        ensures older { stamp_of reported < stamp_at (key_in self.old.newest) reported.block → IsOk result × (self.new.newest ≡ self.old.newest)
             × (self.new.twins ≡ self.old.twins) }
-        ensures third { stamp_at (key_in self.old.newest) told.block ≡ stamp_of told → stamp_of told ≤ stamp_at (at self.old.twins) told.block
+        ensures third { stamp_at (key_in self.old.newest) reported.block ≡ stamp_of reported → stamp_of reported ≤ stamp_at (at self.old.twins) reported.block
             → IsOk result × (self.new.newest ≡ self.old.newest) × (self.new.twins ≡ self.old.twins) }
     {
-        let stamp = stamp_of(&told);
-        let newest = stamp_in(self.newest.get(told.block));
+        let stamp = stamp_of(&reported);
+        let newest = stamp_in(self.newest.get(reported.block));
         if stamp > newest {
-            self.newest.raise(told);
+            self.newest.raise(reported);
             return Ok(());
         }
         if stamp < newest {
             return Ok(());
         }
-        if stamp > stamp_in(self.twins.get(told.block)) {
-            return self.twins.take(alloc, told);
+        if stamp > stamp_in(self.twins.get(reported.block)) {
+            return self.twins.take(alloc, reported);
         }
         Ok(())
     }

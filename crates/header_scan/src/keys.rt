@@ -2,7 +2,7 @@
 ghost use Rattle.std.specs.Prelude.{◌≡◌, ◌^◌, ◌<◌, ◌≤◌, length, IfOk};
 ghost use Rattle.map_join.specs.Maps.{at, IsSame, join, only};
 ghost use Rattle.map_join.specs.Record.{key_of, record_at};
-ghost use Rattle.map_join.specs.Tables.{IsTable};
+ghost use Rattle.map_join.specs.Tables.{IsKeyTable};
 ghost use Rattle.header_scan.specs.Found.{key_in};
 
 use map_join::{BlockMap, MapRefusal, Record};
@@ -17,13 +17,13 @@ pub(crate) struct Keys {
 
 impl Model for Keys {
     ghost use Rattle.std.specs.Prelude.{List, ℕ};
-    ghost use Rattle.map_join.specs.Tables.{IsTable};
+    ghost use Rattle.map_join.specs.Tables.{IsKeyTable};
 
     ghost Value = { List ℕ };
 
     ghost view = { λ k. k.keys.items };
 
-    ghost invariant = { λ k. IsTable k.keys.items };
+    ghost invariant = { λ k. IsKeyTable k.keys.items };
 }
 
 impl Keys {
@@ -40,20 +40,20 @@ impl Keys {
     /// The record that a block's key encodes.
     pub(crate) fn get(&self, block: u32) -> Option<Record>
         requires { block < length self.now }
-        ensures told { result ≡ record_at block (key_in self.now block) }
+        ensures reported { result ≡ record_at block (key_in self.now block) }
     {
         Record::of_key(block, self.keys[block as usize])
     }
 
     /// Raises a block's key to that of a record.
-    pub(crate) fn raise(&mut self, told: Record)
-        requires within { «told».block < length self.old }
-        requires newer { key_in self.old «told».block ≤ key_of «told» }
-        requires written { 0 < «told».version }
-        ensures ok { IsSame (key_in self.new) (join (key_in self.old) (only «told»)) }
+    pub(crate) fn raise(&mut self, reported: Record)
+        requires within { «reported».block < length self.old }
+        requires newer { key_in self.old «reported».block ≤ key_of «reported» }
+        requires written { 0 < «reported».version }
+        ensures ok { IsSame (key_in self.new) (join (key_in self.old) (only «reported»)) }
         ensures many { length self.new ≡ length self.old }
     {
-        self.keys[told.block as usize] = told.key();
+        self.keys[reported.block as usize] = reported.key();
     }
 
     /// The map of these keys.

@@ -4,14 +4,14 @@ ghost use Rattle.extents.specs.declared.shape.TheConstants.{HEADER_BYTES};
 ghost use Rattle.extents.specs.declared.header.Header.{Header};
 ghost use Rattle.extents.specs.Header.{Spells, record_in};
 ghost use Rattle.extent_groups.specs.Cells.{front};
-ghost use Rattle.header_scan.specs.Faults.{Bytes, IsFine, IsRanged, Tells, IsFaultAt, IsMisfit};
+ghost use Rattle.header_scan.specs.Faults.{SlotUnits, IsFine, IsRanged, Reports, IsFaultAt, IsSlotFault};
 
 use crate::ScanFault;
 use extents::{HEADER_BYTES, Header, HeaderFault};
 use map_join::Record;
 
 /// The record in a header, none where that is blank.
-fn told_by(header: &[u8; HEADER_BYTES]) -> Result<Option<Record>, HeaderFault>
+fn reported_by(header: &[u8; HEADER_BYTES]) -> Result<Option<Record>, HeaderFault>
     ensures ok { IfOk result (λ o. (h : Header) × Spells header.now h × (record_in h ≡ o)) }
     ensures only { (h : Header) → Spells header.now h → result ≡ Ok (record_in h) }
     ensures ranges { IfOk result IsRanged }
@@ -21,17 +21,17 @@ fn told_by(header: &[u8; HEADER_BYTES]) -> Result<Option<Record>, HeaderFault>
 
 /// What a header holds at a slot, refused where that isn't one of the array's blocks in this very slot.
 fn judge(
-    told: Result<Option<Record>, HeaderFault>,
+    reported: Result<Option<Record>, HeaderFault>,
     slot: u16,
     blocks: u32,
 ) -> Result<Option<Record>, ScanFault>
-    ensures ok { IfOk result (λ o. (told ≡ Ok o) × IsFine blocks slot o) }
-    ensures err { IfErr result (IsMisfit told blocks slot) }
+    ensures ok { IfOk result (λ o. (reported ≡ Ok o) × IsFine blocks slot o) }
+    ensures err { IfErr result (IsSlotFault reported blocks slot) }
 {
-    let Ok(told) = told else {
+    let Ok(reported) = reported else {
         return Err(ScanFault::BadHeader(slot));
     };
-    let Some(record) = told else {
+    let Some(record) = reported else {
         return Ok(None);
     };
     if record.block >= blocks {
@@ -50,10 +50,10 @@ pub(crate) fn look(
     slot: u16,
     blocks: u32,
 ) -> Result<Option<Record>, ScanFault>
-    ensures ok { (bytes : Bytes) → front HEADER_BYTES (bytes slot) ≡ Some header.now → IfOk result (Tells blocks bytes slot) }
-    ensures err { (bytes left : Bytes) → front HEADER_BYTES (bytes slot) ≡ Some header.now → IfErr result (IsFaultAt blocks bytes left slot) }
+    ensures ok { (bytes : SlotUnits) → front HEADER_BYTES (bytes slot) ≡ Some header.now → IfOk result (Reports blocks bytes slot) }
+    ensures err { (bytes left : SlotUnits) → front HEADER_BYTES (bytes slot) ≡ Some header.now → IfErr result (IsFaultAt blocks bytes left slot) }
     ensures inside { IfOk result (IsFine blocks slot) }
     ensures ranges { IfOk result IsRanged }
 {
-    judge(told_by(header), slot, blocks)
+    judge(reported_by(header), slot, blocks)
 }

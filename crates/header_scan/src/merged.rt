@@ -8,10 +8,10 @@ ghost use Rattle.header_scan.specs.Found.{Keeps};
 ghost use Rattle.header_scan.specs.Ranges.{IsFaultOfRanges};
 
 use crate::{ScanFault, parts_laws, scan_groups};
-use array_parts::Units;
 use extent_groups::GROUPS;
 use map_join::BlockMap;
 use std::alloc::Global;
+use unit_store::Units;
 
 /// The map of the headers of all groups, merged from a pass over the groups below `middle`, 0 to 512, and one over the others.
 /// It is the map that `scan` returns. A stamp of a block in both ranges is no fault.

@@ -5,7 +5,7 @@ ghost use Rattle.extent_groups.specs.Cells.{Cells};
 ghost use Rattle.extent_groups.specs.Groups.{group_at, slots_in};
 ghost use Rattle.extent_groups.specs.Stores.{unit_of, AreSound};
 ghost use Rattle.flat_machine.specs.Scanned.{IsScanned};
-ghost use Rattle.flat_machine.specs.Restarted.{HasPlaces};
+ghost use Rattle.flat_machine.specs.Restarted.{HasDistinctSlots};
 ghost use Rattle.header_scan.specs.Faults.{AreFine, IsFirstFault, IsTwice, between};
 ghost use Rattle.header_scan.specs.Found.{key_in, IsUnderway, ArePlaced, Keeps, WasOnlyRead};
 
@@ -13,11 +13,11 @@ use crate::ScanFault;
 use crate::found::Found;
 use crate::keys::Keys;
 use crate::look::look;
-use array_parts::Units;
 use extent_groups::{GROUPS, GroupTable, SLOTS};
 use extents::HEADER_BYTES;
 use map_join::BlockMap;
 use std::alloc::Global;
+use unit_store::Units;
 
 /// How many slots a group has. The contract of `members` implies that there are fewer than 128.
 fn count_slots(groups: &GroupTable, group: u16) -> u16
@@ -62,12 +62,12 @@ pub(crate) fn scan_group<U: Units>(
     let headers = &mut headers[..count as usize];
     let read = units.headers(group, headers, scratch);
     for index in 0..read {
-        let told = match look(&headers[index as usize], SLOTS * group + index, blocks) {
-            Ok(told) => told,
+        let reported = match look(&headers[index as usize], SLOTS * group + index, blocks) {
+            Ok(reported) => reported,
             Err(fault) => return Err(fault),
         };
-        if let Some(told) = told {
-            found.note(alloc, told)?;
+        if let Some(reported) = reported {
+            found.note(alloc, reported)?;
         }
     }
     if read < count {
@@ -140,7 +140,7 @@ pub fn scan_groups<U: Units>(
     ensures fault { AreSound (U.groups units.old) (U.cells units.old)
         → IfErr result (IsFirstFault (U.groups units.old) (128 * first) (128 * end) (unit_of (U.groups units.old) (U.cells units.old))
         (unit_of (U.groups units.old) (U.cells units.new))) }
-    ensures inside { IfOk result (λ m. HasPlaces (U.groups units.old) (at m)) }
+    ensures inside { IfOk result (λ m. HasDistinctSlots (U.groups units.old) (at m)) }
     ensures keeps { Keeps (U.groups units.old) (U.cells units.old) (U.cells units.new) }
     ensures groups { U.groups units.new ≡ U.groups units.old }
     ensures fits { U.fits units.new }
@@ -167,7 +167,7 @@ pub fn scan<U: Units>(alloc: Global, units: &mut U) -> Result<BlockMap, ScanFaul
     ensures fault { AreSound (U.groups units.old) (U.cells units.old)
         → IfErr result (IsFirstFault (U.groups units.old) 0 (2 ^ 16) (unit_of (U.groups units.old) (U.cells units.old))
         (unit_of (U.groups units.old) (U.cells units.new))) }
-    ensures inside { IfOk result (λ m. HasPlaces (U.groups units.old) (at m)) }
+    ensures inside { IfOk result (λ m. HasDistinctSlots (U.groups units.old) (at m)) }
     ensures keeps { Keeps (U.groups units.old) (U.cells units.old) (U.cells units.new) }
     ensures groups { U.groups units.new ≡ U.groups units.old }
     ensures fits { U.fits units.new }

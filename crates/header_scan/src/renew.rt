@@ -1,16 +1,16 @@
 // An array rebuilt from its parts.
 ghost use Rattle.std.specs.Prelude.{◌≡◌, None, IfOk, IfErr};
-ghost use Rattle.array_parts.specs.Fit.{IsFit};
-ghost use Rattle.array_parts.specs.Losses.{LosesOnly};
+ghost use Rattle.unit_store.specs.Fit.{IsFit};
+ghost use Rattle.unit_store.specs.Losses.{LosesOnly};
 ghost use Rattle.step_core.specs.Claims.{AreShared};
 ghost use Rattle.header_scan.specs.Stops.{IsLeftAgain, IsResumed, IsWhyLeft};
-ghost use Rattle.header_scan.specs.Restarts.{AreAllSound, IsRestartFault, IsResumeFault, FromFinished, StandsForOne, WasMade, fault_of};
+ghost use Rattle.header_scan.specs.Restarts.{AreAllSound, IsRestartFault, IsResumeFault, FromFinished, RepresentsOne, WasMade, fault_of};
 
 use crate::{ScanFault, scan};
-use array_parts::Parts;
 use extents::Drive;
 use std::alloc::Global;
 use step_core::{Array, Hold, NotAdopted};
+use unit_store::Parts;
 
 /// Rebuilds an array from its parts, by the map that their headers hold. Each block's newest place is held, by the claim of it
 /// among those given; the other claims are returned. The map's list is the log, and nothing is pending.
@@ -31,14 +31,14 @@ pub fn restart<D: Drive, C: Hold>(
 
     // Without a note.
     ensures ok { parts.note ≡ None → IfOk result (λ r. WasMade D.units D.lost D.failures parts r.0) }
-    ensures stands { parts.note ≡ None → AreAllSound D.units D.lost parts → IfOk result (λ r. StandsForOne D.units D.lost D.failures parts r.0) }
+    ensures matches { parts.note ≡ None → AreAllSound D.units D.lost parts → IfOk result (λ r. RepresentsOne D.units D.lost D.failures parts r.0) }
     ensures fault { parts.note ≡ None → AreAllSound D.units D.lost parts
         → IfErr result (λ e. IsRestartFault D.units D.lost parts e.1 C.names claims.items e.0) }
     ensures back { parts.note ≡ None → IfErr result (λ e. LosesOnly D.units D.lost D.failures parts e.1) }
 
     // With a note or without.
     ensures finished { IfOk result (λ r. FromFinished D.units D.lost D.failures parts (λ mid. WasMade D.units D.lost D.failures mid r.0
-        × (AreAllSound D.units D.lost mid → StandsForOne D.units D.lost D.failures mid r.0))) }
+        × (AreAllSound D.units D.lost mid → RepresentsOne D.units D.lost D.failures mid r.0))) }
     ensures stopped { IfOk result (λ r. IsResumed D.units D.lost D.failures parts r.0) }
     ensures again { IfErr result (λ e. IsLeftAgain D.units D.lost parts e.1) }
     ensures fails { IfErr result (λ e. IsWhyLeft D.units D.lost D.failures parts e.1 C.names claims.items e.0) }
@@ -65,7 +65,7 @@ fn renew<D: Drive, C: Hold>(
     requires note { parts.note ≡ None }
     ensures ok { IfOk result (λ r. WasMade D.units D.lost D.failures parts r.0) }
     ensures claims { IfOk result (λ r. AreShared C.names claims.items r.0 r.1.items) }
-    ensures stands { AreAllSound D.units D.lost parts → IfOk result (λ r. StandsForOne D.units D.lost D.failures parts r.0) }
+    ensures matches { AreAllSound D.units D.lost parts → IfOk result (λ r. RepresentsOne D.units D.lost D.failures parts r.0) }
     ensures fault { AreAllSound D.units D.lost parts → IfErr result (λ e. IsRestartFault D.units D.lost parts e.1 C.names claims.items e.0) }
     ensures fit { IfErr result (λ e. IsFit D.units e.1) }
     ensures back { IfErr result (λ e. LosesOnly D.units D.lost D.failures parts e.1 × (e.2 ≡ claims)) }
@@ -77,12 +77,12 @@ fn renew<D: Drive, C: Hold>(
     };
     match Array::adopt_among(alloc, parts, map, claims) {
         Ok(made) => Ok(made),
-        Err((why, parts, _map, claims)) => Err((told(why), parts, claims)),
+        Err((why, parts, _map, claims)) => Err((reported(why), parts, claims)),
     }
 }
 
 // The fault that says why no array was put together.
-fn told(why: NotAdopted) -> ScanFault
+fn reported(why: NotAdopted) -> ScanFault
     ensures { result ≡ fault_of why }
 {
     match why {

@@ -2,11 +2,11 @@
 ghost use Rattle.std.specs.Prelude.{IfOk, IfErr};
 ghost use Rattle.map_join.specs.Maps.{at};
 ghost use Rattle.flat_machine.specs.Flat.{Flat};
-ghost use Rattle.flat_machine.specs.Restarted.{HasPlaces};
-ghost use Rattle.flat_machine.specs.Scans.{Told, ScanCase};
+ghost use Rattle.flat_machine.specs.Restarted.{HasDistinctSlots};
+ghost use Rattle.flat_machine.specs.Scans.{Reported, ScanCase};
 ghost use Rattle.slot_tables.specs.Represents.{Represents};
 ghost use Rattle.step_core.specs.Refused.{OnlyLosesOf};
-ghost use Rattle.header_scan.specs.Worlds.{IsToldOf};
+ghost use Rattle.header_scan.specs.Worlds.{IsReportedOf};
 
 use crate::{ScanFault, scan};
 use map_join::BlockMap;
@@ -18,13 +18,13 @@ use step_core::{Drive, World};
 /// before. No other fault is reported of such a world. Drives may be found lost, and all else stays.
 pub fn scan_world<D: Drive>(alloc: Global, world: &mut World<D>) -> Result<BlockMap, ScanFault>
     ensures ok { IfOk result (λ m. (F : Flat) → Represents world.old F
-        → (G : Flat) × ScanCase F (Told (at m)) G × Represents world.new G) }
-    ensures inside { IfOk result (λ m. HasPlaces world.new.array.parts.groups (at m)) }
-    ensures fault { IfErr result (IsToldOf world.old world.new) }
+        → (G : Flat) × ScanCase F (Reported (at m)) G × Represents world.new G) }
+    ensures inside { IfOk result (λ m. HasDistinctSlots world.new.array.parts.groups (at m)) }
+    ensures fault { IfErr result (IsReportedOf world.old world.new) }
     ensures loses { OnlyLosesOf world.old world.new }
 {
     world.whole();
-    let told = scan(alloc, world);
+    let reported = scan(alloc, world);
     world.whole();
-    told
+    reported
 }

@@ -10,9 +10,9 @@ use Rattle.std.specs.Simd.Lanes.{Each1, chunk, put_chunk}
 use borrow.Rule.Slice.PartMut.{put_mid}
 use Rattle.hex.specs.Hex.{decode_sized}
 use Rattle.hex.specs.declared.error.FromHexError.{FromHexError}
-use Rattle.hex_lanes.specs.Halves.{value_or_more, joined}
+use Rattle.hex_lanes.specs.Halves.{value_or_more, joined_halves}
 use Rattle.hex_lanes.proofs.Lanes.{IsHalf, take_chunk, two_chunks}
-use Rattle.hex_lanes.proofs.Spelled.{IsDigit, spelled, spelled-append, length-spelled, Each1-append, Each1-behind, digits_of, decoded, digits_from_values}
+use Rattle.hex_lanes.proofs.Spelled.{IsDigit, spelled, spelled-append, length-spelled, Each1-append, Each1-following, digits_of, decoded, digits_from_values}
 
 -- the first k bytes are decoded
 pub record IsDone (k : ℕ) (digits out : List ℕ) : Type 0 where
@@ -24,13 +24,13 @@ none_done digits out = record { are = tt; spelled_is = refl }
 
 -- n bytes more
 more_done : (k n : ℕ) (digits out values bytes : List ℕ) → k + n ≤ length out → length digits ≡ 2 * length out
-    → values ≡ map value_or_more (chunk (2 * k) (2 * n) digits) → Each1 IsHalf values → bytes ≡ joined values
+    → values ≡ map value_or_more (chunk (2 * k) (2 * n) digits) → Each1 IsHalf values → bytes ≡ joined_halves values
     → IsDone k digits out → IsDone (k + n) digits (put_chunk k out bytes)
 more_done k n digits out values bytes fits twice is halves joins done =
     let more : List ℕ = chunk (2 * k) (2 * n) digits in
     let front : take (2 * (k + n)) digits ≡ take (2 * k) digits ++ more = take_chunk (2 * k) (2 * n) _ digits (omega arith) in
     let even : length (take (2 * k) digits) % 2 ≡ 0 = omega (arith, length-take-le (2 * k) digits (omega (arith, fits, twice))) in
-    let spells : bytes ≡ spelled more = joins ∙ ap joined is in
+    let spells : bytes ≡ spelled more = joins ∙ ap joined_halves is in
     let long : length bytes ≡ n = ap length spells ∙ length-spelled n more (length-chunk (2 * k) (2 * n) digits (omega (arith, fits, twice))) in
     let written = take_more_put_chunk k out bytes (k + n) (omega (arith, long)) (omega (arith, fits)) in record {
       are = rw front (Each1-append IsDigit _ more done.are (digits_from_values more (rw is at halves)));
@@ -39,7 +39,7 @@ more_done k n digits out values bytes fits twice is halves joins done =
 
 -- one step more
 pub step_done : (s : ℕ) (digits out values bytes : List ℕ) → 8 * s + 8 ≤ length out → length digits ≡ 2 * length out
-    → values ≡ map value_or_more (chunk (2 * (8 * s)) 16 digits) → Each1 IsHalf values → bytes ≡ joined values
+    → values ≡ map value_or_more (chunk (2 * (8 * s)) 16 digits) → Each1 IsHalf values → bytes ≡ joined_halves values
     → IsDone (8 * s) digits out → IsDone (8 * (s + 1)) digits (put_chunk (8 * s) out bytes)
 step_done s digits out values bytes fits twice is halves joins done =
     let next : 8 * (s + 1) ≡ 8 * s + 8 = omega arith in
@@ -48,7 +48,7 @@ step_done s digits out values bytes fits twice is halves joins done =
 -- the digits of two vectors more
 pair_done : (k : ℕ) (digits out first second bytes : List ℕ) → k + 16 ≤ length out → length digits ≡ 2 * length out
     → first ≡ map value_or_more (chunk (2 * k) 16 digits) → second ≡ map value_or_more (chunk (2 * k + 16) 16 digits)
-    → Each1 IsHalf first → Each1 IsHalf second → bytes ≡ joined (first ++ second)
+    → Each1 IsHalf first → Each1 IsHalf second → bytes ≡ joined_halves (first ++ second)
     → IsDone k digits out → IsDone (k + 16) digits (put_chunk k out bytes)
 pair_done k digits out first second bytes fits twice one other halves too joins done =
     let is : first ++ second ≡ map value_or_more (chunk (2 * k) 32 digits) =
@@ -65,7 +65,7 @@ pub turn_done : (t : ℕ) (digits out first second third fourth ones others : Li
     → 32 * t + 32 ≤ length out → length digits ≡ 2 * length out
     → IsRead (2 * (32 * t)) digits first → IsRead (2 * (32 * t) + 16) digits second
     → IsRead (2 * (32 * t) + 32) digits third → IsRead (2 * (32 * t) + 48) digits fourth
-    → ones ≡ joined (first ++ second) → others ≡ joined (third ++ fourth)
+    → ones ≡ joined_halves (first ++ second) → others ≡ joined_halves (third ++ fourth)
     → IsDone (32 * t) digits out
     → IsDone (32 * (t + 1)) digits (put_chunk (32 * t + 16) (put_chunk (32 * t) out ones) others)
 turn_done t digits out first second third fourth ones others fits twice a b c d joins too done =
@@ -88,61 +88,61 @@ pub none_ahead : (digits out : List ℕ) → IsAhead 0 (replicate 16 0) digits o
 none_ahead digits out = record { done = λ h. none_done digits out; seen = λ are. search (rules, arith) }
 
 -- what is returned for the bytes that the digits spell, and what the buffer holds then
-abbrev pub Tells : Bool → List ℕ → Result (List ℕ) FromHexError → Type 0
-Tells told out spelt = MatchResult spelt (λ bytes. (told ≡ true) × (out ≡ bytes)) (λ e. told ≡ false)
+abbrev pub Reports : Bool → List ℕ → Result (List ℕ) FromHexError → Type 0
+Reports reported out spelt = MatchResult spelt (λ bytes. (reported ≡ true) × (out ≡ bytes)) (λ e. reported ≡ false)
 
 -- a text that isn't all digits is refused
-pub refused : (digits out : List ℕ) (n : ℕ) → (Each1 IsDigit digits → ⊥) → Tells false out (decode_sized digits n)
+pub refused : (digits out : List ℕ) (n : ℕ) → (Each1 IsDigit digits → ⊥) → Reports false out (decode_sized digits n)
 refused digits out n bad = go (decode_sized digits n) refl
   where
-    go : (spelt : Result (List ℕ) FromHexError) → decode_sized digits n ≡ spelt → Tells false out spelt
+    go : (spelt : Result (List ℕ) FromHexError) → decode_sized digits n ≡ spelt → Reports false out spelt
     go (Ok bytes) e = absurd (bad (digits_of n digits bytes e))
     go (Err e) h = refl
 
 -- the digits after the first ones, and room for the bytes that they spell
-record Behind (k m n : ℕ) (digits out : List ℕ) : Type 0 where
+record Following (k m n : ℕ) (digits out : List ℕ) : Type 0 where
   fits : k ≤ n
   sized : length out ≡ n
   twice : length digits ≡ 2 * n
   room : length (drop k out) ≡ m
 
-length_behind : (k m n : ℕ) (digits out : List ℕ) → Behind k m n digits out → length (drop (2 * k) digits) ≡ 2 * m
-length_behind k m n digits out b =
+length_following : (k m n : ℕ) (digits out : List ℕ) → Following k m n digits out → length (drop (2 * k) digits) ≡ 2 * m
+length_following k m n digits out b =
     omega (arith, length-drop (2 * k) digits, length-drop k out, b.fits, b.sized, b.twice, b.room)
 
-behind_done : (k m n : ℕ) (digits out bytes : List ℕ) → Behind k m n digits out
+following_done : (k m n : ℕ) (digits out bytes : List ℕ) → Following k m n digits out
     → decode_sized (drop (2 * k) digits) m ≡ Ok bytes → IsDone k digits out
     → decode_sized digits n ≡ Ok (take k out ++ bytes)
-behind_done k m n digits out bytes b read done =
+following_done k m n digits out bytes b read done =
     let front : List ℕ = take (2 * k) digits in
     let back : List ℕ = drop (2 * k) digits in
     let whole : front ++ back ≡ digits = take-append-drop (2 * k) digits in
     let all : Each1 IsDigit digits = rw whole at (Each1-append IsDigit front back done.are (digits_of m back bytes read)) in
     let even : length front % 2 ≡ 0 = omega (arith, length-take-le (2 * k) digits (omega (arith, b.fits, b.twice))) in
     let spelt : bytes ≡ spelled back =
-    let both = sym read ∙ decoded m back (length_behind k m n digits out b) (digits_of m back bytes read) in cc in
+    let both = sym read ∙ decoded m back (length_following k m n digits out b) (digits_of m back bytes read) in cc in
     decoded n digits b.twice all
     ∙ ap Ok (sym (ap spelled whole) ∙ spelled-append front back even ∙ rw (done.spelled_is, spelt) refl)
 
-behind_refused : (k m n : ℕ) (digits out : List ℕ) (e : FromHexError) → Behind k m n digits out
+following_refused : (k m n : ℕ) (digits out : List ℕ) (e : FromHexError) → Following k m n digits out
     → decode_sized (drop (2 * k) digits) m ≡ Err e → Each1 IsDigit digits → ⊥
-behind_refused k m n digits out e b read are =
+following_refused k m n digits out e b read are =
     let front : List ℕ = take (2 * k) digits in
     let back : List ℕ = drop (2 * k) digits in
     let both : Each1 IsDigit (front ++ back) = rw (take-append-drop (2 * k) digits) are in
-    cc (sym (decoded m back (length_behind k m n digits out b) (Each1-behind IsDigit front back both)) ∙ read)
+    cc (sym (decoded m back (length_following k m n digits out b) (Each1-following IsDigit front back both)) ∙ read)
 
 -- what the rest of the digits spell, as they are read after the first ones
 abbrev pub Rest : ℕ → List ℕ → List ℕ → Result (List ℕ) FromHexError
 Rest k digits out = decode_sized (between (2 * k) (length digits) digits) (length (between k (length out) out))
 
 -- the rest of the bytes, which the rest of the digits spell or don't
-pub rest_done : (k n : ℕ) (digits out new : List ℕ) (r : Result (Unit {0}) FromHexError) (told : Bool)
-    → k ≤ n → length out ≡ n → length digits ≡ 2 * n → told ≡ is_ok r
+pub rest_done : (k n : ℕ) (digits out new : List ℕ) (r : Result (Unit {0}) FromHexError) (reported : Bool)
+    → k ≤ n → length out ≡ n → length digits ≡ 2 * n → reported ≡ is_ok r
     → MatchResult (Rest k digits out) (λ bytes. (r ≡ Ok tt) × (new ≡ bytes)) (λ e. r ≡ Err e)
     → IsDone k digits out
-    → Tells told (put_mid k (length out - k) out new) (decode_sized digits n)
-rest_done k n digits out new r told fits sized twice tells read done =
+    → Reports reported (put_mid k (length out - k) out new) (decode_sized digits n)
+rest_done k n digits out new r reported fits sized twice reports read done =
     go (decode_sized back m) refl (rw (same_back, same_room) at read)
   where
     back : List ℕ
@@ -151,7 +151,7 @@ rest_done k n digits out new r told fits sized twice tells read done =
     m : ℕ
     m = length (drop k out)
 
-    b : Behind k m n digits out
+    b : Following k m n digits out
     b = record { fits = fits; sized = sized; twice = twice; room = refl }
 
     same_back : between (2 * k) (length digits) digits ≡ back
@@ -162,11 +162,11 @@ rest_done k n digits out new r told fits sized twice tells read done =
 
     go : (spelt : Result (List ℕ) FromHexError) → decode_sized back m ≡ spelt
         → MatchResult spelt (λ bytes. (r ≡ Ok tt) × (new ≡ bytes)) (λ e. r ≡ Err e)
-        → Tells told (put_mid k (length out - k) out new) (decode_sized digits n)
+        → Reports reported (put_mid k (length out - k) out new) (decode_sized digits n)
     go (Ok bytes) e h =
-        let is = behind_done k m n digits out bytes b e done in
+        let is = following_done k m n digits out bytes b e done in
         let none : drop (length out - k) (drop k out) ≡ [] = drop_all (length out - k) (drop k out) (omega (arith, length-drop k out)) in
-        rw is (tells ∙ ap is_ok h.0, rw (none, append-nil, h.1) refl)
+        rw is (reports ∙ ap is_ok h.0, rw (none, append-nil, h.1) refl)
     go (Err e) is h =
-        let no : told ≡ false = tells ∙ ap is_ok h in
-        rw no (refused digits (put_mid k (length out - k) out new) n (behind_refused k m n digits out e b is))
+        let no : reported ≡ false = reports ∙ ap is_ok h in
+        rw no (refused digits (put_mid k (length out - k) out new) n (following_refused k m n digits out e b is))

@@ -6,7 +6,7 @@ use Rattle.std.specs.Simd.Lanes.{Each1}
 use Rattle.hex.specs.Hex.{decode_pairs, decode_sized, digit_or_error, hex_digit_value, is_hex_digit, pair_value, value_at}
 use Rattle.hex.proofs.HexLemmas.{IsOk-decode_sized}
 use Rattle.hex.proofs.Pairs.{cons_byte, decode_pairs-ok_pair, decode_sized-pairs}
-use Rattle.hex_lanes.specs.Halves.{value_or_more, joined}
+use Rattle.hex_lanes.specs.Halves.{value_or_more, joined_halves}
 use Rattle.hex_lanes.proofs.Lanes.{IsHalf}
 
 abbrev pub IsDigit : ℕ → Type 0
@@ -14,7 +14,7 @@ IsDigit c = IsHalf (value_or_more c)
 
 -- the bytes that digits spell
 abbrev pub spelled : List ℕ → List ℕ
-spelled s = joined (map value_or_more s)
+spelled s = joined_halves (map value_or_more s)
 
 -- ---- one digit
 
@@ -65,9 +65,9 @@ pub Each1-append : (P : ℕ → Type 0) (xs ys : List ℕ) → Each1 P xs → Ea
 Each1-append P [] ys h k = k
 Each1-append P (x ∷ xs) ys h k = (h.0, Each1-append P xs ys h.1 k)
 
-pub Each1-behind : (P : ℕ → Type 0) (xs ys : List ℕ) → Each1 P (xs ++ ys) → Each1 P ys
-Each1-behind P [] ys h = h
-Each1-behind P (x ∷ xs) ys h = Each1-behind P xs ys h.1
+pub Each1-following : (P : ℕ → Type 0) (xs ys : List ℕ) → Each1 P (xs ++ ys) → Each1 P ys
+Each1-following P [] ys h = h
+Each1-following P (x ∷ xs) ys h = Each1-following P xs ys h.1
 
 pub spelled-append : (xs ys : List ℕ) → length xs % 2 ≡ 0 → spelled (xs ++ ys) ≡ spelled xs ++ spelled ys
 spelled-append [] ys e = refl

@@ -5,7 +5,7 @@ use Rattle.std.proofs.lemmas.Simd.{mask_l-mod}
 use Rattle.std.specs.Simd.Lanes.{Each1, zip2}
 use lib.Lanes.{sel_l, mask_l, top, pick_l}
 use Rattle.std.specs.Prelude.{IsTrue, ◌↔◌}
-use Rattle.hex_lanes.specs.Halves.{value_or_more, joined}
+use Rattle.hex_lanes.specs.Halves.{value_or_more, joined_halves}
 use Rattle.hex_lanes.proofs.Lanes.{in_lanes, IsHalf}
 
 -- ---- the value of one digit
@@ -209,7 +209,7 @@ pairs [] = []
 pairs (high ∷ []) = []
 pairs (high ∷ low ∷ rest) = byte_of high low ∷ pairs rest
 
-pairs_are : (v : List ℕ) → Each1 IsHalf v → pairs v ≡ joined v
+pairs_are : (v : List ℕ) → Each1 IsHalf v → pairs v ≡ joined_halves v
 pairs_are [] h = refl
 pairs_are (high ∷ []) h = refl
 pairs_are (high ∷ low ∷ rest) h =
@@ -226,7 +226,7 @@ odds v = pick_l 0 v (1 ∷ 3 ∷ 5 ∷ 7 ∷ 9 ∷ 11 ∷ 13 ∷ 15 ∷ 17 ∷ 1
 both_paired : (v : List ℕ) → length v ≡ 32 → zip2 byte_of (evens v) (odds v) ≡ pairs v
 both_paired v e = rw (in_lanes 32 v e) refl
 
-pub both_are : (v : List ℕ) → length v ≡ 32 → Each1 IsHalf v → zip2 byte_of (evens v) (odds v) ≡ joined v
+pub both_are : (v : List ℕ) → length v ≡ 32 → Each1 IsHalf v → zip2 byte_of (evens v) (odds v) ≡ joined_halves v
 both_are v e h = both_paired v e ∙ pairs_are v h
 
 abbrev highs : List ℕ → List ℕ
@@ -238,5 +238,5 @@ lows v = pick_l 0 (v ++ v) (1 ∷ 3 ∷ 5 ∷ 7 ∷ 9 ∷ 11 ∷ 13 ∷ 15 ∷ [
 paired : (v : List ℕ) → length v ≡ 16 → zip2 byte_of (highs v) (lows v) ≡ pairs v
 paired v e = rw (in_lanes 16 v e) refl
 
-pub bytes_are : (v : List ℕ) → length v ≡ 16 → Each1 IsHalf v → zip2 byte_of (highs v) (lows v) ≡ joined v
+pub bytes_are : (v : List ℕ) → length v ≡ 16 → Each1 IsHalf v → zip2 byte_of (highs v) (lows v) ≡ joined_halves v
 bytes_are v e h = paired v e ∙ pairs_are v h

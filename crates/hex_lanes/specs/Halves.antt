@@ -7,10 +7,10 @@ abbrev pub value_or_more : ℕ → ℕ
 value_or_more c = unwrap_or (hex_digit_value c) 255
 
 -- the bytes of pairs of half bytes, the high ones first
-abbrev pub joined : List ℕ → List ℕ
-joined [] = []
-joined (high ∷ []) = []
-joined (high ∷ low ∷ rest) = (high * 16 + low) ∷ joined rest
+abbrev pub joined_halves : List ℕ → List ℕ
+joined_halves [] = []
+joined_halves (high ∷ []) = []
+joined_halves (high ∷ low ∷ rest) = (high * 16 + low) ∷ joined_halves rest
 
 -- the half bytes of bytes, the high ones first
 abbrev pub halves : List ℕ → List ℕ

@@ -2,7 +2,7 @@
 ghost use Rattle.std.specs.Prelude.{◌≡◌, ◌<◌, ◌↔◌, ◌++◌, length, map, true, false, IsTrue, MatchResult};
 ghost use Rattle.std.specs.Simd.Lanes.{Each1};
 ghost use Rattle.hex.specs.Hex.{decode_sized};
-ghost use Rattle.hex_lanes.specs.Halves.{joined, value_or_more};
+ghost use Rattle.hex_lanes.specs.Halves.{joined_halves, value_or_more};
 
 use crate::{STEP, WIDE};
 use hex::decode_to_slice;
@@ -82,7 +82,7 @@ fn values_of(digits: u8x16) -> u8x16
 #[inline(always)]
 fn join(values: u8x16) -> u8x8
     requires { Each1 (λ value. value < 16) values }
-    ensures { result ≡ joined values }
+    ensures { result ≡ joined_halves values }
 {
     let highs: u8x8 = values.swizzle([0, 2, 4, 6, 8, 10, 12, 14]);
     let lows: u8x8 = values.swizzle([1, 3, 5, 7, 9, 11, 13, 15]);
@@ -92,7 +92,7 @@ fn join(values: u8x16) -> u8x8
 // Each pair of half bytes of two vectors as a byte. Nothing is said of values that aren't half bytes.
 #[inline(always)]
 fn join_both(first: u8x16, second: u8x16) -> u8x16
-    ensures { Each1 (λ value. value < 16) first → Each1 (λ value. value < 16) second → result ≡ joined (first ++ second) }
+    ensures { Each1 (λ value. value < 16) first → Each1 (λ value. value < 16) second → result ≡ joined_halves (first ++ second) }
 {
     let (highs, lows) = first.deinterleave(second);
     (highs << u8x16::splat(4)) + lows

@@ -8,7 +8,7 @@ use Rattle.atomic_table.proofs.Lists.{at_set, set_again}
 use Rattle.history.specs.declared.view.Entry.{Entry}
 use Rattle.history.specs.declared.view.View.{View}
 use Rattle.history.specs.Entries.{entry, entries_by, StartsWith}
-use Rattle.history.specs.Rule.{keeper, nobody, lent, kept_part, hand_part, hirer, hired_hand, Fits, Works, IsOne, with_entry, Sat, Appended, Checked}
+use Rattle.history.specs.Rule.{keeper, nobody, lent, kept_part, hand_part, hirer, hired_hand, Fits, WorksAsHand, IsOne, with_entry, Sat, EntryAppended, Checked}
 use Rattle.history.proofs.Entries.{entries_own, entries_other, starts_more, starts_self}
 
 pub off : false ≡ true → ⊥
@@ -27,7 +27,7 @@ module _ {E : Type 0} where
   -- where the hands of new views were hands before, one to one, the rule goes over
   moved : (T : ℕ → ℕ → Type 0) (vs us : List (View E)) (seat hired : ℕ) (log : List (Entry E)) → IsOne vs
       → ((by : ℕ) (v : View E) → get_elem? us by ≡ some v → Fits seat log hired by v)
-      → ((j n : ℕ) → Works us j n → (a : ℕ) × T j a × Works vs a n) → ((j k a : ℕ) → T j a → T k a → j ≡ k)
+      → ((j n : ℕ) → WorksAsHand us j n → (a : ℕ) × T j a × WorksAsHand vs a n) → ((j k a : ℕ) → T j a → T k a → j ≡ k)
       → ((n : ℕ) → hired ≤ n → entries_by n log ≡ []) → IsOne us
   moved T vs us seat hired log rule fits from single within = record {
     seat = seat;
@@ -111,7 +111,7 @@ module _ {E : Type 0} where
       mine = (rule.fits id v here).keeps is_keeper
 
   pub appends : {S : Type 0} (slots id place : ℕ) (me : Me S (View E)) (e : E) → me.1 ≡ [] → me.0.keeps ≡ true → me.0.works ≡ true
-      → Allows (λ (s : State S (View E)). IsOne s.views) slots id me place (λ m. m) (Appended {S = S} (Some e) (step slots place 0 0 none) me)
+      → Allows (λ (s : State S (View E)). IsOne s.views) slots id me place (λ m. m) (EntryAppended {S = S} (Some e) (step slots place 0 0 none) me)
   appends {S} slots id place me e bare keeps_ works s rule homes here fits = (
     with_entry me.0 e,
     keeps,
@@ -264,12 +264,12 @@ module _ {E : Type 0} where
         (λ (h : (by ≡ end) × (hired_hand v ≡ u)). subst (Fits rule.seat rule.log (rule.hired + 1) by) h.1 (new by))
         (at_end (set s.views id (hirer v)) (hired_hand v) u by at);
     apart = λ j k n one two. ⊎_elim
-        (λ (x : (j < end) × Works s.views j n). ⊎_elim
-        (λ (y : (k < end) × Works s.views k n). rule.apart j k n x.1 y.1)
+        (λ (x : (j < end) × WorksAsHand s.views j n). ⊎_elim
+        (λ (y : (k < end) × WorksAsHand s.views k n). rule.apart j k n x.1 y.1)
         (λ (y : (k ≡ end) × (n ≡ rule.hired)). let b = under j n x.1 in let e = y.1 in absurd (omega arith))
         (from k n two))
         (λ (x : (j ≡ end) × (n ≡ rule.hired)). ⊎_elim
-        (λ (y : (k < end) × Works s.views k n). let b = under k n y.1 in let e = x.1 in absurd (omega arith))
+        (λ (y : (k < end) × WorksAsHand s.views k n). let b = under k n y.1 in let e = x.1 in absurd (omega arith))
         (λ (y : (k ≡ end) × (n ≡ rule.hired)). x.0 ∙ sym y.0)
         (from k n two))
         (from j n one);
@@ -308,10 +308,10 @@ module _ {E : Type 0} where
         seen = λ _. subst (λ l. StartsWith rule.log l) (sym mine.1) (starts_self rule.log);
       }
 
-      under : (j n : ℕ) → Works s.views j n → n < rule.hired
+      under : (j n : ℕ) → WorksAsHand s.views j n → n < rule.hired
       under j n w = subst (λ m. m < rule.hired) w.3 ((rule.fits j w.0 w.1).below w.2)
 
-      from : (j n : ℕ) → Works (set s.views id (hirer v) ++ hired_hand v ∷ []) j n → ((j < end) × Works s.views j n) ⊎ ((j ≡ end) × (n ≡ rule.hired))
+      from : (j n : ℕ) → WorksAsHand (set s.views id (hirer v) ++ hired_hand v ∷ []) j n → ((j < end) × WorksAsHand s.views j n) ⊎ ((j ≡ end) × (n ≡ rule.hired))
       from j n u = ⊎_elim
           (λ (h : (j < end) × (get_elem? (set s.views id (hirer v)) j ≡ some u.0)). ⊎_elim
           (λ (g : (j ≡ id) × (hirer v ≡ u.0)). absurd (off (sym works ∙ (ap (λ (x : View E). x.works) g.1 ∙ u.2))))
@@ -339,6 +339,6 @@ module _ {E : Type 0} where
       }
       one (suc by) v e = absurd (some-ne-none v (sym e))
 
-      none_works : (j n : ℕ) → Works {E = E} (keeper 0 [] ∷ []) j n → ⊥
+      none_works : (j n : ℕ) → WorksAsHand {E = E} (keeper 0 [] ∷ []) j n → ⊥
       none_works zero n w = off (ap (λ (x : View E). x.works) (some-injective _ _ w.1) ∙ w.2)
       none_works (suc j) n w = some-ne-none w.0 (sym w.1)

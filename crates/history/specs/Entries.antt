@@ -38,7 +38,7 @@ pub record Extends {E : Type 0} (v : Carried E) (what : E) (w : Carried E) : Typ
 
 -- The hand's entries in the history are its own, in its order, and the history begins with what the hand has seen. No entry is of
 -- a hand that wasn't hired.
-pub record IsWhole {E : Type 0} (k : Course E) (v : Carried E) : Type 0 where
+pub record IsCoherent {E : Type 0} (k : Course E) (v : Carried E) : Type 0 where
   pub mine : entries_by v.number k.log ≡ v.mine
   pub seen : StartsWith k.log v.seen
   pub below : v.number < k.hired

@@ -48,15 +48,15 @@ pub record Fits {E : Type 0} (seat : ℕ) (log : List (Entry E)) (hired by : ℕ
   pub seen : v.works ≡ true → StartsWith log v.seen
 
 -- the seat is the hand of this number
-abbrev pub Works : {E : Type 0} → List (View E) → ℕ → ℕ → Type 0
-Works {E} views by n = (v : View E) × (get_elem? views by ≡ some v) × (v.works ≡ true) × (v.number ≡ n)
+abbrev pub WorksAsHand : {E : Type 0} → List (View E) → ℕ → ℕ → Type 0
+WorksAsHand {E} views by n = (v : View E) × (get_elem? views by ≡ some v) × (v.works ≡ true) × (v.number ≡ n)
 
 pub record IsOne {E : Type 0} (views : List (View E)) : Type 0 where
   pub seat : ℕ
   pub log : List (Entry E)
   pub hired : ℕ
   pub fits : (by : ℕ) (v : View E) → get_elem? views by ≡ some v → Fits seat log hired by v
-  pub apart : (by other n : ℕ) → Works views by n → Works views other n → by ≡ other
+  pub apart : (by other n : ℕ) → WorksAsHand views by n → WorksAsHand views other n → by ≡ other
   pub within : (n : ℕ) → hired ≤ n → entries_by n log ≡ []
 
 -- an entry was added to the history, and to the hand's own
@@ -66,9 +66,9 @@ with_entry v e = record { keeps = v.keeps; hired = v.hired; log = v.log ++ entry
 abbrev pub Sat : {E S : Type 0} → Step S → Me S (View E) → ℕ → Me S (View E) → Type 0
 Sat s before found after = after ≡ (nobody, [])
 
-abbrev pub Appended : {E S : Type 0} → Option E → Step S → Me S (View E) → ℕ → Me S (View E) → Type 0
-Appended None s before found after = Unit {0}
-Appended (Some e) s before found after = (after ≡ (with_entry before.0 e, [])) × StartsWith before.0.log before.0.seen
+abbrev pub EntryAppended : {E S : Type 0} → Option E → Step S → Me S (View E) → ℕ → Me S (View E) → Type 0
+EntryAppended None s before found after = Unit {0}
+EntryAppended (Some e) s before found after = (after ≡ (with_entry before.0 e, [])) × StartsWith before.0.log before.0.seen
 
 -- the hand's own entries are all that the history has of it, and it begins with what the hand has seen
 abbrev pub Checked : {E S : Type 0} → Step S → Me S (View E) → ℕ → Me S (View E) → Type 0

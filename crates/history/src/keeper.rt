@@ -1,6 +1,6 @@
 // What lies under the lock next to the value.
 ghost use Rattle.std.specs.Prelude.{◌≡◌, ◌+◌, ◌^◌, ◌++◌, ◌∷◌, [], IfSome, IfNone};
-ghost use Rattle.history.specs.Entries.{entry, Extends, IsWhole};
+ghost use Rattle.history.specs.Entries.{entry, Extends, IsCoherent};
 
 use crate::hand::Hand;
 use crate::naming::{Chronicle, History};
@@ -77,7 +77,7 @@ impl<N: Chronicle, E> Keeper<N, E> {
     /// of a hand that wasn't hired.
     pub fn check(&mut self, history: &History<N, E>, me: &mut Hand<N, E>)
         ensures same { (self.new ≡ self.old) × (me.new ≡ me.old) }
-        ensures whole { IsWhole self.old me.old }
+        ensures whole { IsCoherent self.old me.old }
     {
         look_in(&history.table, &mut self.seat, &mut me.seat, me.number);
     }

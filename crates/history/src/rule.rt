@@ -78,9 +78,9 @@ impl<E> Picked<E> for Brand {
 pub struct Appends<E, P: Picked<E>>(PhantomData<(E, P)>);
 
 impl<E, P: Picked<E>> Play<u8, View<E>> for Appends<E, P> {
-    ghost use Rattle.history.specs.Rule.{Appended};
+    ghost use Rattle.history.specs.Rule.{EntryAppended};
 
-    ghost then = { Appended P.what };
+    ghost then = { EntryAppended P.what };
 }
 
 pub struct Checks;

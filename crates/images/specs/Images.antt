@@ -1,6 +1,6 @@
 -- An image: the units of a drive next to each other, in address order.
 use Rattle.std.specs.Prelude.{◌≡◌, ◌+◌, ◌*◌, ◌<◌, ℕ, List, Some, length, slice_get, slice_range}
-use Rattle.extents.specs.Units.{IsSized}
+use Rattle.extents.specs.Units.{AreUnitsSized}
 
 -- each unit of an address below `count` is the run of `size` bytes from `address * size` on
 abbrev pub AreFirst : (size count : ℕ) → List ℕ → List (List ℕ) → Type 0
@@ -14,7 +14,7 @@ pub record IsImage (size : ℕ) (bytes : List ℕ) (units : List (List ℕ)) : T
 -- `count` units of `size` bytes, of which those below `at` lie in the bytes
 pub record AreLoaded (size count at : ℕ) (bytes : List ℕ) (units : List (List ℕ)) : Type 0 where
   pub many : length units ≡ count
-  pub sized : IsSized size units
+  pub sized : AreUnitsSized size units
   pub first : AreFirst size at bytes units
 
 -- the bytes are the units below `at`

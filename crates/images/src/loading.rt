@@ -3,7 +3,7 @@ ghost use Rattle.std.specs.Prelude.{◌≡◌, ◌+◌, ◌*◌, ◌<◌, length
 ghost use Rattle.extents.specs.declared.mem_drive.Condition.TheVariants.{Present};
 ghost use Rattle.extents.specs.declared.shape.TheConstants.{HEADER_BYTES};
 ghost use Rattle.extents.specs.Sizes.{extent_units};
-ghost use Rattle.extents.specs.Units.{IsSized};
+ghost use Rattle.extents.specs.Units.{AreUnitsSized};
 ghost use Rattle.images.specs.Images.{IsImage};
 ghost use Rattle.images.specs.Refusals.{RefusesFor};
 
@@ -17,7 +17,7 @@ use std::alloc::Global;
 pub fn load(alloc: Global, shape: &Shape, image: &[u8]) -> Result<MemDrive, ImageRefusal>
     ensures ok { IfOk result (λ m. IsImage (HEADER_BYTES + shape.now.payload) image.now m.units) }
     ensures many { IfOk result (λ m. length m.units ≡ shape.now.extents * extent_units shape.now.segments) }
-    ensures sized { IfOk result (λ m. IsSized (HEADER_BYTES + shape.now.payload) m.units) }
+    ensures sized { IfOk result (λ m. AreUnitsSized (HEADER_BYTES + shape.now.payload) m.units) }
     ensures present { IfOk result (λ m. m.condition ≡ Present) }
     ensures err { IfErr result (RefusesFor shape.now (length image.now)) }
 {
@@ -39,7 +39,7 @@ pub fn load(alloc: Global, shape: &Shape, image: &[u8]) -> Result<MemDrive, Imag
 // Writes a unit of a drive that answers.
 fn put(drive: &mut MemDrive, at: u32, unit: &[u8])
     requires at { at < length drive.old.units }
-    requires size { IsSized (length unit.now) drive.old.units }
+    requires size { AreUnitsSized (length unit.now) drive.old.units }
     requires present { drive.old.condition ≡ Present }
     ensures present { drive.new.condition ≡ Present }
     ensures written { drive.new.units ≡ slice_set drive.old.units at unit.now }

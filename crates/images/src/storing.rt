@@ -1,6 +1,6 @@
 // The image of a drive.
 ghost use Rattle.std.specs.Prelude.{◌≡◌, ◌+◌, ◌*◌, ◌<◌, false, length, slice_get, slice_range, Some, IfOk, IfSome, is_none};
-ghost use Rattle.extents.specs.Units.{IsSized};
+ghost use Rattle.extents.specs.Units.{AreUnitsSized};
 ghost use Rattle.images.specs.Images.{IsImage};
 
 use extents::Drive;
@@ -14,7 +14,7 @@ pub fn image_of<D: Drive>(
     drive: &mut D,
     size: usize,
 ) -> Result<Option<Vec<u8>>, AllocError>
-    requires size { IsSized size (D.units drive.old) }
+    requires size { AreUnitsSized size (D.units drive.old) }
     ensures ok { IfOk result (λ image. IfSome image (λ v. IsImage size v.items (D.units drive.old))) }
     ensures lost { IfOk result (λ image. is_none image ≡ D.lost drive.new) }
     ensures units { D.units drive.new ≡ D.units drive.old }

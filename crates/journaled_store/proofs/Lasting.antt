@@ -6,21 +6,20 @@ use Rattle.std.proofs.lemmas.Bool.{true≢false}
 use Rattle.std.proofs.lemmas.List.{take_all}
 use Rattle.extent_groups.specs.Groups.{Groups}
 use Rattle.extent_groups.specs.Cells.{Cells}
-use Rattle.extent_groups.specs.Planned.{Wanted, after}
+use Rattle.extent_groups.specs.Planned.{Intended, after}
 use Rattle.history.specs.Entries.{Course}
 use Rattle.cached_drive.specs.Saving.{Units}
-use Rattle.background.specs.Views.{TiersView}
-use Rattle.array_store.specs.Blocks.{Holds}
+use Rattle.tiered_array.specs.Views.{TiersView}
 use Rattle.array_store.specs.Stores.{Follows}
 use Rattle.byte_store.specs.Lasting.{Acknowledges, Covers, Flushes, Lasts, Within}
 use Rattle.byte_store.proofs.Lasts.{covering, lasts_ahead}
 use Rattle.vault.specs.Images.{Image, flat, is_lost, recovered}
-use Rattle.vault.specs.Moments.{IsLogged, LeavesOnly, StandsForSome}
+use Rattle.vault.specs.Moments.{IsLogged, LeavesOnly, RepresentsSome}
 use Rattle.vault.specs.declared.store.Stop.{Stop}
 use Rattle.vault.specs.declared.store.Stop.TheVariants.{Killed, PowerLost}
 use Rattle.vault.proofs.Runs.{weaker}
-use Rattle.array_parts.specs.Views.{lost_of}
-use Rattle.journaled_store.specs.Steps.{IsBeforeOrNow, IsKept, IsLive, UnlessFailed, UnlessSync, is_sync}
+use Rattle.unit_store.specs.Views.{lost_of}
+use Rattle.journaled_store.specs.Steps.{IsBeforeOrNow, IsPersisted, IsUpToDate, UnlessFailed, UnlessSync, is_sync}
 use Rattle.journaled_store.specs.Left.{MissesOne}
 use Rattle.journaled_store.specs.Outlasting.{OpensAs, OpensBut, Outlasts, OutlastsSince, Point, Works, allowed, parts_of}
 use Rattle.journaled_store.proofs.Opening.{alone, opens_as, opens_either, opens_left, opens_more, opens_now}
@@ -36,6 +35,13 @@ allowed_within PowerLost killed cut more_killed more_cut k c = c
 pub allowed_has : (stop : Stop) (killed cut : List (List ℕ)) (b : List ℕ) → Contains killed b → Contains cut b → Contains (allowed stop killed cut) b
 allowed_has Killed killed cut b k c = k
 allowed_has PowerLost killed cut b k c = c
+
+-- a list with what is shown before and after a call has each of the two
+pub only_before : (more some : List (List ℕ)) (before now : List ℕ) → Covers more some before now → Covers more some before before
+only_before more some before now c = record { each = c.each; has_before = c.has_before; has_now = c.has_before }
+
+pub only_now : (more some : List (List ℕ)) (before now : List ℕ) → Covers more some before now → Covers more some now now
+only_now more some before now c = record { each = c.each; has_before = c.has_now; has_now = c.has_now }
 
 -- how many batches a stop leaves at least, where a kill leaves all
 abbrev least : ℕ → ℕ → Stop → ℕ
@@ -73,7 +79,7 @@ on_ok_by (Err e) p = tt
 pub lasts_at : {S P : Type 0} (at : S → P) (outlasts : P → List (List ℕ) → List (List ℕ) → Type 0) (moment : P → ℕ) (outlasts_since : P → ℕ → List (List ℕ) → List (List ℕ) → Type 0)
     (before now : List ℕ) (old new : S) → Lasts outlasts moment outlasts_since before now (at old) (at new)
     → Lasts (λ s. outlasts (at s)) (λ s. moment (at s)) (λ s. outlasts_since (at s)) before now old new
-lasts_at at outlasts moment outlasts_since before now old new lasts = record { later = lasts.later; behind = lasts.behind; during = lasts.during; earlier = lasts.earlier }
+lasts_at at outlasts moment outlasts_since before now old new lasts = record { later = lasts.later; following = lasts.following; during = lasts.during; earlier = lasts.earlier }
 
 -- what one batch more says of a store
 pub record Published {V : Type 0} (known : V → Type 0) (seen : V → Image) (may_leave : V → Stop → Image → Type 0) (moment : V → ℕ) (left_since : V → Stop → ℕ → Image → Type 0)
@@ -81,43 +87,43 @@ pub record Published {V : Type 0} (known : V → Type 0) (seen : V → Image) (m
   pub tiers : q.tiers ≡ p.tiers
   pub stays : known p.vault → known q.vault
   pub still : p.failed ≡ true → (q.vault ≡ p.vault) × (q.failed ≡ true)
-  pub step : known p.vault → (lost : List Bool) → UnlessFailed p.failed (IsLive lost p.keeper p.noted p.batch (recovered (seen p.vault)))
-      → UnlessFailed q.failed (IsLive lost q.keeper q.noted q.batch (recovered (seen q.vault)))
+  pub step : known p.vault → (lost : List Bool) → UnlessFailed p.failed (IsUpToDate lost p.keeper p.noted p.batch (recovered (seen p.vault)))
+      → UnlessFailed q.failed (IsUpToDate lost q.keeper q.noted q.batch (recovered (seen q.vault)))
   pub killed : known p.vault → (lost : List Bool) → UnlessFailed p.failed (IsLogged seen may_leave lost Killed p.vault (length (seen p.vault).journal))
       → UnlessFailed q.failed (IsLogged seen may_leave lost Killed q.vault (length (seen q.vault).journal))
   pub logged : known p.vault → (lost : List Bool) (stop : Stop) (low : ℕ) → UnlessFailed p.failed (IsLogged seen may_leave lost stop p.vault low)
       → UnlessFailed q.failed ((most : ℕ) × (low ≤ most) × IsLogged seen may_leave lost stop q.vault most)
-  pub batches : known p.vault → (lost : List Bool) → UnlessFailed p.failed (IsLive lost p.keeper p.noted p.batch (recovered (seen p.vault)))
-      → UnlessFailed q.failed ((low : ℕ) (i : Image) → StandsForSome lost (seen q.vault).cells low (seen q.vault).journal i → IsBeforeOrNow lost (seen p.vault) low (parts_of p.tiers).drives i)
-  pub any_moment : known p.vault → (lost : List Bool) → UnlessFailed p.failed (IsLive lost p.keeper p.noted p.batch (recovered (seen p.vault)))
+  pub batches : known p.vault → (lost : List Bool) → UnlessFailed p.failed (IsUpToDate lost p.keeper p.noted p.batch (recovered (seen p.vault)))
+      → UnlessFailed q.failed ((low : ℕ) (i : Image) → RepresentsSome lost (seen q.vault).cells low (seen q.vault).journal i → IsBeforeOrNow lost (seen p.vault) low (parts_of p.tiers).drives i)
+  pub any_moment : known p.vault → (lost : List Bool) → UnlessFailed p.failed (IsUpToDate lost p.keeper p.noted p.batch (recovered (seen p.vault)))
       → (stop : Stop) (low : ℕ) → IsLogged seen may_leave lost stop p.vault low
       → LeavesOnly moment left_since stop p.vault q.vault (IsBeforeOrNow lost (seen p.vault) low (parts_of p.tiers).drives)
 
-module _ {V : Type 0} (known : V → Type 0) (seen : V → Image) (may_leave : V → Stop → Image → Type 0) (moment : V → ℕ) (left_since : V → Stop → ℕ → Image → Type 0)
+module _ {V : Type 0} (shows : TiersView → List ℕ → Type 0) (known : V → Type 0) (seen : V → Image) (may_leave : V → Stop → Image → Type 0) (moment : V → ℕ) (left_since : V → Stop → ℕ → Image → Type 0)
     (counts_now : (vault : V) → known vault → (stop : Stop) (t : ℕ) (i : Image) → t ≤ moment vault → may_leave vault stop i → left_since vault stop t i)
     (only_now : (vault : V) → known vault → (stop : Stop) (i : Image) → left_since vault stop (moment vault) i → may_leave vault stop i) where
-  pub table : (p : Point V) (killed cut : List (List ℕ)) (w : Works seen may_leave p killed cut) → is_lost w.lost 16 ≡ false
+  pub table : (p : Point V) (killed cut : List (List ℕ)) (w : Works shows seen may_leave p killed cut) → is_lost w.lost 16 ≡ false
   table p killed cut w = w.few 16 (omega arith)
 
   -- the vault is as it was
   module _ (p q : Point V) (vault : q.vault ≡ p.vault) (follows : Follows p.tiers q.tiers) (works : q.failed ≡ false → p.failed ≡ false)
-      (step : (lost : List Bool) (c : Cells) → IsLive lost p.keeper p.noted p.batch c → IsLive lost q.keeper q.noted q.batch c) where
-    as_then : (list more : List (List ℕ)) (c : Cells) → Within list more → OpensAs list (parts_of p.tiers).groups (length (parts_of p.tiers).drives) c
-        → OpensAs more (parts_of q.tiers).groups (length (parts_of q.tiers).drives) c
+      (step : (lost : List Bool) (c : Cells) → IsUpToDate lost p.keeper p.noted p.batch c → IsUpToDate lost q.keeper q.noted q.batch c) where
+    as_then : (list more : List (List ℕ)) (c : Cells) → Within list more → OpensAs shows list (parts_of p.tiers).groups (length (parts_of p.tiers).drives) c
+        → OpensAs shows more (parts_of q.tiers).groups (length (parts_of q.tiers).drives) c
     as_then list more c within o =
-        subst (λ n. OpensAs more (parts_of q.tiers).groups n c) (sym follows.many)
-        (subst (λ g. OpensAs more g (length (parts_of p.tiers).drives) c) (sym follows.groups) (record { bytes = o.bytes; listed = within o.bytes o.listed; left = λ absent d there same. o.left absent d there same }))
+        subst (λ n. OpensAs shows more (parts_of q.tiers).groups n c) (sym follows.many)
+        (subst (λ g. OpensAs shows more g (length (parts_of p.tiers).drives) c) (sym follows.groups) (record { what = o.what; listed = within o.what o.listed; left = λ absent d there same. o.left absent d there same }))
 
     but_then : (lost : List Bool) → is_lost lost 16 ≡ false → (list more : List (List ℕ)) (c : Cells) → Within list more
-        → OpensBut lost list (parts_of p.tiers).groups (length (parts_of p.tiers).drives) c → OpensBut lost more (parts_of q.tiers).groups (length (parts_of q.tiers).drives) c
+        → OpensBut shows lost list (parts_of p.tiers).groups (length (parts_of p.tiers).drives) c → OpensBut shows lost more (parts_of q.tiers).groups (length (parts_of q.tiers).drives) c
     but_then lost there list more c within o =
-        subst (λ n. OpensBut lost more (parts_of q.tiers).groups n c) (sym follows.many)
-        (subst (λ g. OpensBut lost more g (length (parts_of p.tiers).drives) c) (sym follows.groups)
-        (opens_more lost there (parts_of p.tiers).groups (length (parts_of p.tiers).drives) list more c within o))
+        subst (λ n. OpensBut shows lost more (parts_of q.tiers).groups n c) (sym follows.many)
+        (subst (λ g. OpensBut shows lost more g (length (parts_of p.tiers).drives) c) (sym follows.groups)
+        (opens_more shows lost there (parts_of p.tiers).groups (length (parts_of p.tiers).drives) list more c within o))
 
-    module _ (killed cut more_killed more_cut : List (List ℕ)) (out : Outlasts known seen may_leave p killed cut) (k : Within killed more_killed) (c : Within cut more_cut) where
-      with_vault : (v : V) → v ≡ p.vault → Outlasts known seen may_leave (record { keeper = q.keeper; noted = q.noted; batch = q.batch; failed = q.failed; tiers = q.tiers; vault = v }) more_killed more_cut
-      with_vault v same = subst (λ u. Outlasts known seen may_leave (record { keeper = q.keeper; noted = q.noted; batch = q.batch; failed = q.failed; tiers = q.tiers; vault = u }) more_killed more_cut)
+    module _ (killed cut more_killed more_cut : List (List ℕ)) (out : Outlasts shows known seen may_leave p killed cut) (k : Within killed more_killed) (c : Within cut more_cut) where
+      with_vault : (v : V) → v ≡ p.vault → Outlasts shows known seen may_leave (record { keeper = q.keeper; noted = q.noted; batch = q.batch; failed = q.failed; tiers = q.tiers; vault = v }) more_killed more_cut
+      with_vault v same = subst (λ u. Outlasts shows known seen may_leave (record { keeper = q.keeper; noted = q.noted; batch = q.batch; failed = q.failed; tiers = q.tiers; vault = u }) more_killed more_cut)
           (sym same) (record {
             is_known = out.is_known;
             leaves = λ stop i may. as_then (allowed stop killed cut) (allowed stop more_killed more_cut) (recovered i) (allowed_within stop killed cut more_killed more_cut k c) (out.leaves stop i may);
@@ -133,30 +139,30 @@ module _ {V : Type 0} (known : V → Type 0) (seen : V → Image) (may_leave : V
             };
           })
 
-      pub moved : Outlasts known seen may_leave q more_killed more_cut
+      pub moved : Outlasts shows known seen may_leave q more_killed more_cut
       moved = with_vault q.vault vault
 
     moved_since : (t : ℕ) (since_killed since_cut more_killed more_cut : List (List ℕ)) → Within since_killed more_killed → Within since_cut more_cut
-        → OutlastsSince left_since p t since_killed since_cut → OutlastsSince left_since q t more_killed more_cut
+        → OutlastsSince shows left_since p t since_killed since_cut → OutlastsSince shows left_since q t more_killed more_cut
     moved_since t since_killed since_cut more_killed more_cut k c since stop i left =
         as_then (allowed stop since_killed since_cut) (allowed stop more_killed more_cut) (recovered i) (allowed_within stop since_killed since_cut more_killed more_cut k c)
         (since stop i (subst (λ v. left_since v stop t i) vault left))
 
-    pub moved_lasts : (before now : List ℕ) → Lasts (Outlasts known seen may_leave) (λ (r : Point V). moment r.vault) (OutlastsSince left_since) before now p q
+    pub moved_lasts : (before now : List ℕ) → Lasts (Outlasts shows known seen may_leave) (λ (r : Point V). moment r.vault) (OutlastsSince shows left_since) before now p q
     moved_lasts before now = record {
       later = λ killed cut out. subst (λ v. moment p.vault ≤ moment v) (sym vault) (omega arith);
-      behind = λ killed cut more_killed more_cut out k c. moved killed cut more_killed more_cut out k.each c.each;
+      following = λ killed cut more_killed more_cut out k c. moved killed cut more_killed more_cut out k.each c.each;
       during = λ killed cut more_killed more_cut out k c. moved_since (moment p.vault) killed cut more_killed more_cut k.each c.each
           (λ stop i left. out.leaves stop i (only_now p.vault out.is_known stop i left));
       earlier = λ t since_killed since_cut killed cut more_killed more_cut le since out wk wc k c. moved_since t since_killed since_cut more_killed more_cut wk wc since;
     }
 
   -- what a store that works leaves
-  pub begun : (p : Point V) (killed cut : List (List ℕ)) → known p.vault → Works seen may_leave p killed cut → Outlasts known seen may_leave p killed cut
+  pub begun : (p : Point V) (killed cut : List (List ℕ)) → known p.vault → Works shows seen may_leave p killed cut → Outlasts shows known seen may_leave p killed cut
   begun p killed cut is_known w = record {
     is_known = is_known;
-    leaves = λ stop i may. opens_as w.lost (table p killed cut w) (parts_of p.tiers).groups (length (parts_of p.tiers).drives) (allowed stop killed cut) (recovered i)
-        (opens_left w.lost (table p killed cut w) (parts_of p.tiers).groups (length (parts_of p.tiers).drives) seen may_leave (allowed stop killed cut) stop p.vault (w.low stop) i
+    leaves = λ stop i may. opens_as shows w.lost (table p killed cut w) (parts_of p.tiers).groups (length (parts_of p.tiers).drives) (allowed stop killed cut) (recovered i)
+        (opens_left shows w.lost (table p killed cut w) (parts_of p.tiers).groups (length (parts_of p.tiers).drives) seen may_leave (allowed stop killed cut) stop p.vault (w.low stop) i
         (w.logged stop) may (w.opens stop));
     works = λ on. w;
   }
@@ -166,66 +172,66 @@ module _ {V : Type 0} (known : V → Type 0) (seen : V → Image) (may_leave : V
   with_tiers p t = record { keeper = p.keeper; noted = p.noted; batch = p.batch; failed = p.failed; tiers = t; vault = p.vault }
 
   pub array_lasts : (p : Point V) (t : TiersView) (q : Point V) (before now : List ℕ) → Follows p.tiers t
-      → Lasts (Outlasts known seen may_leave) (λ (r : Point V). moment r.vault) (OutlastsSince left_since) now now (with_tiers p t) q
-      → Lasts (Outlasts known seen may_leave) (λ (r : Point V). moment r.vault) (OutlastsSince left_since) before now p q
+      → Lasts (Outlasts shows known seen may_leave) (λ (r : Point V). moment r.vault) (OutlastsSince shows left_since) now now (with_tiers p t) q
+      → Lasts (Outlasts shows known seen may_leave) (λ (r : Point V). moment r.vault) (OutlastsSince shows left_since) before now p q
   array_lasts p t q before now follows lasts =
-      lasts_ahead (Outlasts known seen may_leave) (λ (r : Point V). moment r.vault) (OutlastsSince left_since) before now p (with_tiers p t) q
+      lasts_ahead (Outlasts shows known seen may_leave) (λ (r : Point V). moment r.vault) (OutlastsSince shows left_since) before now p (with_tiers p t) q
       (moved_lasts p (with_tiers p t) refl follows (λ on. on) (λ lost cells live. live) before now) lasts
 
   pub array_acknowledges : (p : Point V) (t : TiersView) (q : Point V) (before now : List ℕ) → Follows p.tiers t
-      → Acknowledges (Outlasts known seen may_leave) now now (with_tiers p t) q → Acknowledges (Outlasts known seen may_leave) before now p q
+      → Acknowledges (Outlasts shows known seen may_leave) now now (with_tiers p t) q → Acknowledges (Outlasts shows known seen may_leave) before now p q
   array_acknowledges p t q before now follows acknowledges killed cut more_cut out c =
       acknowledges killed cut more_cut (moved p (with_tiers p t) refl follows (λ on. on) (λ lost cells live. live) killed cut killed cut out (λ b has. has) (λ b has. has))
       (record { each = c.each; has_before = c.has_now; has_now = c.has_now })
 
   pub array_flushes : (p : Point V) (t : TiersView) (q : Point V) (now : List ℕ) → Follows p.tiers t
-      → Flushes (Outlasts known seen may_leave) now (with_tiers p t) q → Flushes (Outlasts known seen may_leave) now p q
+      → Flushes (Outlasts shows known seen may_leave) now (with_tiers p t) q → Flushes (Outlasts shows known seen may_leave) now p q
   array_flushes p t q now follows flushes killed cut out =
       flushes killed cut (moved p (with_tiers p t) refl follows (λ on. on) (λ lost cells live. live) killed cut killed cut out (λ b has. has) (λ b has. has))
 
   -- a store that has all that its drives hold
-  module _ (q : Point V) (now : List ℕ) (holds : Holds q.tiers now) (one : MissesOne (parts_of q.tiers).drives) (killed cut : List (List ℕ)) (is_known : known q.vault) (w : Works seen may_leave q killed cut)
-      (kept : IsKept w.lost (parts_of q.tiers).drives (recovered (seen q.vault))) where
+  module _ (q : Point V) (now : List ℕ) (shown : shows q.tiers now) (one : MissesOne (parts_of q.tiers).drives) (killed cut : List (List ℕ)) (is_known : known q.vault) (w : Works shows seen may_leave q killed cut)
+      (kept : IsPersisted w.lost (parts_of q.tiers).drives (recovered (seen q.vault))) where
     abbrev groups_now : Groups
     groups_now = (parts_of q.tiers).groups
 
     abbrev many_now : ℕ
     many_now = length (parts_of q.tiers).drives
 
-    -- all batches stand for the bytes of now
+    -- all batches stand for what is shown now
     all_opens : (n : ℕ) → length (seen q.vault).journal ≤ n → n ≤ length (seen q.vault).journal
-        → OpensBut w.lost (now ∷ []) groups_now many_now (after (seen q.vault).cells (flat (take n (seen q.vault).journal)))
+        → OpensBut shows w.lost (now ∷ []) groups_now many_now (after (seen q.vault).cells (flat (take n (seen q.vault).journal)))
     all_opens n least most =
-        subst (λ b. OpensBut w.lost (now ∷ []) groups_now many_now (after (seen q.vault).cells (flat b))) (sym (take_all n (seen q.vault).journal least))
-        (opens_now w.lost (table q killed cut w) groups_now many_now (now ∷ []) q.tiers now (recovered (seen q.vault)) refl refl w.gone one holds (alone now) kept)
+        subst (λ b. OpensBut shows w.lost (now ∷ []) groups_now many_now (after (seen q.vault).cells (flat b))) (sym (take_all n (seen q.vault).journal least))
+        (opens_now shows w.lost (table q killed cut w) groups_now many_now (now ∷ []) q.tiers now (recovered (seen q.vault)) refl refl w.gone one shown (alone now) kept)
 
     all_left : (stop : Stop) (i : Image) → IsLogged seen may_leave w.lost stop q.vault (length (seen q.vault).journal) → may_leave q.vault stop i
-        → OpensAs (now ∷ []) groups_now many_now (recovered i)
+        → OpensAs shows (now ∷ []) groups_now many_now (recovered i)
     all_left stop i logged may =
-        opens_as w.lost (table q killed cut w) groups_now many_now (now ∷ []) (recovered i)
-        (opens_left w.lost (table q killed cut w) groups_now many_now seen may_leave (now ∷ []) stop q.vault (length (seen q.vault).journal) i logged may all_opens)
+        opens_as shows w.lost (table q killed cut w) groups_now many_now (now ∷ []) (recovered i)
+        (opens_left shows w.lost (table q killed cut w) groups_now many_now seen may_leave (now ∷ []) stop q.vault (length (seen q.vault).journal) i logged may all_opens)
 
-    pub acknowledged : ((i : Image) → may_leave q.vault PowerLost i → OpensAs cut groups_now many_now (recovered i)) → Outlasts known seen may_leave q (now ∷ []) cut
+    pub acknowledged : ((i : Image) → may_leave q.vault PowerLost i → OpensAs shows cut groups_now many_now (recovered i)) → Outlasts shows known seen may_leave q (now ∷ []) cut
     acknowledged cuts = record { is_known = is_known; leaves = leaves_now; works = λ on. works_now }
       where
-        leaves_now : (stop : Stop) (i : Image) → may_leave q.vault stop i → OpensAs (allowed stop (now ∷ []) cut) groups_now many_now (recovered i)
+        leaves_now : (stop : Stop) (i : Image) → may_leave q.vault stop i → OpensAs shows (allowed stop (now ∷ []) cut) groups_now many_now (recovered i)
         leaves_now Killed i may = all_left Killed i (subst (λ n. IsLogged seen may_leave w.lost Killed q.vault n) w.all (w.logged Killed)) may
         leaves_now PowerLost i may = cuts i may
 
         opens_then : (stop : Stop) (n : ℕ) → w.low stop ≤ n → n ≤ length (seen q.vault).journal
-            → OpensBut w.lost (allowed stop (now ∷ []) cut) groups_now many_now (after (seen q.vault).cells (flat (take n (seen q.vault).journal)))
+            → OpensBut shows w.lost (allowed stop (now ∷ []) cut) groups_now many_now (after (seen q.vault).cells (flat (take n (seen q.vault).journal)))
         opens_then Killed n least most = all_opens n (let all = w.all in omega (arith, least, all)) most
         opens_then PowerLost n least most = w.opens PowerLost n least most
 
-        works_now : Works seen may_leave q (now ∷ []) cut
+        works_now : Works shows seen may_leave q (now ∷ []) cut
         works_now = record { lost = w.lost; few = w.few; gone = w.gone; live = w.live; low = w.low; logged = w.logged; all = w.all; opens = opens_then }
 
   -- one batch more
-  module _ (p q : Point V) (now : List ℕ) (holds : Holds p.tiers now) (one : MissesOne (parts_of p.tiers).drives) (f : Published known seen may_leave moment left_since p q) where
-    as_new : (list : List (List ℕ)) (c : Cells) → OpensAs list (parts_of p.tiers).groups (length (parts_of p.tiers).drives) c → OpensAs list (parts_of q.tiers).groups (length (parts_of q.tiers).drives) c
-    as_new list c o = subst (λ (t : TiersView). OpensAs list (parts_of t).groups (length (parts_of t).drives) c) (sym f.tiers) o
+  module _ (p q : Point V) (now : List ℕ) (shown : shows p.tiers now) (one : MissesOne (parts_of p.tiers).drives) (f : Published known seen may_leave moment left_since p q) where
+    as_new : (list : List (List ℕ)) (c : Cells) → OpensAs shows list (parts_of p.tiers).groups (length (parts_of p.tiers).drives) c → OpensAs shows list (parts_of q.tiers).groups (length (parts_of q.tiers).drives) c
+    as_new list c o = subst (λ (t : TiersView). OpensAs shows list (parts_of t).groups (length (parts_of t).drives) c) (sym f.tiers) o
 
-    module _ (killed cut more_killed more_cut : List (List ℕ)) (out : Outlasts known seen may_leave p killed cut)
+    module _ (killed cut more_killed more_cut : List (List ℕ)) (out : Outlasts shows known seen may_leave p killed cut)
         (kc : Covers more_killed killed now now) (cc : Covers more_cut cut now now) where
       in_more : (stop : Stop) → Within (allowed stop killed cut) (allowed stop more_killed more_cut)
       in_more stop = allowed_within stop killed cut more_killed more_cut kc.each cc.each
@@ -234,35 +240,35 @@ module _ {V : Type 0} (known : V → Type 0) (seen : V → Image) (may_leave : V
       has_now stop = allowed_has stop more_killed more_cut now kc.has_now cc.has_now
 
       module _ (works : p.failed ≡ false) where
-        abbrev w : Works seen may_leave p killed cut
+        abbrev w : Works shows seen may_leave p killed cut
         w = out.works works
 
         pub run : (stop : Stop) → LeavesOnly moment left_since stop p.vault q.vault (IsBeforeOrNow w.lost (seen p.vault) (w.low stop) (parts_of p.tiers).drives)
         run stop = f.any_moment out.is_known w.lost (λ is. w.live) stop (w.low stop) (w.logged stop)
 
-        now_opens : (stop : Stop) (c : Cells) → IsKept w.lost (parts_of p.tiers).drives c
-            → OpensBut w.lost (allowed stop more_killed more_cut) (parts_of p.tiers).groups (length (parts_of p.tiers).drives) c
+        now_opens : (stop : Stop) (c : Cells) → IsPersisted w.lost (parts_of p.tiers).drives c
+            → OpensBut shows w.lost (allowed stop more_killed more_cut) (parts_of p.tiers).groups (length (parts_of p.tiers).drives) c
         now_opens stop c kept =
-            opens_now w.lost (table p killed cut w) (parts_of p.tiers).groups (length (parts_of p.tiers).drives) (allowed stop more_killed more_cut) p.tiers now c refl refl w.gone one holds (has_now stop) kept
+            opens_now shows w.lost (table p killed cut w) (parts_of p.tiers).groups (length (parts_of p.tiers).drives) (allowed stop more_killed more_cut) p.tiers now c refl refl w.gone one shown (has_now stop) kept
 
         old_opens : (stop : Stop) (n : ℕ) → w.low stop ≤ n → n ≤ length (seen p.vault).journal
-            → OpensBut w.lost (allowed stop more_killed more_cut) (parts_of p.tiers).groups (length (parts_of p.tiers).drives) (after (seen p.vault).cells (flat (take n (seen p.vault).journal)))
+            → OpensBut shows w.lost (allowed stop more_killed more_cut) (parts_of p.tiers).groups (length (parts_of p.tiers).drives) (after (seen p.vault).cells (flat (take n (seen p.vault).journal)))
         old_opens stop n low most =
-            opens_more w.lost (table p killed cut w) (parts_of p.tiers).groups (length (parts_of p.tiers).drives) (allowed stop killed cut) (allowed stop more_killed more_cut) _ (in_more stop) (w.opens stop n low most)
+            opens_more shows w.lost (table p killed cut w) (parts_of p.tiers).groups (length (parts_of p.tiers).drives) (allowed stop killed cut) (allowed stop more_killed more_cut) _ (in_more stop) (w.opens stop n low most)
 
         either_opens : (stop : Stop) (i : Image) → IsBeforeOrNow w.lost (seen p.vault) (w.low stop) (parts_of p.tiers).drives i
-            → OpensBut w.lost (allowed stop more_killed more_cut) (parts_of p.tiers).groups (length (parts_of p.tiers).drives) (recovered i)
+            → OpensBut shows w.lost (allowed stop more_killed more_cut) (parts_of p.tiers).groups (length (parts_of p.tiers).drives) (recovered i)
         either_opens stop i is =
-            opens_either w.lost (table p killed cut w) (parts_of p.tiers).groups (length (parts_of p.tiers).drives) (allowed stop more_killed more_cut) (seen p.vault) (w.low stop) (parts_of p.tiers).drives i
+            opens_either shows w.lost (table p killed cut w) (parts_of p.tiers).groups (length (parts_of p.tiers).drives) (allowed stop more_killed more_cut) (seen p.vault) (w.low stop) (parts_of p.tiers).drives i
             (old_opens stop) (now_opens stop) is
 
         pub at_moment : (stop : Stop) (i : Image) → IsBeforeOrNow w.lost (seen p.vault) (w.low stop) (parts_of p.tiers).drives i
-            → OpensAs (allowed stop more_killed more_cut) (parts_of q.tiers).groups (length (parts_of q.tiers).drives) (recovered i)
+            → OpensAs shows (allowed stop more_killed more_cut) (parts_of q.tiers).groups (length (parts_of q.tiers).drives) (recovered i)
         at_moment stop i is =
             as_new (allowed stop more_killed more_cut) (recovered i)
-            (opens_as w.lost (table p killed cut w) (parts_of p.tiers).groups (length (parts_of p.tiers).drives) (allowed stop more_killed more_cut) (recovered i) (either_opens stop i is))
+            (opens_as shows w.lost (table p killed cut w) (parts_of p.tiers).groups (length (parts_of p.tiers).drives) (allowed stop more_killed more_cut) (recovered i) (either_opens stop i is))
 
-        works_on : q.failed ≡ false → Works seen may_leave q more_killed more_cut
+        works_on : q.failed ≡ false → Works shows seen may_leave q more_killed more_cut
         works_on on = record {
           lost = w.lost;
           few = w.few;
@@ -299,16 +305,16 @@ module _ {V : Type 0} (known : V → Type 0) (seen : V → Image) (may_leave : V
             low_then PowerLost n low = (let few = cut_now.1 in omega (arith, low, few))
 
             opens_then : (stop : Stop) (n : ℕ) → low_now stop ≤ n → n ≤ length (seen q.vault).journal
-                → OpensBut w.lost (allowed stop more_killed more_cut) (parts_of q.tiers).groups (length (parts_of q.tiers).drives) (after (seen q.vault).cells (flat (take n (seen q.vault).journal)))
+                → OpensBut shows w.lost (allowed stop more_killed more_cut) (parts_of q.tiers).groups (length (parts_of q.tiers).drives) (after (seen q.vault).cells (flat (take n (seen q.vault).journal)))
             opens_then stop n low most =
-                subst (λ (t : TiersView). OpensBut w.lost (allowed stop more_killed more_cut) (parts_of t).groups (length (parts_of t).drives) (after (seen q.vault).cells (flat (take n (seen q.vault).journal)))) (sym f.tiers)
+                subst (λ (t : TiersView). OpensBut shows w.lost (allowed stop more_killed more_cut) (parts_of t).groups (length (parts_of t).drives) (after (seen q.vault).cells (flat (take n (seen q.vault).journal)))) (sym f.tiers)
                 (either_opens stop (record { cells = (seen q.vault).cells; journal = take n (seen q.vault).journal })
                 (f.batches out.is_known w.lost (λ is. w.live) on (w.low stop) (record { cells = (seen q.vault).cells; journal = take n (seen q.vault).journal })
-                (record { count = n; least = low_then stop n low; most = most; stands = λ x live. refl })))
+                (record { count = n; least = low_then stop n low; most = most; matches = λ x live. refl })))
 
       left_at : (t : ℕ) → t ≤ moment p.vault → (stop : Stop) (i : Image) → left_since q.vault stop t i
-          → (left_since p.vault stop t i → OpensAs (allowed stop more_killed more_cut) (parts_of q.tiers).groups (length (parts_of q.tiers).drives) (recovered i))
-          → OpensAs (allowed stop more_killed more_cut) (parts_of q.tiers).groups (length (parts_of q.tiers).drives) (recovered i)
+          → (left_since p.vault stop t i → OpensAs shows (allowed stop more_killed more_cut) (parts_of q.tiers).groups (length (parts_of q.tiers).drives) (recovered i))
+          → OpensAs shows (allowed stop more_killed more_cut) (parts_of q.tiers).groups (length (parts_of q.tiers).drives) (recovered i)
       left_at t le stop i left was = elim (either p.failed) [
         | inl failed ↦ was (subst (λ v. left_since v stop t i) (f.still failed).0 left)
         | inr works ↦ (elim ((run works stop).before t i le left) [ inl before ↦ was before | inr is ↦ at_moment works stop i is ])
@@ -320,15 +326,15 @@ module _ {V : Type 0} (known : V → Type 0) (seen : V → Image) (may_leave : V
         | inr works ↦ (run works Killed).later
       ]
 
-      pub old_as : (stop : Stop) (i : Image) → may_leave p.vault stop i → OpensAs (allowed stop more_killed more_cut) (parts_of q.tiers).groups (length (parts_of q.tiers).drives) (recovered i)
+      pub old_as : (stop : Stop) (i : Image) → may_leave p.vault stop i → OpensAs shows (allowed stop more_killed more_cut) (parts_of q.tiers).groups (length (parts_of q.tiers).drives) (recovered i)
       old_as stop i may = let o = out.leaves stop i may in
-          as_new (allowed stop more_killed more_cut) (recovered i) (record { bytes = o.bytes; listed = in_more stop o.bytes o.listed; left = λ absent d there same. o.left absent d there same })
+          as_new (allowed stop more_killed more_cut) (recovered i) (record { what = o.what; listed = in_more stop o.what o.listed; left = λ absent d there same. o.left absent d there same })
 
-      pub during_by : OutlastsSince left_since q (moment p.vault) more_killed more_cut
+      pub during_by : OutlastsSince shows left_since q (moment p.vault) more_killed more_cut
       during_by stop i left = left_at (moment p.vault) (omega arith) stop i left (λ was. old_as stop i (only_now p.vault out.is_known stop i was))
 
-      pub behind_by : Outlasts known seen may_leave q more_killed more_cut
-      behind_by = record {
+      pub following_by : Outlasts shows known seen may_leave q more_killed more_cut
+      following_by = record {
         is_known = f.stays out.is_known;
         leaves = λ stop i may. during_by stop i (counts_now q.vault (f.stays out.is_known) stop (moment p.vault) i later_by may);
         works = λ on. elim (either p.failed) [
@@ -337,37 +343,37 @@ module _ {V : Type 0} (known : V → Type 0) (seen : V → Image) (may_leave : V
         ];
       }
 
-      pub earlier_by : (t : ℕ) (since_killed since_cut : List (List ℕ)) → t ≤ moment p.vault → OutlastsSince left_since p t since_killed since_cut
-          → Within since_killed more_killed → Within since_cut more_cut → OutlastsSince left_since q t more_killed more_cut
+      pub earlier_by : (t : ℕ) (since_killed since_cut : List (List ℕ)) → t ≤ moment p.vault → OutlastsSince shows left_since p t since_killed since_cut
+          → Within since_killed more_killed → Within since_cut more_cut → OutlastsSince shows left_since q t more_killed more_cut
       earlier_by t since_killed since_cut le since k c stop i left = left_at t le stop i left (λ was. let o = since stop i was in
           as_new (allowed stop more_killed more_cut) (recovered i)
-          (record { bytes = o.bytes; listed = allowed_within stop since_killed since_cut more_killed more_cut k c o.bytes o.listed; left = λ absent d there same. o.left absent d there same }))
+          (record { what = o.what; listed = allowed_within stop since_killed since_cut more_killed more_cut k c o.what o.listed; left = λ absent d there same. o.left absent d there same }))
 
     pub works_before : q.failed ≡ false → p.failed ≡ false
     works_before on = elim (either p.failed) [ inl failed ↦ absurd (true≢false (sym (f.still failed).1 ∙ on)) | inr works ↦ works ]
 
-    module _ (on : q.failed ≡ false) (kept : known p.vault → (lost : List Bool) → UnlessFailed p.failed (IsLive lost p.keeper p.noted p.batch (recovered (seen p.vault)))
-        → IsKept lost (parts_of q.tiers).drives (recovered (seen q.vault))) where
-      holds_now : Holds q.tiers now
-      holds_now = subst (λ (t : TiersView). Holds t now) (sym f.tiers) holds
+    module _ (on : q.failed ≡ false) (kept : known p.vault → (lost : List Bool) → UnlessFailed p.failed (IsUpToDate lost p.keeper p.noted p.batch (recovered (seen p.vault)))
+        → IsPersisted lost (parts_of q.tiers).drives (recovered (seen q.vault))) where
+      shown_now : shows q.tiers now
+      shown_now = subst (λ (t : TiersView). shows t now) (sym f.tiers) shown
 
       one_now : MissesOne (parts_of q.tiers).drives
       one_now = subst (λ (t : TiersView). MissesOne (parts_of t).drives) (sym f.tiers) one
 
-      pub published_acknowledges : (killed cut more_cut : List (List ℕ)) → Outlasts known seen may_leave p killed cut → Covers more_cut cut now now
-          → Outlasts known seen may_leave q (now ∷ []) more_cut
+      pub published_acknowledges : (killed cut more_cut : List (List ℕ)) → Outlasts shows known seen may_leave p killed cut → Covers more_cut cut now now
+          → Outlasts shows known seen may_leave q (now ∷ []) more_cut
       unfolding works_on
       published_acknowledges killed cut more_cut out c =
           let works = works_before on in
-          acknowledged q now holds_now one_now (killed ++ now ∷ now ∷ []) more_cut (f.stays out.is_known)
+          acknowledged q now shown_now one_now (killed ++ now ∷ now ∷ []) more_cut (f.stays out.is_known)
           (works_on killed cut (killed ++ now ∷ now ∷ []) more_cut out (covering killed now now) c works on)
           (kept out.is_known (out.works works).lost (λ is. (out.works works).live))
-          (λ i may. (behind_by killed cut (killed ++ now ∷ now ∷ []) more_cut out (covering killed now now) c).leaves PowerLost i may)
+          (λ i may. (following_by killed cut (killed ++ now ∷ now ∷ []) more_cut out (covering killed now now) c).leaves PowerLost i may)
 
-    pub published_lasts : Lasts (Outlasts known seen may_leave) (λ (r : Point V). moment r.vault) (OutlastsSince left_since) now now p q
+    pub published_lasts : Lasts (Outlasts shows known seen may_leave) (λ (r : Point V). moment r.vault) (OutlastsSince shows left_since) now now p q
     published_lasts = record {
       later = λ killed cut out. later_by killed cut (killed ++ now ∷ now ∷ []) (cut ++ now ∷ now ∷ []) out (covering killed now now) (covering cut now now);
-      behind = λ killed cut more_killed more_cut out k c. behind_by killed cut more_killed more_cut out k c;
+      following = λ killed cut more_killed more_cut out k c. following_by killed cut more_killed more_cut out k c;
       during = λ killed cut more_killed more_cut out k c. during_by killed cut more_killed more_cut out k c;
       earlier = λ t since_killed since_cut killed cut more_killed more_cut le since out wk wc k c. earlier_by killed cut more_killed more_cut out k c t since_killed since_cut le since wk wc;
     }
@@ -378,30 +384,30 @@ module _ {V : Type 0} (known : V → Type 0) (seen : V → Image) (may_leave : V
       (durable : q.failed ≡ false → known m.vault → (lost : List Bool) (stop : Stop) (low : ℕ) → IsLogged seen may_leave lost stop m.vault low
       → IsLogged seen may_leave lost stop q.vault (length (seen q.vault).journal))
       (any_moment : known m.vault → (lost : List Bool) (stop : Stop) (low : ℕ) → IsLogged seen may_leave lost stop m.vault low
-      → LeavesOnly moment left_since stop m.vault q.vault (StandsForSome lost (seen m.vault).cells low (seen m.vault).journal)) where
-    live_at : (lost : List Bool) (c : Cells) → IsLive lost m.keeper m.noted m.batch c → IsLive lost q.keeper q.noted q.batch c
+      → LeavesOnly moment left_since stop m.vault q.vault (RepresentsSome lost (seen m.vault).cells low (seen m.vault).journal)) where
+    live_at : (lost : List Bool) (c : Cells) → IsUpToDate lost m.keeper m.noted m.batch c → IsUpToDate lost q.keeper q.noted q.batch c
     live_at lost c live =
-        subst (λ (k : Course Units). IsLive lost k q.noted q.batch c) (sym keeper)
-        (subst (λ (n : List ℕ). IsLive lost m.keeper n q.batch c) (sym noted) (subst (λ (b : List Wanted). IsLive lost m.keeper m.noted b c) (sym batch) live))
+        subst (λ (k : Course Units). IsUpToDate lost k q.noted q.batch c) (sym keeper)
+        (subst (λ (n : List ℕ). IsUpToDate lost m.keeper n q.batch c) (sym noted) (subst (λ (b : List Intended). IsUpToDate lost m.keeper m.noted b c) (sym batch) live))
 
     pub synced : Published known seen may_leave moment left_since m q
     synced = record {
       tiers = tiers;
       stays = stays;
       still = λ failed. absurd (true≢false (sym failed ∙ on));
-      step = λ is lost live ok. subst (λ (i : Image). IsLive lost q.keeper q.noted q.batch (recovered i)) (sym (same is)) (live_at lost (recovered (seen m.vault)) (live on));
+      step = λ is lost live ok. subst (λ (i : Image). IsUpToDate lost q.keeper q.noted q.batch (recovered i)) (sym (same is)) (live_at lost (recovered (seen m.vault)) (live on));
       killed = λ is lost logged ok. durable ok is lost Killed (length (seen m.vault).journal) (logged on);
       logged = λ is lost stop low logged ok. (
         length (seen q.vault).journal,
         (let all = (logged on).flushed in omega (arith, all, ap (λ (i : Image). length i.journal) (same is))),
         durable ok is lost stop low (logged on),
       );
-      batches = λ is lost live ok low i some. inl (subst (λ (s : Image). StandsForSome lost s.cells low s.journal i) (same is) some);
-      any_moment = λ is lost live stop low logged. weaker moment left_since stop m.vault q.vault (StandsForSome lost (seen m.vault).cells low (seen m.vault).journal)
+      batches = λ is lost live ok low i some. inl (subst (λ (s : Image). RepresentsSome lost s.cells low s.journal i) (same is) some);
+      any_moment = λ is lost live stop low logged. weaker moment left_since stop m.vault q.vault (RepresentsSome lost (seen m.vault).cells low (seen m.vault).journal)
           (IsBeforeOrNow lost (seen m.vault) low (parts_of m.tiers).drives) (any_moment is lost stop low logged) (λ i some. inl some);
     }
 
-    pub synced_outlasts : q.failed ≡ false → (killed cut : List (List ℕ)) → Outlasts known seen may_leave m killed cut → Outlasts known seen may_leave q killed killed
+    pub synced_outlasts : q.failed ≡ false → (killed cut : List (List ℕ)) → Outlasts shows known seen may_leave m killed cut → Outlasts shows known seen may_leave q killed killed
     synced_outlasts ok killed cut out = record {
       is_known = stays out.is_known;
       leaves = λ stop i may. one_list stop i (all_left stop i may);
@@ -409,7 +415,7 @@ module _ {V : Type 0} (known : V → Type 0) (seen : V → Image) (may_leave : V
         lost = w.lost;
         few = w.few;
         gone = subst (λ (t : TiersView). (d : ℕ) → is_lost w.lost d ≡ true → lost_of (parts_of t) d ≡ true) (sym tiers) w.gone;
-        live = subst (λ (i : Image). IsLive w.lost q.keeper q.noted q.batch (recovered i)) (sym (same out.is_known)) (live_at w.lost (recovered (seen m.vault)) w.live);
+        live = subst (λ (i : Image). IsUpToDate w.lost q.keeper q.noted q.batch (recovered i)) (sym (same out.is_known)) (live_at w.lost (recovered (seen m.vault)) w.live);
         low = λ stop. length (seen q.vault).journal;
         logged = λ stop. all stop;
         all = refl;
@@ -417,31 +423,31 @@ module _ {V : Type 0} (known : V → Type 0) (seen : V → Image) (may_leave : V
       };
     }
       where
-        w : Works seen may_leave m killed cut
+        w : Works shows seen may_leave m killed cut
         w = out.works on
 
         all : (stop : Stop) → IsLogged seen may_leave w.lost stop q.vault (length (seen q.vault).journal)
         all stop = durable ok out.is_known w.lost stop (w.low stop) (w.logged stop)
 
         all_opens : (n : ℕ) → length (seen q.vault).journal ≤ n → n ≤ length (seen q.vault).journal
-            → OpensBut w.lost killed (parts_of q.tiers).groups (length (parts_of q.tiers).drives) (after (seen q.vault).cells (flat (take n (seen q.vault).journal)))
+            → OpensBut shows w.lost killed (parts_of q.tiers).groups (length (parts_of q.tiers).drives) (after (seen q.vault).cells (flat (take n (seen q.vault).journal)))
         all_opens n least most =
-            subst (λ (t : TiersView). OpensBut w.lost killed (parts_of t).groups (length (parts_of t).drives) (after (seen q.vault).cells (flat (take n (seen q.vault).journal)))) (sym tiers)
-            (subst (λ (s : Image). OpensBut w.lost killed (parts_of m.tiers).groups (length (parts_of m.tiers).drives) (after s.cells (flat (take n s.journal)))) (sym (same out.is_known))
+            subst (λ (t : TiersView). OpensBut shows w.lost killed (parts_of t).groups (length (parts_of t).drives) (after (seen q.vault).cells (flat (take n (seen q.vault).journal)))) (sym tiers)
+            (subst (λ (s : Image). OpensBut shows w.lost killed (parts_of m.tiers).groups (length (parts_of m.tiers).drives) (after s.cells (flat (take n s.journal)))) (sym (same out.is_known))
             (w.opens Killed n (let long = ap (λ (i : Image). length i.journal) (same out.is_known) in let a = w.all in omega (arith, a, least, long))
             (let long = ap (λ (i : Image). length i.journal) (same out.is_known) in omega (arith, most, long))))
 
-        all_left : (stop : Stop) (i : Image) → may_leave q.vault stop i → OpensAs killed (parts_of q.tiers).groups (length (parts_of q.tiers).drives) (recovered i)
+        all_left : (stop : Stop) (i : Image) → may_leave q.vault stop i → OpensAs shows killed (parts_of q.tiers).groups (length (parts_of q.tiers).drives) (recovered i)
         all_left stop i may =
-            opens_as w.lost (table m killed cut w) (parts_of q.tiers).groups (length (parts_of q.tiers).drives) killed (recovered i)
-            (opens_left w.lost (table m killed cut w) (parts_of q.tiers).groups (length (parts_of q.tiers).drives) seen may_leave killed stop q.vault (length (seen q.vault).journal) i (all stop) may all_opens)
+            opens_as shows w.lost (table m killed cut w) (parts_of q.tiers).groups (length (parts_of q.tiers).drives) killed (recovered i)
+            (opens_left shows w.lost (table m killed cut w) (parts_of q.tiers).groups (length (parts_of q.tiers).drives) seen may_leave killed stop q.vault (length (seen q.vault).journal) i (all stop) may all_opens)
 
-        one_list : (stop : Stop) (i : Image) → OpensAs killed (parts_of q.tiers).groups (length (parts_of q.tiers).drives) (recovered i)
-            → OpensAs (allowed stop killed killed) (parts_of q.tiers).groups (length (parts_of q.tiers).drives) (recovered i)
+        one_list : (stop : Stop) (i : Image) → OpensAs shows killed (parts_of q.tiers).groups (length (parts_of q.tiers).drives) (recovered i)
+            → OpensAs shows (allowed stop killed killed) (parts_of q.tiers).groups (length (parts_of q.tiers).drives) (recovered i)
         one_list Killed i o = o
         one_list PowerLost i o = o
 
-        one_opens : (stop : Stop) (n : ℕ) → OpensBut w.lost killed (parts_of q.tiers).groups (length (parts_of q.tiers).drives) (after (seen q.vault).cells (flat (take n (seen q.vault).journal)))
-            → OpensBut w.lost (allowed stop killed killed) (parts_of q.tiers).groups (length (parts_of q.tiers).drives) (after (seen q.vault).cells (flat (take n (seen q.vault).journal)))
+        one_opens : (stop : Stop) (n : ℕ) → OpensBut shows w.lost killed (parts_of q.tiers).groups (length (parts_of q.tiers).drives) (after (seen q.vault).cells (flat (take n (seen q.vault).journal)))
+            → OpensBut shows w.lost (allowed stop killed killed) (parts_of q.tiers).groups (length (parts_of q.tiers).drives) (after (seen q.vault).cells (flat (take n (seen q.vault).journal)))
         one_opens Killed n o = o
         one_opens PowerLost n o = o

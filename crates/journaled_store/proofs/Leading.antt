@@ -4,14 +4,14 @@ use Rattle.std.specs.Prelude.{slice_get, slice_index_or, Some}
 use Rattle.extents.specs.Failures.{unsteady}
 use Rattle.extents.specs.Units.{loss}
 use Rattle.extent_groups.specs.Cells.{Cells}
-use Rattle.extent_groups.specs.Planned.{Wanted, after}
+use Rattle.extent_groups.specs.Planned.{Intended, after}
 use Rattle.extent_groups.proofs.Places.{same_or_not}
 use Rattle.vault.specs.Images.{is_lost}
 use Rattle.vault.proofs.Writes.{after_both}
 use Rattle.history.specs.declared.view.Entry.{Entry}
 use Rattle.history.specs.Entries.{Course, entry, entries_by}
 use Rattle.history.proofs.Entries.{entries_own, entries_other}
-use Rattle.array_parts.specs.Views.{DriveView}
+use Rattle.unit_store.specs.Views.{DriveView}
 use Rattle.cached_drive.specs.Saving.{Units, Brings, saved_by, last_of}
 use Rattle.cached_drive.proofs.Bringing.{last_is}
 use Rattle.std.proofs.lemmas.Option.{none-some, same_Some}
@@ -25,7 +25,7 @@ pub saved_other : (d n : ℕ) (log : List (Entry Units)) (units : Units) → n �
 saved_other d n log units ne = ap (last_of []) (entries_other d log (entry n units) ne)
 
 -- a drive's save
-pub leads_by : (k now : Course Units) (marks : List ℕ) (batch more writes : List Wanted) (n : ℕ) (units : Units) → n < 16 → n < k.hired
+pub leads_by : (k now : Course Units) (marks : List ℕ) (batch more writes : List Intended) (n : ℕ) (units : Units) → n < 16 → n < k.hired
     → now ≡ record { hired = k.hired; log = k.log ++ entry n units ∷ [] } → more ≡ batch ++ writes → Brings n (saved_by n k.log) units writes
     → LeadsTo k batch marks now more marks
 leads_by k now marks batch more writes n units low below is put brings =
@@ -92,7 +92,7 @@ shown_at log lost (suc n) d v at = ⊎_elim
     (last_or_before (views_to log lost n) (view_at log lost n) v d at)
 
 -- once all drives were shown, the units in step are theirs
-pub shown_has : (k now : Course Units) (batch more : List Wanted) (lost : List Bool) (marks left : List ℕ) (n : ℕ) (drives : List DriveView) → LeadsTo k batch marks now more left → drives ≡ views_to now.log lost n → n ≤ now.hired
+pub shown_has : (k now : Course Units) (batch more : List Intended) (lost : List Bool) (marks left : List ℕ) (n : ℕ) (drives : List DriveView) → LeadsTo k batch marks now more left → drives ≡ views_to now.log lost n → n ≤ now.hired
     → (gone : List Bool) (c : Cells) → IsInStep gone k batch c → HasDrives gone drives (after c more)
 shown_has k now batch more lost marks left n drives leads is few gone c step = record {
   each = λ d at v there on.
@@ -102,7 +102,7 @@ shown_has k now batch more lost marks left n drives leads is few gone c step = r
 }
 
 -- units that are the same are in step with the same
-pub step_same : (lost : List Bool) (k : Course Units) (batch : List Wanted) (c d : Cells) → ((drive at : ℕ) → d drive at ≡ after c batch drive at) → IsInStep lost k batch c → IsInStep lost k [] d
+pub step_same : (lost : List Bool) (k : Course Units) (batch : List Intended) (c d : Cells) → ((drive at : ℕ) → d drive at ≡ after c batch drive at) → IsInStep lost k batch c → IsInStep lost k [] d
 step_same lost k batch c d same step = record { each = λ drive at low on. same drive at ∙ step.each drive at low on }
 
 pub drives_same : (lost : List Bool) (drives : List DriveView) (c d : Cells) → ((drive at : ℕ) → d drive at ≡ c drive at) → HasDrives lost drives c → HasDrives lost drives d

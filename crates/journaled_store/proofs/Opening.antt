@@ -1,20 +1,19 @@
--- Of which units an array is opened with which bytes.
+-- Of which units an array is opened that shows what.
 use Rattle.std.proofs.Common.{◌≡◌, ◌<◌, ◌≤◌, ◌⊎◌, true≢false, inl, inr, ℕ, zero, suc, arith, Bool, true, false, Option, Some, List, [], ◌∷◌, length, take, slice_get, refl, sym, ◌∙◌, ap, subst}
 use Rattle.std.specs.Prelude.{◌||◌, Contains}
 use Rattle.std.proofs.lemmas.Option.{slice_get_cases}
 use Rattle.extent_groups.specs.Groups.{Groups}
 use Rattle.extent_groups.specs.Missing.{is_missing}
 use Rattle.extent_groups.specs.Cells.{Cells}
-use Rattle.extent_groups.specs.Planned.{Wanted, after}
-use Rattle.array_parts.specs.Views.{DriveView, PartsView, drive_lost, lost_of}
-use Rattle.background.specs.Views.{TiersView}
-use Rattle.array_store.specs.Blocks.{Holds}
+use Rattle.extent_groups.specs.Planned.{Intended, after}
+use Rattle.unit_store.specs.Views.{DriveView, PartsView, drive_lost, lost_of}
+use Rattle.tiered_array.specs.Views.{TiersView}
 use Rattle.byte_store.specs.Lasting.{Within}
 use Rattle.vault.specs.Images.{Image, SameOn, flat, is_lost, recovered}
-use Rattle.vault.specs.Moments.{IsLogged, StandsForSome}
+use Rattle.vault.specs.Moments.{IsLogged, RepresentsSome}
 use Rattle.vault.specs.declared.store.Stop.{Stop}
-use Rattle.vault.proofs.Writes.{front_stands}
-use Rattle.journaled_store.specs.Steps.{IsBeforeOrNow, IsKept}
+use Rattle.vault.proofs.Writes.{front_matches}
+use Rattle.journaled_store.specs.Steps.{IsBeforeOrNow, IsPersisted}
 use Rattle.journaled_store.specs.Left.{IsLeftOf, IsLostIn, MissesOne}
 use Rattle.journaled_store.specs.Outlasting.{OpensAs, OpensBut, parts_of}
 use Rattle.journaled_store.proofs.Settled.{kept_on}
@@ -66,14 +65,14 @@ none_of : (a b : Bool) → a ≡ false → b ≡ false → (a || b) ≡ false
 none_of true b e f = e
 none_of false b e f = f
 
-module _ (lost : List Bool) (table : is_lost lost 16 ≡ false) (groups : Groups) (count : ℕ) where
-  -- with more bytes in the list
-  pub opens_more : (some more : List (List ℕ)) (c : Cells) → Within some more → OpensBut lost some groups count c → OpensBut lost more groups count c
+module _ (shows : TiersView → List ℕ → Type 0) (lost : List Bool) (table : is_lost lost 16 ≡ false) (groups : Groups) (count : ℕ) where
+  -- with more in the list
+  pub opens_more : (some more : List (List ℕ)) (c : Cells) → Within some more → OpensBut shows lost some groups count c → OpensBut shows lost more groups count c
   opens_more some more c within o = record {
-    bytes = o.bytes;
-    listed = within o.bytes o.listed;
+    what = o.what;
+    listed = within o.what o.listed;
     tiers = o.tiers;
-    holds = o.holds;
+    shown = o.shown;
     groups_are = o.groups_are;
     many = o.many;
     one = o.one;
@@ -82,12 +81,12 @@ module _ (lost : List Bool) (table : is_lost lost 16 ≡ false) (groups : Groups
   }
 
   -- of the same units, but for lost drives
-  pub opens_on : (list : List (List ℕ)) (c d : Cells) → SameOn lost d c → OpensBut lost list groups count c → OpensBut lost list groups count d
+  pub opens_on : (list : List (List ℕ)) (c d : Cells) → SameOn lost d c → OpensBut shows lost list groups count c → OpensBut shows lost list groups count d
   opens_on list c d same o = record {
-    bytes = o.bytes;
+    what = o.what;
     listed = o.listed;
     tiers = o.tiers;
-    holds = o.holds;
+    shown = o.shown;
     groups_are = o.groups_are;
     many = o.many;
     one = o.one;
@@ -95,31 +94,31 @@ module _ (lost : List Bool) (table : is_lost lost 16 ≡ false) (groups : Groups
     gone = o.gone;
   }
 
-  pub opens_as : (list : List (List ℕ)) (c : Cells) → OpensBut lost list groups count c → OpensAs list groups count c
-  opens_as list c o = record { bytes = o.bytes; listed = o.listed; left = λ absent d there same. left absent d there same }
+  pub opens_as : (list : List (List ℕ)) (c : Cells) → OpensBut shows lost list groups count c → OpensAs shows list groups count c
+  opens_as list c o = record { what = o.what; listed = o.listed; left = λ absent d there same. left absent d there same }
     where
-      left : (absent : List Bool) (d : Cells) → is_lost absent 16 ≡ false → SameOn absent d c → IsLeftOf o.bytes groups count absent d
+      left : (absent : List Bool) (d : Cells) → is_lost absent 16 ≡ false → SameOn absent d c → IsLeftOf shows o.what groups count absent d
       left absent d there same = record {
         tiers = o.tiers;
-        holds = o.holds;
+        shown = o.shown;
         groups_are = o.groups_are;
         many = o.many;
         one = o.one;
         lost = either_lost lost absent;
         kept = kept_on (either_lost lost absent) (parts_of o.tiers).drives c d (lost_at lost absent 16 ∙ none_of (is_lost lost 16) (is_lost absent 16) table there)
             (λ x on. same x (neither (is_lost lost x.drive) (is_lost absent x.drive) (sym (lost_at lost absent x.drive) ∙ on)).1)
-            (record { has = record { each = λ n at v is on. o.kept.has.each n at v is (neither (is_lost lost n) (is_lost absent n) (sym (lost_at lost absent n) ∙ on)).0 }; marks = o.kept.marks; noted = o.kept.noted; told = o.kept.told });
+            (record { has = record { each = λ n at v is on. o.kept.has.each n at v is (neither (is_lost lost n) (is_lost absent n) (sym (lost_at lost absent n) ∙ on)).0 }; marks = o.kept.marks; noted = o.kept.noted; reported = o.kept.reported });
         excused = λ n low is. elim (one_or_both (is_lost lost n) (is_lost absent n) (sym (lost_at lost absent n) ∙ is)) [ inl one ↦ inr (o.gone n low one) | inr two ↦ inl two ];
       }
 
   -- of the units that the drives hold now
   pub opens_now : (list : List (List ℕ)) (t : TiersView) (now : List ℕ) (c : Cells) → (parts_of t).groups ≡ groups → length (parts_of t).drives ≡ count
-      → ((d : ℕ) → is_lost lost d ≡ true → lost_of (parts_of t) d ≡ true) → MissesOne (parts_of t).drives → Holds t now → Contains list now → IsKept lost (parts_of t).drives c → OpensBut lost list groups count c
-  opens_now list t now c groups_are many gone one holds listed kept = record {
-    bytes = now;
+      → ((d : ℕ) → is_lost lost d ≡ true → lost_of (parts_of t) d ≡ true) → MissesOne (parts_of t).drives → shows t now → Contains list now → IsPersisted lost (parts_of t).drives c → OpensBut shows lost list groups count c
+  opens_now list t now c groups_are many gone one shown listed kept = record {
+    what = now;
     listed = listed;
     tiers = t;
-    holds = holds;
+    shown = shown;
     groups_are = groups_are;
     many = many;
     one = one;
@@ -128,23 +127,23 @@ module _ (lost : List Bool) (table : is_lost lost 16 ≡ false) (groups : Groups
   }
 
   -- of an image that stands for some of a journal's batches, or for what the drives hold now
-  pub opens_some : (list : List (List ℕ)) (cells : Cells) (journal : List (List Wanted)) (low : ℕ) (i : Image)
-      → ((n : ℕ) → low ≤ n → n ≤ length journal → OpensBut lost list groups count (after cells (flat (take n journal))))
-      → StandsForSome lost cells low journal i → OpensBut lost list groups count (recovered i)
+  pub opens_some : (list : List (List ℕ)) (cells : Cells) (journal : List (List Intended)) (low : ℕ) (i : Image)
+      → ((n : ℕ) → low ≤ n → n ≤ length journal → OpensBut shows lost list groups count (after cells (flat (take n journal))))
+      → RepresentsSome lost cells low journal i → OpensBut shows lost list groups count (recovered i)
   opens_some list cells journal low i old some =
-      opens_on list (after cells (flat (take some.count journal))) (recovered i) some.stands (old some.count some.least some.most)
+      opens_on list (after cells (flat (take some.count journal))) (recovered i) some.matches (old some.count some.least some.most)
 
   pub opens_either : (list : List (List ℕ)) (base : Image) (low : ℕ) (drives : List DriveView) (i : Image)
-      → ((n : ℕ) → low ≤ n → n ≤ length base.journal → OpensBut lost list groups count (after base.cells (flat (take n base.journal))))
-      → ((c : Cells) → IsKept lost drives c → OpensBut lost list groups count c)
-      → IsBeforeOrNow lost base low drives i → OpensBut lost list groups count (recovered i)
+      → ((n : ℕ) → low ≤ n → n ≤ length base.journal → OpensBut shows lost list groups count (after base.cells (flat (take n base.journal))))
+      → ((c : Cells) → IsPersisted lost drives c → OpensBut shows lost list groups count c)
+      → IsBeforeOrNow lost base low drives i → OpensBut shows lost list groups count (recovered i)
   opens_either list base low drives i old now (inl some) = opens_some list base.cells base.journal low i old some
-  opens_either list base low drives i old now (inr (c, stands, kept)) = opens_on list c (recovered i) stands (now c kept)
+  opens_either list base low drives i old now (inr (c, matches, kept)) = opens_on list c (recovered i) matches (now c kept)
 
   -- of what a stop leaves
   pub opens_left : {V : Type 0} (seen : V → Image) (may_leave : V → Stop → Image → Type 0) (list : List (List ℕ)) (stop : Stop) (vault : V) (low : ℕ) (i : Image)
       → IsLogged seen may_leave lost stop vault low → may_leave vault stop i
-      → ((n : ℕ) → low ≤ n → n ≤ length (seen vault).journal → OpensBut lost list groups count (after (seen vault).cells (flat (take n (seen vault).journal))))
-      → OpensBut lost list groups count (recovered i)
+      → ((n : ℕ) → low ≤ n → n ≤ length (seen vault).journal → OpensBut shows lost list groups count (after (seen vault).cells (flat (take n (seen vault).journal))))
+      → OpensBut shows lost list groups count (recovered i)
   opens_left seen may_leave list stop vault low i logged left old =
-      opens_some list (seen vault).cells (seen vault).journal low i old (front_stands lost (seen vault) i low (logged.leaves i left))
+      opens_some list (seen vault).cells (seen vault).journal low i old (front_matches lost (seen vault) i low (logged.leaves i left))

@@ -3,20 +3,20 @@ use Rattle.std.proofs.Common.{◌≡◌, ◌≢◌, ◌≤◌, ℕ, zero, suc, a
 use Rattle.std.specs.Prelude.{Result, Ok, Err, OnOk, IfErr, slice_get}
 use Rattle.extent_groups.specs.declared.place.Place.{Place}
 use Rattle.extent_groups.specs.Cells.{Cells}
-use Rattle.extent_groups.specs.Planned.{Wanted, after}
-use Rattle.vault.specs.Images.{Image, SameOn, flat, is_lost, is_on, recovered}
-use Rattle.vault.specs.Moments.{AreLogged, IsSettled, IsKept as Still}
+use Rattle.extent_groups.specs.Planned.{Intended, after}
+use Rattle.vault.specs.Images.{Image, SameOn, flat, is_lost, is_some_true, recovered}
+use Rattle.vault.specs.Moments.{AreLogged, IsSettled, IsPreserved as Still}
 use Rattle.vault.specs.declared.store.Stop.{Stop}
 use Rattle.vault.specs.declared.store.VaultError.{VaultError}
 use Rattle.vault.specs.declared.store.VaultError.TheVariants as error
 use Rattle.vault.proofs.Writes.{same_here}
 use Rattle.history.specs.Entries.{Course}
-use Rattle.array_parts.specs.Views.{DriveView}
+use Rattle.unit_store.specs.Views.{DriveView}
 use Rattle.cached_drive.specs.Saving.{Units}
-use Rattle.journaled_store.specs.Steps.{IsKept, IsLive, UnlessJournal}
+use Rattle.journaled_store.specs.Steps.{IsPersisted, IsUpToDate, UnlessJournal}
 
 -- past the last mark there is none
-pub no_mark : (marks : List Bool) (n : ℕ) → length marks ≤ n → is_on (slice_get marks n) ≡ false
+pub no_mark : (marks : List Bool) (n : ℕ) → length marks ≤ n → is_some_true (slice_get marks n) ≡ false
 no_mark [] n le = refl
 no_mark (m ∷ marks) zero le = absurd (omega (arith, le))
 no_mark (m ∷ marks) (suc n) le = no_mark marks n (omega (arith, le))
@@ -28,19 +28,19 @@ table_there lost long = no_mark lost 16 (omega (arith, long))
 abbrev place_at : ℕ → ℕ → Place
 place_at drive address = record { drive = drive; address = address }
 
-pub live_on : (lost : List Bool) (k : Course Units) (marks : List ℕ) (batch : List Wanted) (c d : Cells) → is_lost lost 16 ≡ false → SameOn lost d c
-    → IsLive lost k marks batch c → IsLive lost k marks batch d
+pub live_on : (lost : List Bool) (k : Course Units) (marks : List ℕ) (batch : List Intended) (c d : Cells) → is_lost lost 16 ≡ false → SameOn lost d c
+    → IsUpToDate lost k marks batch c → IsUpToDate lost k marks batch d
 live_on lost k marks batch c d table same live = record {
   step = record { each = λ n at low on. same_here batch d c (place_at n at) (same (place_at n at) on) ∙ live.step.each n at low on };
   noted = same_here batch d c (place_at 16 0) (same (place_at 16 0) table) ∙ live.noted;
 }
 
-pub kept_on : (lost : List Bool) (drives : List DriveView) (c d : Cells) → is_lost lost 16 ≡ false → SameOn lost d c → IsKept lost drives c → IsKept lost drives d
+pub kept_on : (lost : List Bool) (drives : List DriveView) (c d : Cells) → is_lost lost 16 ≡ false → SameOn lost d c → IsPersisted lost drives c → IsPersisted lost drives d
 kept_on lost drives c d table same kept = record {
   has = record { each = λ n at v there on. same (place_at n at) on ∙ kept.has.each n at v there on };
   marks = kept.marks;
   noted = same (place_at 16 0) table ∙ kept.noted;
-  told = kept.told;
+  reported = kept.reported;
 }
 
 -- another failure than the journal's

@@ -2,8 +2,8 @@
 use Rattle.std.proofs.Common.{◌≡◌, inr, ℕ, Bool, true, false, List, length, refl, sym, ◌∙◌, ap, subst}
 use Rattle.std.specs.Prelude.{Result, Ok, Err, OnOk, is_err, slice_get}
 use Rattle.std.proofs.lemmas.Bool.{true≢false}
-use Rattle.byte_store.specs.Flat.{Flat, Sizes}
-use Rattle.byte_store.specs.Changes.{IsChanged, IsFlushed, IsTorn}
+use Rattle.byte_store.specs.Flat.{StoreState, Sizes}
+use Rattle.byte_store.specs.Changes.{IsChanged, IsFlushed, IsTornWrite}
 use Rattle.array_store.specs.Blocks.{Holds}
 use Rattle.array_store.specs.Stores.{IsStoreOf, StoreView}
 
@@ -13,35 +13,35 @@ unless_err (Ok x) is p = p
 unless_err (Err e) is p = absurd (true≢false is)
 
 -- the flat store with the note that a store has
-abbrev pub noting : Bool → Flat → Flat
+abbrev pub noting : Bool → StoreState → StoreState
 noting unsynced F = record { bytes = F.bytes; unsynced = unsynced }
 
 -- a write of an array that isn't published is one that stopped somewhere
-pub torn_over : {E : Type 0} (r : Result (Unit {0}) E) (F G : Flat) (was : Bool) (offset : ℕ) (bytes : List ℕ) → length G.bytes ≡ length F.bytes
-    → IsChanged r (noting was F) offset bytes G → IsTorn F offset bytes (noting true G)
+pub torn_over : {E : Type 0} (r : Result (Unit {0}) E) (F G : StoreState) (was : Bool) (offset : ℕ) (bytes : List ℕ) → length G.bytes ≡ length F.bytes
+    → IsChanged r (noting was F) offset bytes G → IsTornWrite F offset bytes (noting true G)
 torn_over (Ok x) F G was offset bytes long written = record { size = long; each = λ k. inr (ap (λ xs. slice_get xs k) written.bytes_are); unsynced = inr refl }
 torn_over (Err e) F G was offset bytes long torn = record { size = long; each = torn.each; unsynced = inr refl }
 
 -- one that is published is what the array made of it
-pub changed_over : {E : Type 0} (r : Result (Unit {0}) E) (F G : Flat) (was : Bool) (offset : ℕ) (bytes : List ℕ) → length G.bytes ≡ length F.bytes
+pub changed_over : {E : Type 0} (r : Result (Unit {0}) E) (F G : StoreState) (was : Bool) (offset : ℕ) (bytes : List ℕ) → length G.bytes ≡ length F.bytes
     → IsChanged r (noting was F) offset bytes G → IsChanged r F offset bytes (noting true G)
 changed_over (Ok x) F G was offset bytes long written = record { bytes_are = written.bytes_are; unsynced = refl }
 changed_over (Err e) F G was offset bytes long torn = torn_over (Err e) F G was offset bytes long torn
 
 -- a flush leaves the bytes
-pub flushed_bytes : {E : Type 0} (r : Result (Unit {0}) E) (F G : Flat) → IsFlushed r F G → G.bytes ≡ F.bytes
+pub flushed_bytes : {E : Type 0} (r : Result (Unit {0}) E) (F G : StoreState) → IsFlushed r F G → G.bytes ≡ F.bytes
 flushed_bytes (Ok x) F G flushed = flushed.0
-flushed_bytes (Err e) F G same = ap (λ (f : Flat). f.bytes) same
+flushed_bytes (Err e) F G same = ap (λ (f : StoreState). f.bytes) same
 
 -- a store with another note
-pub with_note : (s : StoreView) (unsynced : Bool) (F : Flat) → IsStoreOf s.tiers s.size unsynced F → IsStoreOf s.tiers s.size s.unsynced (noting s.unsynced F)
+pub with_note : (s : StoreView) (unsynced : Bool) (F : StoreState) → IsStoreOf s.tiers s.size unsynced F → IsStoreOf s.tiers s.size s.unsynced (noting s.unsynced F)
 with_note s unsynced F is = record { holds = is.holds; long = is.long; noted = refl }
 
-pub own_note : (s : StoreView) (was unsynced : Bool) (F : Flat) → F.unsynced ≡ unsynced → IsStoreOf s.tiers s.size s.unsynced (noting was F) → IsStoreOf s.tiers s.size unsynced F
+pub own_note : (s : StoreView) (was unsynced : Bool) (F : StoreState) → F.unsynced ≡ unsynced → IsStoreOf s.tiers s.size s.unsynced (noting was F) → IsStoreOf s.tiers s.size unsynced F
 own_note s was unsynced F noted is = record { holds = is.holds; long = is.long; noted = noted }
 
-module _ {E : Type 0} (was now : StoreView) (unsynced : Bool) (r : Result (Unit {0}) E) (F : Flat) (is : IsStoreOf was.tiers was.size unsynced F) where
-  pub flushed_store : ((H : Flat) → IsStoreOf was.tiers was.size was.unsynced H → (G : Flat) × IsStoreOf now.tiers now.size now.unsynced G × IsFlushed r H G)
+module _ {E : Type 0} (was now : StoreView) (unsynced : Bool) (r : Result (Unit {0}) E) (F : StoreState) (is : IsStoreOf was.tiers was.size unsynced F) where
+  pub flushed_store : ((H : StoreState) → IsStoreOf was.tiers was.size was.unsynced H → (G : StoreState) × IsStoreOf now.tiers now.size now.unsynced G × IsFlushed r H G)
       → IsStoreOf now.tiers now.size unsynced F
   flushed_store change =
       let made = change (noting was.unsynced F) (with_note was unsynced F is) in
@@ -50,8 +50,8 @@ module _ {E : Type 0} (was now : StoreView) (unsynced : Bool) (r : Result (Unit 
 
   -- the bytes after a write, also where it isn't published
   pub written_store : (offset : ℕ) (bytes : List ℕ) → now.size ≡ was.size
-      → ((H : Flat) → IsStoreOf was.tiers was.size was.unsynced H → (G : Flat) × IsStoreOf now.tiers now.size now.unsynced G × IsChanged r H offset bytes G)
-      → (G : Flat) × IsStoreOf now.tiers now.size true G × IsTorn F offset bytes G × IsChanged r F offset bytes G
+      → ((H : StoreState) → IsStoreOf was.tiers was.size was.unsynced H → (G : StoreState) × IsStoreOf now.tiers now.size now.unsynced G × IsChanged r H offset bytes G)
+      → (G : StoreState) × IsStoreOf now.tiers now.size true G × IsTornWrite F offset bytes G × IsChanged r F offset bytes G
   written_store offset bytes size change =
       let made = change (noting was.unsynced F) (with_note was unsynced F is) in
       let long : length made.0.bytes ≡ length F.bytes = made.1.long ∙ size ∙ sym is.long in (
@@ -62,7 +62,7 @@ module _ {E : Type 0} (was now : StoreView) (unsynced : Bool) (r : Result (Unit 
       )
 
 -- what a store is that was published, and before it
-pub published_store : (was now : StoreView) (u w : Bool) (F : Flat) → now ≡ was → w ≡ u → IsStoreOf now.tiers now.size w F → IsStoreOf was.tiers was.size u F
+pub published_store : (was now : StoreView) (u w : Bool) (F : StoreState) → now ≡ was → w ≡ u → IsStoreOf now.tiers now.size w F → IsStoreOf was.tiers was.size u F
 published_store was now u w F same note is = subst (λ (s : StoreView). IsStoreOf s.tiers s.size u F) same (subst (λ b. IsStoreOf now.tiers now.size b F) note is)
 
 -- stores that are the same in each part

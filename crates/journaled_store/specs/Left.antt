@@ -1,12 +1,14 @@
 -- What is left of an array in a vault.
-use Rattle.std.specs.Prelude.{◌≡◌, ◌⊎◌, ◌<◌, ℕ, Bool, true, Some, List, length, slice_get, slice_index_or}
+use Rattle.std.specs.Prelude.{◌≡◌, ◌⊎◌, ◌<◌, ℕ, Bool, true, Some, List, length, slice_get, slice_index, slice_index_or}
 use Rattle.extent_groups.specs.Groups.{Groups}
 use Rattle.extent_groups.specs.Cells.{Cells}
-use Rattle.array_parts.specs.Views.{DriveView}
-use Rattle.background.specs.Views.{TiersView}
-use Rattle.array_store.specs.Blocks.{Holds}
+use Rattle.unit_store.specs.Views.{DriveView}
+use Rattle.slot_tables.specs.Views.{key_at}
+use Rattle.tiered_array.specs.Matches.{RepresentsTiers}
+use Rattle.tiered_array.specs.Tiered.{Tiered}
+use Rattle.tiered_array.specs.Views.{TiersView}
 use Rattle.vault.specs.Images.{is_lost}
-use Rattle.journaled_store.specs.Steps.{IsKept}
+use Rattle.journaled_store.specs.Steps.{IsPersisted}
 
 -- a drive of an array is lost
 abbrev pub IsLostIn : List DriveView → ℕ → Type 0
@@ -20,14 +22,21 @@ IsOneLost lost count = (d e : ℕ) → d < count → e < count → slice_index_o
 abbrev pub MissesOne : List DriveView → Type 0
 MissesOne drives = (d e : ℕ) → IsLostIn drives d → IsLostIn drives e → d ≡ e
 
--- The units of a vault are those of an array that held these bytes, with these groups and as many drives. Of some drives the vault
--- may have other units, and each of these is absent now or was lost. No two drives of the array were.
-pub record IsLeftOf (bytes : List ℕ) (groups : Groups) (count : ℕ) (absent : List Bool) (c : Cells) : Type 0 where
+-- an array that represents a flat state has this block map: of each block the key of its newest record, or 0
+pub record HasKeys (tiers : TiersView) (keys : List ℕ) : Type 0 where
+  pub state : Tiered
+  pub matches : RepresentsTiers tiers state
+  pub keys_are : (block : ℕ) → slice_index keys block ≡ key_at tiers.world.array block
+
+-- The units of a vault are those of an array that showed this, with these groups and as many drives. What an array shows is given:
+-- its bytes (`Holds`), or its block map (`HasKeys`). Of some drives the vault may have other units, and each of these is absent
+-- now or was lost. No two drives of the array were.
+pub record IsLeftOf (shows : TiersView → List ℕ → Type 0) (what : List ℕ) (groups : Groups) (count : ℕ) (absent : List Bool) (c : Cells) : Type 0 where
   pub tiers : TiersView
-  pub holds : Holds tiers bytes
+  pub shown : shows tiers what
   pub groups_are : tiers.world.array.parts.groups ≡ groups
   pub many : length tiers.world.array.parts.drives ≡ count
   pub one : MissesOne tiers.world.array.parts.drives
   pub lost : List Bool
-  pub kept : IsKept lost tiers.world.array.parts.drives c
+  pub kept : IsPersisted lost tiers.world.array.parts.drives c
   pub excused : (d : ℕ) → d < count → is_lost lost d ≡ true → (is_lost absent d ≡ true) ⊎ IsLostIn tiers.world.array.parts.drives d

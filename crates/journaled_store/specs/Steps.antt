@@ -4,32 +4,32 @@ use Rattle.std.proofs.Common.{refl, ◌∙◌}
 use Rattle.extents.specs.Failures.{unsteady}
 use Rattle.extents.specs.Units.{loss}
 use Rattle.extent_groups.specs.Cells.{Cells}
-use Rattle.extent_groups.specs.Planned.{Wanted, after}
-use Rattle.vault.specs.Images.{Image, Stands, is_lost, recovered}
-use Rattle.vault.specs.Moments.{AreLogged, StandsForSome}
+use Rattle.extent_groups.specs.Planned.{Intended, after}
+use Rattle.vault.specs.Images.{Image, Matches, is_lost, recovered}
+use Rattle.vault.specs.Moments.{AreLogged, RepresentsSome}
 use Rattle.vault.specs.declared.store.Stop.{Stop}
 use Rattle.vault.specs.declared.store.VaultError.{VaultError}
 use Rattle.byte_store.specs.declared.fault.StoreFault.{StoreFault}
 use Rattle.history.specs.declared.view.Entry.{Entry}
 use Rattle.history.specs.Entries.{Course}
-use Rattle.array_parts.specs.Views.{DriveView}
+use Rattle.unit_store.specs.Views.{DriveView}
 use Rattle.cached_drive.specs.Saving.{Units, saved_by}
 
 -- after the batch, the units of each drive are those that it saved last. Of lost drives nothing is said.
-pub record IsInStep (lost : List Bool) (k : Course Units) (batch : List Wanted) (c : Cells) : Type 0 where
+pub record IsInStep (lost : List Bool) (k : Course Units) (batch : List Intended) (c : Cells) : Type 0 where
   pub each : (d at : ℕ) → d < k.hired → is_lost lost d ≡ false → after c batch d at ≡ slice_get (saved_by d k.log) at
 
 -- what visits make of it: it stays in step with units that it was in step with, and writes no more than drives' units
-pub record LeadsTo (k : Course Units) (batch : List Wanted) (marks : List ℕ) (now : Course Units) (more : List Wanted) (left : List ℕ) : Type 0 where
+pub record LeadsTo (k : Course Units) (batch : List Intended) (marks : List ℕ) (now : Course Units) (more : List Intended) (left : List ℕ) : Type 0 where
   pub hired : now.hired ≡ k.hired
   pub noted : left ≡ marks
   pub step : (lost : List Bool) (c : Cells) → IsInStep lost k batch c → IsInStep lost now more c
   pub others : (c : Cells) (d at : ℕ) → 16 ≤ d → after c more d at ≡ after c batch d at
 
-pub leads_stays : (k : Course Units) (batch : List Wanted) (marks : List ℕ) → LeadsTo k batch marks k batch marks
+pub leads_stays : (k : Course Units) (batch : List Intended) (marks : List ℕ) → LeadsTo k batch marks k batch marks
 leads_stays k batch marks = record { hired = refl; noted = refl; step = λ lost c s. s; others = λ c d at high. refl }
 
-pub leads_further : (k : Course Units) (a : List Wanted) (x : List ℕ) (l : Course Units) (b : List Wanted) (y : List ℕ) (m : Course Units) (e : List Wanted) (z : List ℕ)
+pub leads_further : (k : Course Units) (a : List Intended) (x : List ℕ) (l : Course Units) (b : List Intended) (y : List ℕ) (m : Course Units) (e : List Intended) (z : List ℕ)
     → LeadsTo k a x l b y → LeadsTo l b y m e z → LeadsTo k a x m e z
 leads_further k a x l b y m e z one two = record {
   hired = two.hired ∙ one.hired;
@@ -57,33 +57,33 @@ mark_of false = 0
 mark_of true = 1
 
 -- the write of the table
-abbrev pub table_write : List ℕ → Wanted
+abbrev pub table_write : List ℕ → Intended
 table_write marks = record { place = record { drive = 16; address = 0 }; unit = marks }
 
 -- after the batch, the table has these marks
-abbrev pub IsNoted : List ℕ → List Wanted → Cells → Type 0
-IsNoted marks batch c = after c batch 16 0 ≡ Some marks
+abbrev pub HasMarksAfter : List ℕ → List Intended → Cells → Type 0
+HasMarksAfter marks batch c = after c batch 16 0 ≡ Some marks
 
 -- the marks say of each drive whether it is lost
 pub record HasMarks (drives : List DriveView) (marks : List ℕ) : Type 0 where
   pub each : (d : ℕ) (v : DriveView) → slice_get drives d ≡ Some v → slice_get marks d ≡ Some (mark_of v.lost)
 
 -- a vault's units and a batch are in step with the drives' saves, and have these marks
-pub record IsLive (lost : List Bool) (k : Course Units) (marks : List ℕ) (batch : List Wanted) (c : Cells) : Type 0 where
+pub record IsUpToDate (lost : List Bool) (k : Course Units) (marks : List ℕ) (batch : List Intended) (c : Cells) : Type 0 where
   pub step : IsInStep lost k batch c
-  pub noted : IsNoted marks batch c
+  pub noted : HasMarksAfter marks batch c
 
 -- units of a vault that has all that an array's drives hold, and which of them are lost
-pub record IsKept (lost : List Bool) (drives : List DriveView) (c : Cells) : Type 0 where
+pub record IsPersisted (lost : List Bool) (drives : List DriveView) (c : Cells) : Type 0 where
   pub has : HasDrives lost drives c
   pub marks : List ℕ
   pub noted : c 16 0 ≡ Some marks
-  pub told : HasMarks drives marks
+  pub reported : HasMarks drives marks
 
 -- what a stop leaves: the units of after the first batches of a journal, `low` of them at least, or what the drives hold now
 abbrev pub IsBeforeOrNow : List Bool → Image → ℕ → List DriveView → Image → Type 0
-IsBeforeOrNow lost base low drives i = StandsForSome lost base.cells low base.journal i
-    ⊎ ((c : Cells) × Stands lost c i × IsKept lost drives c)
+IsBeforeOrNow lost base low drives i = RepresentsSome lost base.cells low base.journal i
+    ⊎ ((c : Cells) × Matches lost c i × IsPersisted lost drives c)
 
 -- what a vault's refusal means for a store
 abbrev pub fault_of : VaultError → StoreFault
@@ -108,7 +108,7 @@ UnlessFailed failed P = failed ≡ false → P
 pub record IsEmptied {V : Type 0} (seen : V → Image) (may_leave : V → Stop → Image → Type 0) (lost : List Bool) (vault : V) (drives : List DriveView) : Type 0 where
   pub empty : (seen vault).journal ≡ []
   pub durable : AreLogged seen may_leave lost vault
-  pub kept : IsKept lost drives (recovered (seen vault))
+  pub kept : IsPersisted lost drives (recovered (seen vault))
 
 -- a call says that the journal failed
 abbrev pub is_sync : Result (Unit {0}) StoreFault → Bool

@@ -2,7 +2,7 @@
 ghost use Rattle.std.specs.Prelude.{◌≡◌, ◌++◌, [], ◌∷◌, ℕ, List, Bool, length, OnOk, OnErr};
 ghost use Rattle.extent_groups.specs.Planned.{after};
 ghost use Rattle.vault.specs.Images.{Image, SameUnits, recovered};
-ghost use Rattle.vault.specs.Moments.{LeavesOnly, IsLogged, StandsForSome, IsRefused, IsUnchanged, HasCause, no_drive};
+ghost use Rattle.vault.specs.Moments.{LeavesOnly, IsLogged, RepresentsSome, IsRejected, IsUnchanged, HasCause, no_drive};
 ghost use Rattle.vault.specs.declared.store.Stop.{Stop};
 ghost use Rattle.vault.specs.declared.store.Stop.TheVariants.{Killed};
 ghost use Rattle.journaled_store.specs.Steps.{IsInStep};
@@ -36,8 +36,8 @@ pub(crate) fn append<N: Chronicle, V: Vault>(
         → OnOk result (IsLogged V.seen V.may_leave lost stop vault.new low) }
     ensures any_moment { V.known vault.old → (lost : List Bool) (stop : Stop) (low : ℕ) → IsLogged V.seen V.may_leave lost stop vault.old low
         → LeavesOnly V.moment V.left_since stop vault.old vault.new
-        (StandsForSome lost (Image.cells (V.seen vault.old)) low (Image.journal (V.seen vault.old) ++ changes.old.batch ∷ [])) }
-    ensures refused { V.known vault.old → IsRefused result → IsUnchanged V.seen V.may_leave vault.old vault.new }
+        (RepresentsSome lost (Image.cells (V.seen vault.old)) low (Image.journal (V.seen vault.old) ++ changes.old.batch ∷ [])) }
+    ensures refused { V.known vault.old → IsRejected result → IsUnchanged V.seen V.may_leave vault.old vault.new }
     ensures cause { V.known vault.old → HasCause no_drive (V.faults vault.old) (V.faults vault.new) result }
 {
     add(vault, &changes.batch)?;

@@ -1,6 +1,6 @@
 // What an array's drives have that no batch of a vault has yet.
 ghost use Rattle.std.specs.Prelude.{◌≡◌, ◌≢◌, ◌≤◌, ◌<◌, ◌+◌, ◌++◌, ◌⊎◌, [], ◌∷◌, ℕ, length, map, slice_set, true, OnOk, OnErr, IfOk};
-ghost use Rattle.array_parts.specs.Views.{DriveView, drive_view};
+ghost use Rattle.unit_store.specs.Views.{DriveView, drive_view};
 ghost use Rattle.journaled_store.specs.Steps.{LeadsTo, views_to, mark_of, table_write};
 
 use cached_drive::{CachedDrive, Saved};

@@ -2,12 +2,12 @@
 ghost use Rattle.std.specs.Prelude.{◌≡◌, ◌≢◌, ℕ, List, Bool, length, true, OnOk};
 ghost use Rattle.extent_groups.specs.Cells.{Cells};
 ghost use Rattle.extent_groups.specs.Planned.{after};
-ghost use Rattle.array_parts.specs.Views.{DriveView};
-ghost use Rattle.vault.specs.Images.{Image, Stands, recovered};
-ghost use Rattle.vault.specs.Moments.{LeavesOnly, IsLogged, StandsForSome};
+ghost use Rattle.unit_store.specs.Views.{DriveView};
+ghost use Rattle.vault.specs.Images.{Image, Matches, recovered};
+ghost use Rattle.vault.specs.Moments.{LeavesOnly, IsLogged, RepresentsSome};
 ghost use Rattle.vault.specs.declared.store.Stop.{Stop};
 ghost use Rattle.vault.specs.declared.store.Stop.TheVariants.{Killed};
-ghost use Rattle.journaled_store.specs.Steps.{HasDrives, HasMarks, IsBeforeOrNow, IsInStep, IsKept, IsLive, IsNoted, UnlessSync, fault_of};
+ghost use Rattle.journaled_store.specs.Steps.{HasDrives, HasMarks, IsBeforeOrNow, IsInStep, IsPersisted, IsUpToDate, HasMarksAfter, UnlessSync, fault_of};
 
 use crate::append::append;
 use crate::changes::{Changes, note_lost};
@@ -36,7 +36,7 @@ pub(crate) fn collect<N: Chronicle>(
     ensures same { (store.new.tiers ≡ store.old.tiers) × (store.new.size ≡ store.old.size) × (store.new.unsynced ≡ store.old.unsynced) }
     ensures step { (lost : List Bool) (c : Cells) → IsInStep lost changes.old.keeper changes.old.batch c
         → IsInStep lost changes.new.keeper changes.new.batch c }
-    ensures noted { (c : Cells) → IsNoted changes.old.noted changes.old.batch c → IsNoted changes.new.noted changes.new.batch c }
+    ensures noted { (c : Cells) → HasMarksAfter changes.old.noted changes.old.batch c → HasMarksAfter changes.new.noted changes.new.batch c }
     ensures has { result ≡ true → (lost : List Bool) (c : Cells) → IsInStep lost changes.old.keeper changes.old.batch c
         → HasDrives lost store.old.tiers.world.array.parts.drives (after c changes.new.batch) }
     ensures marks { result ≡ true → HasMarks store.old.tiers.world.array.parts.drives changes.new.noted }
@@ -63,24 +63,24 @@ pub fn publish<N: Chronicle, V: Vault>(
 ) -> Result<(), StoreFault>
     ensures stays { V.known vault.old → V.known vault.new }
     ensures same { (store.new.tiers ≡ store.old.tiers) × (store.new.size ≡ store.old.size) × (store.new.unsynced ≡ store.old.unsynced) }
-    ensures step { V.known vault.old → (lost : List Bool) → IsLive lost changes.old.keeper changes.old.noted changes.old.batch (recovered (V.seen vault.old))
-        → UnlessSync result (IsLive lost changes.new.keeper changes.new.noted changes.new.batch (recovered (V.seen vault.new))) }
+    ensures step { V.known vault.old → (lost : List Bool) → IsUpToDate lost changes.old.keeper changes.old.noted changes.old.batch (recovered (V.seen vault.old))
+        → UnlessSync result (IsUpToDate lost changes.new.keeper changes.new.noted changes.new.batch (recovered (V.seen vault.new))) }
 
     // A kill after Ok leaves all that the drives hold, and which are lost. A loss of power leaves as many batches as it left before.
-    ensures kept { V.known vault.old → (lost : List Bool) → IsLive lost changes.old.keeper changes.old.noted changes.old.batch (recovered (V.seen vault.old))
-        → OnOk result (IsKept lost store.old.tiers.world.array.parts.drives (recovered (V.seen vault.new))) }
+    ensures kept { V.known vault.old → (lost : List Bool) → IsUpToDate lost changes.old.keeper changes.old.noted changes.old.batch (recovered (V.seen vault.old))
+        → OnOk result (IsPersisted lost store.old.tiers.world.array.parts.drives (recovered (V.seen vault.new))) }
     ensures killed { V.known vault.old → (lost : List Bool) → IsLogged V.seen V.may_leave lost Killed vault.old (length (Image.journal (V.seen vault.old)))
         → UnlessSync result (IsLogged V.seen V.may_leave lost Killed vault.new (length (Image.journal (V.seen vault.new)))) }
     ensures added { V.known vault.old → (lost : List Bool) (stop : Stop) (low : ℕ) → IsLogged V.seen V.may_leave lost stop vault.old low
         → UnlessSync result (IsLogged V.seen V.may_leave lost stop vault.new low) }
-    ensures batches { V.known vault.old → (lost : List Bool) → IsLive lost changes.old.keeper changes.old.noted changes.old.batch
+    ensures batches { V.known vault.old → (lost : List Bool) → IsUpToDate lost changes.old.keeper changes.old.noted changes.old.batch
         (recovered (V.seen vault.old))
-        → UnlessSync result ((low : ℕ) (i : Image) → StandsForSome lost (Image.cells (V.seen vault.new)) low (Image.journal (V.seen vault.new)) i
+        → UnlessSync result ((low : ℕ) (i : Image) → RepresentsSome lost (Image.cells (V.seen vault.new)) low (Image.journal (V.seen vault.new)) i
         → IsBeforeOrNow lost (V.seen vault.old) low store.old.tiers.world.array.parts.drives i) }
 
     // A stop at any moment leaves the units of before, or those of the drives now. By a loss of power some of the last batches may be
     // missing, none of those of the last flush.
-    ensures any_moment { V.known vault.old → (lost : List Bool) → IsLive lost changes.old.keeper changes.old.noted changes.old.batch
+    ensures any_moment { V.known vault.old → (lost : List Bool) → IsUpToDate lost changes.old.keeper changes.old.noted changes.old.batch
         (recovered (V.seen vault.old))
         → (stop : Stop) (low : ℕ) → IsLogged V.seen V.may_leave lost stop vault.old low
         → LeavesOnly V.moment V.left_since stop vault.old vault.new (IsBeforeOrNow lost (V.seen vault.old) low store.old.tiers.world.array.parts.drives) }
@@ -105,7 +105,7 @@ pub fn sync<V: Vault>(vault: &mut V) -> Result<(), StoreFault>
         → OnOk result (IsLogged V.seen V.may_leave lost stop vault.new (length (Image.journal (V.seen vault.new)))) }
     ensures any_moment { V.known vault.old → (lost : List Bool) (stop : Stop) (low : ℕ) → IsLogged V.seen V.may_leave lost stop vault.old low
         → LeavesOnly V.moment V.left_since stop vault.old vault.new
-        (StandsForSome lost (Image.cells (V.seen vault.old)) low (Image.journal (V.seen vault.old))) }
+        (RepresentsSome lost (Image.cells (V.seen vault.old)) low (Image.journal (V.seen vault.old))) }
 {
     match flush(vault) {
         Ok(()) => Ok(()),

@@ -1,19 +1,22 @@
 // The journal of a store is emptied.
 ghost use Rattle.std.specs.Prelude.{◌≡◌, ◌≤◌, ◌<◌, [], ◌∷◌, ℕ, List, Bool, length, slice_index_or, slice_set, true, OnOk};
-ghost use Rattle.array_parts.specs.Views.{lost_of};
+ghost use Rattle.unit_store.specs.Views.{lost_of};
+ghost use Rattle.slot_tables.specs.Views.{key_at};
 ghost use Rattle.extent_groups.specs.Cells.{Cells};
-ghost use Rattle.byte_store.specs.Flat.{Flat};
+ghost use Rattle.byte_store.specs.Flat.{StoreState};
 ghost use Rattle.byte_store.specs.Lasting.{Lasts};
+ghost use Rattle.array_store.specs.Blocks.{Holds};
 ghost use Rattle.array_store.specs.Stores.{Follows, IsStoreOf};
-ghost use Rattle.vault.specs.Images.{Image, SameOn, Stands, recovered};
+ghost use Rattle.vault.specs.Images.{Image, SameOn, Matches, recovered};
 ghost use Rattle.vault.specs.Moments.{AreLogged, LeavesOnly, IsLogged};
 ghost use Rattle.vault.specs.declared.store.Stop.{Stop};
-ghost use Rattle.journaled_store.specs.Steps.{IsBeforeOrNow, IsEmptied, IsKept, IsLive, UnlessFailed, UnlessJournal};
+ghost use Rattle.journaled_store.specs.Steps.{IsBeforeOrNow, IsEmptied, IsPersisted, IsUpToDate, UnlessFailed, UnlessJournal};
+ghost use Rattle.journaled_store.specs.Left.{HasKeys};
 ghost use Rattle.journaled_store.specs.Outlasting.{Outlasts, OutlastsSince, point};
 
 use crate::publishing::{collect, fault_of};
 use crate::store::JournaledStore;
-use byte_store::{ByteStore, StoreFault};
+use byte_store::StoreFault;
 use extents::DRIVES;
 use history::Chronicle;
 use vault::{Batch, Vault, VaultError, settle};
@@ -42,7 +45,7 @@ fn settle_vault<V: Vault>(
     ensures logged { V.known vault.old → AreLogged V.seen V.may_leave lost.now vault.old
         → UnlessJournal result (AreLogged V.seen V.may_leave lost.now vault.new) }
     ensures any_moment { V.known vault.old → AreLogged V.seen V.may_leave lost.now vault.old → (stop : Stop)
-        → LeavesOnly V.moment V.left_since stop vault.old vault.new (Stands lost.now (recovered (V.seen vault.old))) }
+        → LeavesOnly V.moment V.left_since stop vault.old vault.new (Matches lost.now (recovered (V.seen vault.old))) }
 {
     settle(vault, batch, lost)
 }
@@ -51,8 +54,10 @@ impl<N: Chronicle, V: Vault + Drop> JournaledStore<N, V> {
     /// Publishes, makes all batches durable, writes their units to their places, and empties the journal. The bytes stay. `Sync`
     /// where the journal failed, or a drive did: that drive is lost then, and the next try goes without it.
     pub fn settle(&mut self) -> Result<(), StoreFault>
-        ensures bytes { (F : Flat) → IsStoreOf self.old.store.tiers self.old.store.size self.old.unsynced F
+        ensures bytes { (F : StoreState) → IsStoreOf self.old.store.tiers self.old.store.size self.old.unsynced F
             → IsStoreOf self.new.store.tiers self.new.store.size self.new.unsynced F }
+        ensures keys { (F : StoreState) → IsStoreOf self.old.store.tiers self.old.store.size self.old.unsynced F
+            → (block : ℕ) → key_at self.new.store.tiers.world.array block ≡ key_at self.old.store.tiers.world.array block }
         ensures sizes { (self.new.store.size ≡ self.old.store.size)
             × (self.new.store.tiers.world.array.parts.groups.payload ≡ self.old.store.tiers.world.array.parts.groups.payload) }
         ensures stays { V.known self.old.vault → V.known self.new.vault }
@@ -63,17 +68,17 @@ impl<N: Chronicle, V: Vault + Drop> JournaledStore<N, V> {
         // After Ok the journal is empty, and each stop leaves all that the drives hold.
         ensures settled { V.known self.old.vault
             → UnlessFailed self.old.failed
-            (IsLive self.new.changes.lost self.old.changes.keeper self.old.changes.noted self.old.changes.batch (recovered (V.seen self.old.vault)))
+            (IsUpToDate self.new.changes.lost self.old.changes.keeper self.old.changes.noted self.old.changes.batch (recovered (V.seen self.old.vault)))
             → (low : Stop → ℕ) → ((stop : Stop) → UnlessFailed self.old.failed
             (IsLogged V.seen V.may_leave self.new.changes.lost stop self.old.vault (low stop)))
             → OnOk result (IsEmptied V.seen V.may_leave self.new.changes.lost self.new.vault self.old.store.tiers.world.array.parts.drives) }
         ensures step { V.known self.old.vault
             → UnlessFailed self.old.failed
-            (IsLive self.new.changes.lost self.old.changes.keeper self.old.changes.noted self.old.changes.batch (recovered (V.seen self.old.vault)))
+            (IsUpToDate self.new.changes.lost self.old.changes.keeper self.old.changes.noted self.old.changes.batch (recovered (V.seen self.old.vault)))
             → (low : Stop → ℕ) → ((stop : Stop) → UnlessFailed self.old.failed
             (IsLogged V.seen V.may_leave self.new.changes.lost stop self.old.vault (low stop)))
             → UnlessFailed self.new.failed
-            (IsLive self.new.changes.lost self.new.changes.keeper self.new.changes.noted self.new.changes.batch (recovered (V.seen self.new.vault))) }
+            (IsUpToDate self.new.changes.lost self.new.changes.keeper self.new.changes.noted self.new.changes.batch (recovered (V.seen self.new.vault))) }
         ensures logged { V.known self.old.vault → (low : Stop → ℕ)
             → ((stop : Stop) → UnlessFailed self.old.failed (IsLogged V.seen V.may_leave self.new.changes.lost stop self.old.vault (low stop)))
             → UnlessFailed self.new.failed ((stop : Stop) → (most : ℕ) × IsLogged V.seen V.may_leave self.new.changes.lost stop self.new.vault most) }
@@ -81,25 +86,37 @@ impl<N: Chronicle, V: Vault + Drop> JournaledStore<N, V> {
         // A stop at any moment leaves the units of before, or those of the drives.
         ensures any_moment { V.known self.old.vault
             → UnlessFailed self.old.failed
-            (IsLive self.new.changes.lost self.old.changes.keeper self.old.changes.noted self.old.changes.batch (recovered (V.seen self.old.vault)))
+            (IsUpToDate self.new.changes.lost self.old.changes.keeper self.old.changes.noted self.old.changes.batch (recovered (V.seen self.old.vault)))
             → (low : Stop → ℕ) → ((stop : Stop) → IsLogged V.seen V.may_leave self.new.changes.lost stop self.old.vault (low stop))
             → (stop : Stop) → LeavesOnly V.moment V.left_since stop self.old.vault self.new.vault
             (IsBeforeOrNow self.new.changes.lost (V.seen self.old.vault) (low stop) self.old.store.tiers.world.array.parts.drives) }
 
         // After Ok any stop leaves the bytes, also where drives that were absent when the array was opened are lost only since.
-        ensures begins { V.known self.old.vault → (F : Flat) → IsStoreOf self.old.store.tiers self.old.store.size self.old.unsynced F
+        ensures begins { V.known self.old.vault → (F : StoreState) → IsStoreOf self.old.store.tiers self.old.store.size self.old.unsynced F
             → UnlessFailed self.old.failed
-            (IsLive self.new.changes.lost self.old.changes.keeper self.old.changes.noted self.old.changes.batch (recovered (V.seen self.old.vault)))
+            (IsUpToDate self.new.changes.lost self.old.changes.keeper self.old.changes.noted self.old.changes.batch (recovered (V.seen self.old.vault)))
             → (low : Stop → ℕ) → ((stop : Stop) → UnlessFailed self.old.failed
             (IsLogged V.seen V.may_leave self.new.changes.lost stop self.old.vault (low stop)))
-            → OnOk result (Outlasts V.known V.seen V.may_leave (point self.new) (F.bytes ∷ []) (F.bytes ∷ [])) }
+            → OnOk result (Outlasts Holds V.known V.seen V.may_leave (point self.new) (F.bytes ∷ []) (F.bytes ∷ [])) }
+        ensures map_begins { V.known self.old.vault → (keys : List ℕ) → HasKeys self.old.store.tiers keys
+            → UnlessFailed self.old.failed
+            (IsUpToDate self.new.changes.lost self.old.changes.keeper self.old.changes.noted self.old.changes.batch (recovered (V.seen self.old.vault)))
+            → (low : Stop → ℕ) → ((stop : Stop) → UnlessFailed self.old.failed
+            (IsLogged V.seen V.may_leave self.new.changes.lost stop self.old.vault (low stop)))
+            → OnOk result (Outlasts HasKeys V.known V.seen V.may_leave (point self.new) (keys ∷ []) (keys ∷ [])) }
 
         // A stop leaves the bytes, with all groups and drives.
-        ensures follows { (F : Flat) → IsStoreOf self.old.store.tiers self.old.store.size self.old.unsynced F
+        ensures follows { (F : StoreState) → IsStoreOf self.old.store.tiers self.old.store.size self.old.unsynced F
             → Follows self.old.store.tiers self.new.store.tiers }
-        ensures lasts { (F : Flat) → IsStoreOf self.old.store.tiers self.old.store.size self.old.unsynced F
-            → Lasts (Outlasts V.known V.seen V.may_leave) (λ p. V.moment p.vault)
-            (OutlastsSince V.left_since) F.bytes F.bytes (point self.old) (point self.new) }
+        ensures lasts { (F : StoreState) → IsStoreOf self.old.store.tiers self.old.store.size self.old.unsynced F
+            → Lasts (Outlasts Holds V.known V.seen V.may_leave) (λ p. V.moment p.vault)
+            (OutlastsSince Holds V.left_since) F.bytes F.bytes (point self.old) (point self.new) }
+
+        // Opened again, the array has the block map that a stop before would have left, or that of the call.
+        ensures map { (F : StoreState) (keys : List ℕ) → IsStoreOf self.old.store.tiers self.old.store.size self.old.unsynced F
+            → HasKeys self.old.store.tiers keys
+            → Lasts (Outlasts HasKeys V.known V.seen V.may_leave) (λ p. V.moment p.vault) (OutlastsSince HasKeys V.left_since)
+            keys keys (point self.old) (point self.new) }
     {
         let lost = self.store.world().array().lost();
         let published = self.publish_durably();
@@ -119,17 +136,19 @@ impl<N: Chronicle, V: Vault + Drop> JournaledStore<N, V> {
 
     // What is done where the vault isn't settled: the journal has failed, or a drive is lost.
     fn give_up(&mut self, error: VaultError)
-        ensures bytes { (F : Flat) → IsStoreOf self.old.store.tiers self.old.store.size self.old.unsynced F
+        ensures bytes { (F : StoreState) → IsStoreOf self.old.store.tiers self.old.store.size self.old.unsynced F
             → IsStoreOf self.new.store.tiers self.new.store.size self.new.unsynced F }
+        ensures keys { (F : StoreState) → IsStoreOf self.old.store.tiers self.old.store.size self.old.unsynced F
+            → (block : ℕ) → key_at self.new.store.tiers.world.array block ≡ key_at self.old.store.tiers.world.array block }
         ensures sizes { (self.new.store.size ≡ self.old.store.size)
             × (self.new.store.tiers.world.array.parts.groups.payload ≡ self.old.store.tiers.world.array.parts.groups.payload) }
         ensures vault { self.new.vault ≡ self.old.vault }
         ensures lost { self.new.changes.lost ≡ self.old.changes.lost }
-        ensures step { (lost : List Bool) (c : Cells) → IsLive lost self.old.changes.keeper self.old.changes.noted self.old.changes.batch c
-            → IsLive lost self.new.changes.keeper self.new.changes.noted self.new.changes.batch c }
+        ensures step { (lost : List Bool) (c : Cells) → IsUpToDate lost self.old.changes.keeper self.old.changes.noted self.old.changes.batch c
+            → IsUpToDate lost self.new.changes.keeper self.new.changes.noted self.new.changes.batch c }
         ensures stays { self.old.failed ≡ true → self.new.failed ≡ true }
         ensures failed { error ≡ VaultError.Journal → self.new.failed ≡ true }
-        ensures follows { (F : Flat) → IsStoreOf self.old.store.tiers self.old.store.size self.old.unsynced F
+        ensures follows { (F : StoreState) → IsStoreOf self.old.store.tiers self.old.store.size self.old.unsynced F
             → Follows self.old.store.tiers self.new.store.tiers }
     {
         match error {
@@ -141,15 +160,17 @@ impl<N: Chronicle, V: Vault + Drop> JournaledStore<N, V> {
 
     // A drive that failed the vault is lost. In which drives were shown as lost nothing changes before the next batch.
     fn lose(&mut self, drive: u8)
-        ensures bytes { (F : Flat) → IsStoreOf self.old.store.tiers self.old.store.size self.old.unsynced F
+        ensures bytes { (F : StoreState) → IsStoreOf self.old.store.tiers self.old.store.size self.old.unsynced F
             → IsStoreOf self.new.store.tiers self.new.store.size self.new.unsynced F }
+        ensures keys { (F : StoreState) → IsStoreOf self.old.store.tiers self.old.store.size self.old.unsynced F
+            → (block : ℕ) → key_at self.new.store.tiers.world.array block ≡ key_at self.old.store.tiers.world.array block }
         ensures sizes { (self.new.store.size ≡ self.old.store.size)
             × (self.new.store.tiers.world.array.parts.groups.payload ≡ self.old.store.tiers.world.array.parts.groups.payload) }
         ensures vault { self.new.vault ≡ self.old.vault }
         ensures lost { self.new.changes.lost ≡ self.old.changes.lost }
-        ensures step { (lost : List Bool) (c : Cells) → IsLive lost self.old.changes.keeper self.old.changes.noted self.old.changes.batch c
-            → IsLive lost self.new.changes.keeper self.new.changes.noted self.new.changes.batch c }
-        ensures follows { (F : Flat) → IsStoreOf self.old.store.tiers self.old.store.size self.old.unsynced F
+        ensures step { (lost : List Bool) (c : Cells) → IsUpToDate lost self.old.changes.keeper self.old.changes.noted self.old.changes.batch c
+            → IsUpToDate lost self.new.changes.keeper self.new.changes.noted self.new.changes.batch c }
+        ensures follows { (F : StoreState) → IsStoreOf self.old.store.tiers self.old.store.size self.old.unsynced F
             → Follows self.old.store.tiers self.new.store.tiers }
         ensures failed { self.new.failed ≡ self.old.failed }
     {
@@ -157,22 +178,30 @@ impl<N: Chronicle, V: Vault + Drop> JournaledStore<N, V> {
         let lost = self.changes.lost;
         let _ = collect(&mut self.store, &mut self.changes);
         self.changes.lost = lost;
-        let _ = self.store.flush();
+        self.store.sync_drives();
     }
 
     /// Settles where the journal has grown to four times the units from which `rest` settles.
     pub fn make_room(&mut self)
-        ensures bytes { (F : Flat) → IsStoreOf self.old.store.tiers self.old.store.size self.old.unsynced F
+        ensures bytes { (F : StoreState) → IsStoreOf self.old.store.tiers self.old.store.size self.old.unsynced F
             → IsStoreOf self.new.store.tiers self.new.store.size self.new.unsynced F }
+        ensures keys { (F : StoreState) → IsStoreOf self.old.store.tiers self.old.store.size self.old.unsynced F
+            → (block : ℕ) → key_at self.new.store.tiers.world.array block ≡ key_at self.old.store.tiers.world.array block }
         ensures sizes { (self.new.store.size ≡ self.old.store.size)
             × (self.new.store.tiers.world.array.parts.groups.payload ≡ self.old.store.tiers.world.array.parts.groups.payload) }
 
         // A stop leaves the bytes, with all groups and drives.
-        ensures follows { (F : Flat) → IsStoreOf self.old.store.tiers self.old.store.size self.old.unsynced F
+        ensures follows { (F : StoreState) → IsStoreOf self.old.store.tiers self.old.store.size self.old.unsynced F
             → Follows self.old.store.tiers self.new.store.tiers }
-        ensures lasts { (F : Flat) → IsStoreOf self.old.store.tiers self.old.store.size self.old.unsynced F
-            → Lasts (Outlasts V.known V.seen V.may_leave) (λ p. V.moment p.vault)
-            (OutlastsSince V.left_since) F.bytes F.bytes (point self.old) (point self.new) }
+        ensures lasts { (F : StoreState) → IsStoreOf self.old.store.tiers self.old.store.size self.old.unsynced F
+            → Lasts (Outlasts Holds V.known V.seen V.may_leave) (λ p. V.moment p.vault)
+            (OutlastsSince Holds V.left_since) F.bytes F.bytes (point self.old) (point self.new) }
+
+        // Opened again, the array has the block map that a stop before would have left, or that of the call.
+        ensures map { (F : StoreState) (keys : List ℕ) → IsStoreOf self.old.store.tiers self.old.store.size self.old.unsynced F
+            → HasKeys self.old.store.tiers keys
+            → Lasts (Outlasts HasKeys V.known V.seen V.may_leave) (λ p. V.moment p.vault) (OutlastsSince HasKeys V.left_since)
+            keys keys (point self.old) (point self.new) }
     {
         if self.changes.appended >= self.settle_at.saturating_mul(4) {
             let _ = self.settle();

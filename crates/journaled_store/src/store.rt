@@ -1,15 +1,16 @@
 // The bytes of a disk, each change of which is kept by a vault.
 ghost use Rattle.std.specs.Prelude.{◌≡◌, ◌+◌, ◌≤◌, ℕ, List, Bool, length, replicate, slice_index_or, false, true, OnOk};
-ghost use Rattle.byte_store.specs.Flat.{Flat};
+ghost use Rattle.byte_store.specs.Flat.{StoreState};
 ghost use Rattle.byte_store.specs.Changes.{IsChanged, IsFlushed};
 ghost use Rattle.byte_store.specs.Lasting.{Acknowledges, Flushes, Lasts};
+ghost use Rattle.array_store.specs.Blocks.{Holds};
 ghost use Rattle.array_store.specs.Stores.{Follows, IsStoreOf};
 ghost use Rattle.vault.specs.Images.{Image, recovered};
-ghost use Rattle.vault.specs.Moments.{LeavesOnly, IsLogged, StandsForSome};
+ghost use Rattle.vault.specs.Moments.{LeavesOnly, IsLogged, RepresentsSome};
 ghost use Rattle.vault.specs.declared.store.Stop.{Stop};
 ghost use Rattle.vault.specs.declared.store.Stop.TheVariants.{Killed};
-ghost use Rattle.journaled_store.specs.Steps.{IsBeforeOrNow, IsKept, IsLive, UnlessFailed, is_sync};
-ghost use Rattle.journaled_store.specs.Left.{IsOneLost, MissesOne};
+ghost use Rattle.journaled_store.specs.Steps.{IsBeforeOrNow, IsPersisted, IsUpToDate, UnlessFailed, is_sync};
+ghost use Rattle.journaled_store.specs.Left.{HasKeys, IsOneLost, MissesOne};
 ghost use Rattle.journaled_store.specs.Outlasting.{Outlasts, OutlastsSince, Works, point};
 
 use crate::changes::Changes;
@@ -92,8 +93,10 @@ impl<N: Chronicle, V: Vault + Drop> JournaledStore<N, V> {
     ) -> JournaledStore<N, V>
         ensures parts { (result.store ≡ store) × (result.changes ≡ changes) × (result.vault ≡ vault) }
         ensures flags { (result.unsynced ≡ false) × (result.failed ≡ false) }
-        ensures lasts { V.known vault → (killed cut : List (List ℕ)) → Works V.seen V.may_leave (point result) killed cut
-            → Outlasts V.known V.seen V.may_leave (point result) killed cut }
+        ensures lasts { V.known vault → (killed cut : List (List ℕ)) → Works Holds V.seen V.may_leave (point result) killed cut
+            → Outlasts Holds V.known V.seen V.may_leave (point result) killed cut }
+        ensures map { V.known vault → (killed cut : List (List ℕ)) → Works HasKeys V.seen V.may_leave (point result) killed cut
+            → Outlasts HasKeys V.known V.seen V.may_leave (point result) killed cut }
     {
         JournaledStore {
             store,
@@ -129,9 +132,9 @@ impl<N: Chronicle, V: Vault + Drop> JournaledStore<N, V> {
         ensures still { self.old.failed ≡ true → (self.new.vault ≡ self.old.vault) × (self.new.failed ≡ true) }
         ensures stays { V.known self.old.vault → V.known self.new.vault }
         ensures step { V.known self.old.vault → (lost : List Bool)
-            → UnlessFailed self.old.failed (IsLive lost self.old.changes.keeper self.old.changes.noted self.old.changes.batch
+            → UnlessFailed self.old.failed (IsUpToDate lost self.old.changes.keeper self.old.changes.noted self.old.changes.batch
             (recovered (V.seen self.old.vault)))
-            → UnlessFailed self.new.failed (IsLive lost self.new.changes.keeper self.new.changes.noted self.new.changes.batch
+            → UnlessFailed self.new.failed (IsUpToDate lost self.new.changes.keeper self.new.changes.noted self.new.changes.batch
             (recovered (V.seen self.new.vault))) }
         ensures killed { V.known self.old.vault → (lost : List Bool)
             → UnlessFailed self.old.failed (IsLogged V.seen V.may_leave lost Killed self.old.vault (length (Image.journal (V.seen self.old.vault))))
@@ -142,30 +145,36 @@ impl<N: Chronicle, V: Vault + Drop> JournaledStore<N, V> {
 
         // After Ok the vault has all that the drives hold, and which are lost.
         ensures kept { V.known self.old.vault → (lost : List Bool)
-            → UnlessFailed self.old.failed (IsLive lost self.old.changes.keeper self.old.changes.noted self.old.changes.batch
+            → UnlessFailed self.old.failed (IsUpToDate lost self.old.changes.keeper self.old.changes.noted self.old.changes.batch
             (recovered (V.seen self.old.vault)))
-            → OnOk result (IsKept lost self.new.store.tiers.world.array.parts.drives (recovered (V.seen self.new.vault))) }
+            → OnOk result (IsPersisted lost self.new.store.tiers.world.array.parts.drives (recovered (V.seen self.new.vault))) }
         ensures batches { V.known self.old.vault → (lost : List Bool)
-            → UnlessFailed self.old.failed (IsLive lost self.old.changes.keeper self.old.changes.noted self.old.changes.batch
+            → UnlessFailed self.old.failed (IsUpToDate lost self.old.changes.keeper self.old.changes.noted self.old.changes.batch
             (recovered (V.seen self.old.vault)))
             → UnlessFailed self.new.failed ((low : ℕ) (i : Image)
-            → StandsForSome lost (Image.cells (V.seen self.new.vault)) low (Image.journal (V.seen self.new.vault)) i
+            → RepresentsSome lost (Image.cells (V.seen self.new.vault)) low (Image.journal (V.seen self.new.vault)) i
             → IsBeforeOrNow lost (V.seen self.old.vault) low self.old.store.tiers.world.array.parts.drives i) }
 
         // A stop at any moment leaves the units of before, or those of the drives now.
         ensures any_moment { V.known self.old.vault → (lost : List Bool)
-            → UnlessFailed self.old.failed (IsLive lost self.old.changes.keeper self.old.changes.noted self.old.changes.batch
+            → UnlessFailed self.old.failed (IsUpToDate lost self.old.changes.keeper self.old.changes.noted self.old.changes.batch
             (recovered (V.seen self.old.vault)))
             → (stop : Stop) (low : ℕ) → IsLogged V.seen V.may_leave lost stop self.old.vault low
             → LeavesOnly V.moment V.left_since stop self.old.vault self.new.vault
             (IsBeforeOrNow lost (V.seen self.old.vault) low self.new.store.tiers.world.array.parts.drives) }
 
         // Opened again, the store has the bytes that a stop before would have left, or those of now.
-        ensures lasts { (F : Flat) → IsStoreOf self.old.store.tiers self.old.store.size self.old.unsynced F
-            → Lasts (Outlasts V.known V.seen V.may_leave) (λ p. V.moment p.vault)
-            (OutlastsSince V.left_since) F.bytes F.bytes (point self.old) (point self.new) }
-        ensures acknowledged { (F : Flat) → IsStoreOf self.old.store.tiers self.old.store.size self.old.unsynced F
-            → OnOk result (Acknowledges (Outlasts V.known V.seen V.may_leave) F.bytes F.bytes (point self.old) (point self.new)) }
+        ensures lasts { (F : StoreState) → IsStoreOf self.old.store.tiers self.old.store.size self.old.unsynced F
+            → Lasts (Outlasts Holds V.known V.seen V.may_leave) (λ p. V.moment p.vault)
+            (OutlastsSince Holds V.left_since) F.bytes F.bytes (point self.old) (point self.new) }
+        ensures acknowledged { (F : StoreState) → IsStoreOf self.old.store.tiers self.old.store.size self.old.unsynced F
+            → OnOk result (Acknowledges (Outlasts Holds V.known V.seen V.may_leave) F.bytes F.bytes (point self.old) (point self.new)) }
+
+        // And the block map that a stop before would have left, or that of now; a kill after Ok leaves that of now.
+        ensures map { (keys : List ℕ) → HasKeys self.old.store.tiers keys
+            → Lasts (Outlasts HasKeys V.known V.seen V.may_leave) (λ p. V.moment p.vault) (OutlastsSince HasKeys V.left_since)
+            keys keys (point self.old) (point self.new)
+            × OnOk result (Acknowledges (Outlasts HasKeys V.known V.seen V.may_leave) keys keys (point self.old) (point self.new)) }
     {
         if self.failed {
             return Err(StoreFault::Sync);
@@ -185,9 +194,9 @@ impl<N: Chronicle, V: Vault + Drop> JournaledStore<N, V> {
         ensures still { self.old.failed ≡ true → (self.new.vault ≡ self.old.vault) × (self.new.failed ≡ true) }
         ensures stays { V.known self.old.vault → V.known self.new.vault }
         ensures step { V.known self.old.vault → (lost : List Bool)
-            → UnlessFailed self.old.failed (IsLive lost self.old.changes.keeper self.old.changes.noted self.old.changes.batch
+            → UnlessFailed self.old.failed (IsUpToDate lost self.old.changes.keeper self.old.changes.noted self.old.changes.batch
             (recovered (V.seen self.old.vault)))
-            → UnlessFailed self.new.failed (IsLive lost self.new.changes.keeper self.new.changes.noted self.new.changes.batch
+            → UnlessFailed self.new.failed (IsUpToDate lost self.new.changes.keeper self.new.changes.noted self.new.changes.batch
             (recovered (V.seen self.new.vault))) }
         ensures killed { V.known self.old.vault → (lost : List Bool)
             → UnlessFailed self.old.failed (IsLogged V.seen V.may_leave lost Killed self.old.vault (length (Image.journal (V.seen self.old.vault))))
@@ -195,9 +204,9 @@ impl<N: Chronicle, V: Vault + Drop> JournaledStore<N, V> {
 
         // After Ok each stop leaves all batches, and so all that the drives hold.
         ensures kept { V.known self.old.vault → (lost : List Bool)
-            → UnlessFailed self.old.failed (IsLive lost self.old.changes.keeper self.old.changes.noted self.old.changes.batch
+            → UnlessFailed self.old.failed (IsUpToDate lost self.old.changes.keeper self.old.changes.noted self.old.changes.batch
             (recovered (V.seen self.old.vault)))
-            → OnOk result (IsKept lost self.new.store.tiers.world.array.parts.drives (recovered (V.seen self.new.vault))) }
+            → OnOk result (IsPersisted lost self.new.store.tiers.world.array.parts.drives (recovered (V.seen self.new.vault))) }
         ensures flushed { V.known self.old.vault → (lost : List Bool) (stop : Stop) (low : ℕ)
             → UnlessFailed self.old.failed (IsLogged V.seen V.may_leave lost stop self.old.vault low)
             → OnOk result (IsLogged V.seen V.may_leave lost stop self.new.vault (length (Image.journal (V.seen self.new.vault)))) }
@@ -205,24 +214,30 @@ impl<N: Chronicle, V: Vault + Drop> JournaledStore<N, V> {
             → UnlessFailed self.old.failed (IsLogged V.seen V.may_leave lost stop self.old.vault low)
             → UnlessFailed self.new.failed ((most : ℕ) × (low ≤ most) × IsLogged V.seen V.may_leave lost stop self.new.vault most) }
         ensures batches { V.known self.old.vault → (lost : List Bool)
-            → UnlessFailed self.old.failed (IsLive lost self.old.changes.keeper self.old.changes.noted self.old.changes.batch
+            → UnlessFailed self.old.failed (IsUpToDate lost self.old.changes.keeper self.old.changes.noted self.old.changes.batch
             (recovered (V.seen self.old.vault)))
             → UnlessFailed self.new.failed ((low : ℕ) (i : Image)
-            → StandsForSome lost (Image.cells (V.seen self.new.vault)) low (Image.journal (V.seen self.new.vault)) i
+            → RepresentsSome lost (Image.cells (V.seen self.new.vault)) low (Image.journal (V.seen self.new.vault)) i
             → IsBeforeOrNow lost (V.seen self.old.vault) low self.old.store.tiers.world.array.parts.drives i) }
 
         // A stop at any moment leaves the units of before, or those of the drives now.
         ensures any_moment { V.known self.old.vault → (lost : List Bool)
-            → UnlessFailed self.old.failed (IsLive lost self.old.changes.keeper self.old.changes.noted self.old.changes.batch
+            → UnlessFailed self.old.failed (IsUpToDate lost self.old.changes.keeper self.old.changes.noted self.old.changes.batch
             (recovered (V.seen self.old.vault)))
             → (stop : Stop) (low : ℕ) → IsLogged V.seen V.may_leave lost stop self.old.vault low
             → LeavesOnly V.moment V.left_since stop self.old.vault self.new.vault
             (IsBeforeOrNow lost (V.seen self.old.vault) low self.new.store.tiers.world.array.parts.drives) }
 
         // Opened again, the store has the bytes that a stop before would have left, or those of now; after Ok those of now.
-        ensures lasts { (F : Flat) → IsStoreOf self.old.store.tiers self.old.store.size self.old.unsynced F
-            → Lasts (Outlasts V.known V.seen V.may_leave) (λ p. V.moment p.vault) (OutlastsSince V.left_since) F.bytes F.bytes (point self.old) (point self.new)
-            × OnOk result (Flushes (Outlasts V.known V.seen V.may_leave) F.bytes (point self.old) (point self.new)) }
+        ensures lasts { (F : StoreState) → IsStoreOf self.old.store.tiers self.old.store.size self.old.unsynced F
+            → Lasts (Outlasts Holds V.known V.seen V.may_leave) (λ p. V.moment p.vault) (OutlastsSince Holds V.left_since) F.bytes F.bytes (point self.old) (point self.new)
+            × OnOk result (Flushes (Outlasts Holds V.known V.seen V.may_leave) F.bytes (point self.old) (point self.new)) }
+
+        // And the block map that a stop before would have left, or that of now; each stop after Ok leaves that of now.
+        ensures map { (keys : List ℕ) → HasKeys self.old.store.tiers keys
+            → Lasts (Outlasts HasKeys V.known V.seen V.may_leave) (λ p. V.moment p.vault) (OutlastsSince HasKeys V.left_since)
+            keys keys (point self.old) (point self.new)
+            × OnOk result (Flushes (Outlasts HasKeys V.known V.seen V.may_leave) keys (point self.old) (point self.new)) }
     {
         self.publish()?;
         let synced = sync(&mut self.vault);
@@ -233,15 +248,15 @@ impl<N: Chronicle, V: Vault + Drop> JournaledStore<N, V> {
     /// Writes bytes from an offset on, and publishes. A refused write may have stopped in its middle.
     pub fn kept_write(&mut self, alloc: Global, offset: u64, bytes: &[u8]) -> Result<(), StoreFault>
         requires within { offset + length bytes.now ≤ self.old.store.size }
-        ensures change { (F : Flat) → IsStoreOf self.old.store.tiers self.old.store.size self.old.unsynced F
-            → (G : Flat) × IsStoreOf self.new.store.tiers self.new.store.size self.new.unsynced G × IsChanged result F offset bytes.now G }
+        ensures change { (F : StoreState) → IsStoreOf self.old.store.tiers self.old.store.size self.old.unsynced F
+            → (G : StoreState) × IsStoreOf self.new.store.tiers self.new.store.size self.new.unsynced G × IsChanged result F offset bytes.now G }
         ensures sizes { (self.new.store.size ≡ self.old.store.size)
             × (self.new.store.tiers.world.array.parts.groups.payload ≡ self.old.store.tiers.world.array.parts.groups.payload) }
         ensures stays { V.known self.old.vault → V.known self.new.vault }
         ensures step { V.known self.old.vault → (lost : List Bool)
-            → UnlessFailed self.old.failed (IsLive lost self.old.changes.keeper self.old.changes.noted self.old.changes.batch
+            → UnlessFailed self.old.failed (IsUpToDate lost self.old.changes.keeper self.old.changes.noted self.old.changes.batch
             (recovered (V.seen self.old.vault)))
-            → UnlessFailed self.new.failed (IsLive lost self.new.changes.keeper self.new.changes.noted self.new.changes.batch
+            → UnlessFailed self.new.failed (IsUpToDate lost self.new.changes.keeper self.new.changes.noted self.new.changes.batch
             (recovered (V.seen self.new.vault))) }
         ensures killed { V.known self.old.vault → (lost : List Bool)
             → UnlessFailed self.old.failed (IsLogged V.seen V.may_leave lost Killed self.old.vault (length (Image.journal (V.seen self.old.vault))))
@@ -252,29 +267,36 @@ impl<N: Chronicle, V: Vault + Drop> JournaledStore<N, V> {
 
         // A kill after Ok leaves all that the drives hold, so the bytes that were written, and which drives are lost.
         ensures kept { V.known self.old.vault → (lost : List Bool)
-            → UnlessFailed self.old.failed (IsLive lost self.old.changes.keeper self.old.changes.noted self.old.changes.batch
+            → UnlessFailed self.old.failed (IsUpToDate lost self.old.changes.keeper self.old.changes.noted self.old.changes.batch
             (recovered (V.seen self.old.vault)))
-            → OnOk result (IsKept lost self.new.store.tiers.world.array.parts.drives (recovered (V.seen self.new.vault))) }
+            → OnOk result (IsPersisted lost self.new.store.tiers.world.array.parts.drives (recovered (V.seen self.new.vault))) }
 
         // A stop at any moment leaves the units of before, or those of the drives now. By a loss of power some of the last batches
         // may be missing, none of those of the last flush.
         ensures any_moment { V.known self.old.vault → (lost : List Bool)
-            → UnlessFailed self.old.failed (IsLive lost self.old.changes.keeper self.old.changes.noted self.old.changes.batch
+            → UnlessFailed self.old.failed (IsUpToDate lost self.old.changes.keeper self.old.changes.noted self.old.changes.batch
             (recovered (V.seen self.old.vault)))
             → (stop : Stop) (low : ℕ) → IsLogged V.seen V.may_leave lost stop self.old.vault low
             → LeavesOnly V.moment V.left_since stop self.old.vault self.new.vault
             (IsBeforeOrNow lost (V.seen self.old.vault) low self.new.store.tiers.world.array.parts.drives) }
 
         // A stop leaves the bytes of before or of now, with all groups and drives.
-        ensures follows { (F : Flat) → IsStoreOf self.old.store.tiers self.old.store.size self.old.unsynced F
+        ensures follows { (F : StoreState) → IsStoreOf self.old.store.tiers self.old.store.size self.old.unsynced F
             → Follows self.old.store.tiers self.new.store.tiers }
-        ensures lasts { (F G : Flat) → IsStoreOf self.old.store.tiers self.old.store.size self.old.unsynced F
+        ensures lasts { (F G : StoreState) → IsStoreOf self.old.store.tiers self.old.store.size self.old.unsynced F
             → IsStoreOf self.new.store.tiers self.new.store.size self.new.unsynced G
-            → Lasts (Outlasts V.known V.seen V.may_leave) (λ p. V.moment p.vault)
-            (OutlastsSince V.left_since) F.bytes G.bytes (point self.old) (point self.new) }
-        ensures acknowledged { (F G : Flat) → IsStoreOf self.old.store.tiers self.old.store.size self.old.unsynced F
+            → Lasts (Outlasts Holds V.known V.seen V.may_leave) (λ p. V.moment p.vault)
+            (OutlastsSince Holds V.left_since) F.bytes G.bytes (point self.old) (point self.new) }
+        ensures acknowledged { (F G : StoreState) → IsStoreOf self.old.store.tiers self.old.store.size self.old.unsynced F
             → IsStoreOf self.new.store.tiers self.new.store.size self.new.unsynced G
-            → OnOk result (Acknowledges (Outlasts V.known V.seen V.may_leave) F.bytes G.bytes (point self.old) (point self.new)) }
+            → OnOk result (Acknowledges (Outlasts Holds V.known V.seen V.may_leave) F.bytes G.bytes (point self.old) (point self.new)) }
+
+        // Opened again, the array has the block map that a stop before would have left, or that of now; a kill after Ok leaves that of now.
+        ensures map { (F : StoreState) (keys : List ℕ) → IsStoreOf self.old.store.tiers self.old.store.size self.old.unsynced F
+            → HasKeys self.new.store.tiers keys
+            → Lasts (Outlasts HasKeys V.known V.seen V.may_leave) (λ p. V.moment p.vault) (OutlastsSince HasKeys V.left_since)
+            keys keys (point self.old) (point self.new)
+            × OnOk result (Acknowledges (Outlasts HasKeys V.known V.seen V.may_leave) keys keys (point self.old) (point self.new)) }
     {
         self.unsynced = true;
         let written = self.store.write(alloc, offset, bytes);
@@ -285,15 +307,15 @@ impl<N: Chronicle, V: Vault + Drop> JournaledStore<N, V> {
     /// Makes the bytes from an offset on zero, and publishes. A refusal may have come in its middle.
     pub fn kept_zero(&mut self, alloc: Global, offset: u64, count: u32) -> Result<(), StoreFault>
         requires within { offset + count ≤ self.old.store.size }
-        ensures change { (F : Flat) → IsStoreOf self.old.store.tiers self.old.store.size self.old.unsynced F
-            → (G : Flat) × IsStoreOf self.new.store.tiers self.new.store.size self.new.unsynced G × IsChanged result F offset (replicate count 0) G }
+        ensures change { (F : StoreState) → IsStoreOf self.old.store.tiers self.old.store.size self.old.unsynced F
+            → (G : StoreState) × IsStoreOf self.new.store.tiers self.new.store.size self.new.unsynced G × IsChanged result F offset (replicate count 0) G }
         ensures sizes { (self.new.store.size ≡ self.old.store.size)
             × (self.new.store.tiers.world.array.parts.groups.payload ≡ self.old.store.tiers.world.array.parts.groups.payload) }
         ensures stays { V.known self.old.vault → V.known self.new.vault }
         ensures step { V.known self.old.vault → (lost : List Bool)
-            → UnlessFailed self.old.failed (IsLive lost self.old.changes.keeper self.old.changes.noted self.old.changes.batch
+            → UnlessFailed self.old.failed (IsUpToDate lost self.old.changes.keeper self.old.changes.noted self.old.changes.batch
             (recovered (V.seen self.old.vault)))
-            → UnlessFailed self.new.failed (IsLive lost self.new.changes.keeper self.new.changes.noted self.new.changes.batch
+            → UnlessFailed self.new.failed (IsUpToDate lost self.new.changes.keeper self.new.changes.noted self.new.changes.batch
             (recovered (V.seen self.new.vault))) }
         ensures killed { V.known self.old.vault → (lost : List Bool)
             → UnlessFailed self.old.failed (IsLogged V.seen V.may_leave lost Killed self.old.vault (length (Image.journal (V.seen self.old.vault))))
@@ -304,29 +326,36 @@ impl<N: Chronicle, V: Vault + Drop> JournaledStore<N, V> {
 
         // A kill after Ok leaves all that the drives hold, and which drives are lost.
         ensures kept { V.known self.old.vault → (lost : List Bool)
-            → UnlessFailed self.old.failed (IsLive lost self.old.changes.keeper self.old.changes.noted self.old.changes.batch
+            → UnlessFailed self.old.failed (IsUpToDate lost self.old.changes.keeper self.old.changes.noted self.old.changes.batch
             (recovered (V.seen self.old.vault)))
-            → OnOk result (IsKept lost self.new.store.tiers.world.array.parts.drives (recovered (V.seen self.new.vault))) }
+            → OnOk result (IsPersisted lost self.new.store.tiers.world.array.parts.drives (recovered (V.seen self.new.vault))) }
 
         // A stop at any moment leaves the units of before, or those of the drives now. By a loss of power some of the last batches
         // may be missing, none of those of the last flush.
         ensures any_moment { V.known self.old.vault → (lost : List Bool)
-            → UnlessFailed self.old.failed (IsLive lost self.old.changes.keeper self.old.changes.noted self.old.changes.batch
+            → UnlessFailed self.old.failed (IsUpToDate lost self.old.changes.keeper self.old.changes.noted self.old.changes.batch
             (recovered (V.seen self.old.vault)))
             → (stop : Stop) (low : ℕ) → IsLogged V.seen V.may_leave lost stop self.old.vault low
             → LeavesOnly V.moment V.left_since stop self.old.vault self.new.vault
             (IsBeforeOrNow lost (V.seen self.old.vault) low self.new.store.tiers.world.array.parts.drives) }
 
         // A stop leaves the bytes of before or of now, with all groups and drives.
-        ensures follows { (F : Flat) → IsStoreOf self.old.store.tiers self.old.store.size self.old.unsynced F
+        ensures follows { (F : StoreState) → IsStoreOf self.old.store.tiers self.old.store.size self.old.unsynced F
             → Follows self.old.store.tiers self.new.store.tiers }
-        ensures lasts { (F G : Flat) → IsStoreOf self.old.store.tiers self.old.store.size self.old.unsynced F
+        ensures lasts { (F G : StoreState) → IsStoreOf self.old.store.tiers self.old.store.size self.old.unsynced F
             → IsStoreOf self.new.store.tiers self.new.store.size self.new.unsynced G
-            → Lasts (Outlasts V.known V.seen V.may_leave) (λ p. V.moment p.vault)
-            (OutlastsSince V.left_since) F.bytes G.bytes (point self.old) (point self.new) }
-        ensures acknowledged { (F G : Flat) → IsStoreOf self.old.store.tiers self.old.store.size self.old.unsynced F
+            → Lasts (Outlasts Holds V.known V.seen V.may_leave) (λ p. V.moment p.vault)
+            (OutlastsSince Holds V.left_since) F.bytes G.bytes (point self.old) (point self.new) }
+        ensures acknowledged { (F G : StoreState) → IsStoreOf self.old.store.tiers self.old.store.size self.old.unsynced F
             → IsStoreOf self.new.store.tiers self.new.store.size self.new.unsynced G
-            → OnOk result (Acknowledges (Outlasts V.known V.seen V.may_leave) F.bytes G.bytes (point self.old) (point self.new)) }
+            → OnOk result (Acknowledges (Outlasts Holds V.known V.seen V.may_leave) F.bytes G.bytes (point self.old) (point self.new)) }
+
+        // Opened again, the array has the block map that a stop before would have left, or that of now; a kill after Ok leaves that of now.
+        ensures map { (F : StoreState) (keys : List ℕ) → IsStoreOf self.old.store.tiers self.old.store.size self.old.unsynced F
+            → HasKeys self.new.store.tiers keys
+            → Lasts (Outlasts HasKeys V.known V.seen V.may_leave) (λ p. V.moment p.vault) (OutlastsSince HasKeys V.left_since)
+            keys keys (point self.old) (point self.new)
+            × OnOk result (Acknowledges (Outlasts HasKeys V.known V.seen V.may_leave) keys keys (point self.old) (point self.new)) }
     {
         self.unsynced = true;
         let zeroed = self.store.zero(alloc, offset, count);
@@ -336,22 +365,22 @@ impl<N: Chronicle, V: Vault + Drop> JournaledStore<N, V> {
 
     /// Makes all bytes durable. `Sync` where the journal failed, and while more than one drive is lost.
     pub fn kept_flush(&mut self) -> Result<(), StoreFault>
-        ensures change { (F : Flat) → IsStoreOf self.old.store.tiers self.old.store.size self.old.unsynced F
-            → (G : Flat) × IsStoreOf self.new.store.tiers self.new.store.size self.new.unsynced G × IsFlushed result F G }
+        ensures change { (F : StoreState) → IsStoreOf self.old.store.tiers self.old.store.size self.old.unsynced F
+            → (G : StoreState) × IsStoreOf self.new.store.tiers self.new.store.size self.new.unsynced G × IsFlushed result F G }
         ensures sizes { (self.new.store.size ≡ self.old.store.size)
             × (self.new.store.tiers.world.array.parts.groups.payload ≡ self.old.store.tiers.world.array.parts.groups.payload) }
         ensures stays { V.known self.old.vault → V.known self.new.vault }
         ensures step { V.known self.old.vault → (lost : List Bool)
-            → UnlessFailed self.old.failed (IsLive lost self.old.changes.keeper self.old.changes.noted self.old.changes.batch
+            → UnlessFailed self.old.failed (IsUpToDate lost self.old.changes.keeper self.old.changes.noted self.old.changes.batch
             (recovered (V.seen self.old.vault)))
-            → UnlessFailed self.new.failed (IsLive lost self.new.changes.keeper self.new.changes.noted self.new.changes.batch
+            → UnlessFailed self.new.failed (IsUpToDate lost self.new.changes.keeper self.new.changes.noted self.new.changes.batch
             (recovered (V.seen self.new.vault))) }
 
         // Each stop after Ok leaves all that the drives hold, and which drives are lost.
         ensures kept { V.known self.old.vault → (lost : List Bool)
-            → UnlessFailed self.old.failed (IsLive lost self.old.changes.keeper self.old.changes.noted self.old.changes.batch
+            → UnlessFailed self.old.failed (IsUpToDate lost self.old.changes.keeper self.old.changes.noted self.old.changes.batch
             (recovered (V.seen self.old.vault)))
-            → OnOk result (IsKept lost self.new.store.tiers.world.array.parts.drives (recovered (V.seen self.new.vault))) }
+            → OnOk result (IsPersisted lost self.new.store.tiers.world.array.parts.drives (recovered (V.seen self.new.vault))) }
         ensures flushed { V.known self.old.vault → (lost : List Bool) (stop : Stop) (low : ℕ)
             → UnlessFailed self.old.failed (IsLogged V.seen V.may_leave lost stop self.old.vault low)
             → OnOk result (IsLogged V.seen V.may_leave lost stop self.new.vault (length (Image.journal (V.seen self.new.vault)))) }
@@ -361,20 +390,27 @@ impl<N: Chronicle, V: Vault + Drop> JournaledStore<N, V> {
 
         // A stop at any moment leaves the units of before, or those of the drives now.
         ensures any_moment { V.known self.old.vault → (lost : List Bool)
-            → UnlessFailed self.old.failed (IsLive lost self.old.changes.keeper self.old.changes.noted self.old.changes.batch
+            → UnlessFailed self.old.failed (IsUpToDate lost self.old.changes.keeper self.old.changes.noted self.old.changes.batch
             (recovered (V.seen self.old.vault)))
             → (stop : Stop) (low : ℕ) → IsLogged V.seen V.may_leave lost stop self.old.vault low
             → LeavesOnly V.moment V.left_since stop self.old.vault self.new.vault
             (IsBeforeOrNow lost (V.seen self.old.vault) low self.new.store.tiers.world.array.parts.drives) }
 
         // A stop leaves the bytes, with all groups and drives.
-        ensures follows { (F : Flat) → IsStoreOf self.old.store.tiers self.old.store.size self.old.unsynced F
+        ensures follows { (F : StoreState) → IsStoreOf self.old.store.tiers self.old.store.size self.old.unsynced F
             → Follows self.old.store.tiers self.new.store.tiers }
-        ensures lasts { (F : Flat) → IsStoreOf self.old.store.tiers self.old.store.size self.old.unsynced F
-            → Lasts (Outlasts V.known V.seen V.may_leave) (λ p. V.moment p.vault)
-            (OutlastsSince V.left_since) F.bytes F.bytes (point self.old) (point self.new) }
-        ensures durable { (F : Flat) → IsStoreOf self.old.store.tiers self.old.store.size self.old.unsynced F
-            → OnOk result (Flushes (Outlasts V.known V.seen V.may_leave) F.bytes (point self.old) (point self.new)) }
+        ensures lasts { (F : StoreState) → IsStoreOf self.old.store.tiers self.old.store.size self.old.unsynced F
+            → Lasts (Outlasts Holds V.known V.seen V.may_leave) (λ p. V.moment p.vault)
+            (OutlastsSince Holds V.left_since) F.bytes F.bytes (point self.old) (point self.new) }
+        ensures durable { (F : StoreState) → IsStoreOf self.old.store.tiers self.old.store.size self.old.unsynced F
+            → OnOk result (Flushes (Outlasts Holds V.known V.seen V.may_leave) F.bytes (point self.old) (point self.new)) }
+
+        // Opened again, the array has the block map that a stop before would have left, or that of now; each stop after Ok leaves that of now.
+        ensures map { (F : StoreState) (keys : List ℕ) → IsStoreOf self.old.store.tiers self.old.store.size self.old.unsynced F
+            → HasKeys self.new.store.tiers keys
+            → Lasts (Outlasts HasKeys V.known V.seen V.may_leave) (λ p. V.moment p.vault) (OutlastsSince HasKeys V.left_since)
+            keys keys (point self.old) (point self.new)
+            × OnOk result (Flushes (Outlasts HasKeys V.known V.seen V.may_leave) keys (point self.old) (point self.new)) }
     {
         let flushed = self.store.flush();
         self.publish_durably()?;

@@ -48,10 +48,10 @@ in_front (e ∷ front) es number keys is =
     go (inl same) later = found e (front ++ es) number same ∙ sym (found e front number same) ∙ is
     go (inr ne) later = passed e (front ++ es) number ne ∙ later ne
 
-behind : (front es : Entries) (number : ℕ) → find front number ≡ None → find (front ++ es) number ≡ find es number
-behind [] es number none = refl
-behind (e ∷ front) es number none =
-    go (cases_eq number e.0) (λ ne. behind front es number (sym (passed e front number ne) ∙ none))
+following : (front es : Entries) (number : ℕ) → find front number ≡ None → find (front ++ es) number ≡ find es number
+following [] es number none = refl
+following (e ∷ front) es number none =
+    go (cases_eq number e.0) (λ ne. following front es number (sym (passed e front number ne) ∙ none))
   where
     none_some : None ≡ Some e.1 → ⊥
     none_some p = cc
@@ -65,7 +65,7 @@ only_front : (front es : Entries) (number : ℕ) → find es number ≡ None →
 only_front front es number none = go (find front number) refl
   where
     go : (o : Option Lanes) → find front number ≡ o → find (front ++ es) number ≡ find front number
-    go None e = behind front es number e ∙ none ∙ sym e
+    go None e = following front es number e ∙ none ∙ sym e
     go (Some keys) e = in_front front es number keys e ∙ sym e
 
 -- in order, the pages before one have lower numbers, and those after it higher ones
@@ -107,7 +107,7 @@ module _ (es front : Entries) (number : ℕ) (keys : Lanes) (rest : Entries) (me
   -- the number has its page
   pub met_page : find es number ≡ Some keys
   met_page =
-      ap (λ (xs : Entries). find xs number) (sym met.parts) ∙ behind front ((number, keys) ∷ rest) number (none_front number (omega arith))
+      ap (λ (xs : Entries). find xs number) (sym met.parts) ∙ following front ((number, keys) ∷ rest) number (none_front number (omega arith))
       ∙ found (number, keys) rest number refl
 
   -- the pages before this one have no block from it on
@@ -133,7 +133,7 @@ module _ (es front : Entries) (number : ℕ) (keys : Lanes) (rest : Entries) (me
   pub front_at : (b : ℕ) → b / 64 ≡ number → at (front ++ (number, keys) ∷ []) b ≡ slice_index keys (b % 64)
   front_at b is =
       at_is (front ++ (number, keys) ∷ []) b
-      ∙ ap (λ o. lanes_of o (b % 64)) (behind front ((number, keys) ∷ []) (b / 64) (none_front (b / 64) (omega arith)) ∙ found (number, keys) [] (b / 64) is)
+      ∙ ap (λ o. lanes_of o (b % 64)) (following front ((number, keys) ∷ []) (b / 64) (none_front (b / 64) (omega arith)) ∙ found (number, keys) [] (b / 64) is)
 
   pub front_else : (b : ℕ) → (b / 64 ≡ number → ⊥) → at (front ++ (number, keys) ∷ []) b ≡ at front b
   front_else b ne =

@@ -36,20 +36,20 @@ either a b = grind arith
 
 -- the map of some records, joined with one more record, is the map of them all
 pub took : (xs : List Record) (r : Record) (M N : ℕ → ℕ) → IsSame N (join M (only r)) → IsMapOf xs M → IsMapOf (xs ++ r ∷ []) N
-took xs r M N joined was = record { told = told; most = most }
+took xs r M N joined was = record { reported = reported; most = most }
   where
-    Tells : ℕ → Type 0
-    Tells block = (q : Record) × (Contains (xs ++ r ∷ []) q) × (q.block ≡ block) × (key_of q ≡ N block)
+    Reports : ℕ → Type 0
+    Reports block = (q : Record) × (Contains (xs ++ r ∷ []) q) × (q.block ≡ block) × (key_of q ≡ N block)
 
-    old : (block : ℕ) → N block ≡ M block → 0 < N block → Tells block
+    old : (block : ℕ) → N block ≡ M block → 0 < N block → Reports block
     old block e above =
-        let q = was.told block (omega arith) in
+        let q = was.reported block (omega arith) in
         (q.0, Contains-append_left xs (r ∷ []) q.0 q.1, q.2, q.3 ∙ sym e)
 
-    told : (block : ℕ) → 0 < N block → Tells block
-    told block above = go (either (M block) (only r block)) (cases_eq block r.block)
+    reported : (block : ℕ) → 0 < N block → Reports block
+    reported block above = go (either (M block) (only r block)) (cases_eq block r.block)
       where
-        go : ((max (M block) (only r block) ≡ M block) ⊎ (max (M block) (only r block) ≡ only r block)) → (block ≡ r.block) ⊎ (block ≡ r.block → ⊥) → Tells block
+        go : ((max (M block) (only r block) ≡ M block) ⊎ (max (M block) (only r block) ≡ only r block)) → (block ≡ r.block) ⊎ (block ≡ r.block → ⊥) → Reports block
         go (inl e) _ = old block (joined block ∙ e) above
         go (inr e) (inl at) = (r, Contains-push xs r, sym at, sym (joined block ∙ e ∙ only_here r block at))
         go (inr e) (inr ne) = let is : N block ≡ 0 = joined block ∙ e ∙ only_else r block ne in absurd (omega arith)
@@ -75,22 +75,22 @@ taken (Err _) r key M N is joined = tt
 
 -- the maps of two lists, joined, are the map of both lists together
 pub together : (xs ys : List Record) (M N joined : ℕ → ℕ) → IsSame joined (join M N) → IsMapOf xs M → IsMapOf ys N → IsMapOf (xs ++ ys) joined
-together xs ys M N joined is ours theirs = record { told = told; most = most }
+together xs ys M N joined is ours theirs = record { reported = reported; most = most }
   where
-    Tells : ℕ → Type 0
-    Tells block = (q : Record) × (Contains (xs ++ ys) q) × (q.block ≡ block) × (key_of q ≡ joined block)
+    Reports : ℕ → Type 0
+    Reports block = (q : Record) × (Contains (xs ++ ys) q) × (q.block ≡ block) × (key_of q ≡ joined block)
 
-    told : (block : ℕ) → 0 < joined block → Tells block
-    told block above = go (either (M block) (N block))
+    reported : (block : ℕ) → 0 < joined block → Reports block
+    reported block above = go (either (M block) (N block))
       where
-        go : ((max (M block) (N block) ≡ M block) ⊎ (max (M block) (N block) ≡ N block)) → Tells block
+        go : ((max (M block) (N block) ≡ M block) ⊎ (max (M block) (N block) ≡ N block)) → Reports block
         go (inl e) =
             let same : joined block ≡ M block = is block ∙ e in
-            let q = ours.told block (omega arith) in
+            let q = ours.reported block (omega arith) in
             (q.0, Contains-append_left xs ys q.0 q.1, q.2, q.3 ∙ sym same)
         go (inr e) =
             let same : joined block ≡ N block = is block ∙ e in
-            let q = theirs.told block (omega arith) in
+            let q = theirs.reported block (omega arith) in
             (q.0, Contains-append_right xs ys q.0 q.1, q.2, q.3 ∙ sym same)
 
     most : (q : Record) → Contains (xs ++ ys) q → key_of q ≤ joined q.block

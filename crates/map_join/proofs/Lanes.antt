@@ -4,7 +4,7 @@ use Rattle.std.proofs.lemmas.Bool.{cases_eq, cases_lt}
 use Rattle.std.proofs.lemmas.List.{get_or-set_same, get_or-set_other, get_or-replicate, get_or_past, length-replicate, length-set}
 use Rattle.map_join.specs.Maps.{Lanes, IsSame, lone}
 use Rattle.map_join.specs.Pages.{HasKey, IsPage}
-use Rattle.map_join.specs.Tables.{IsTable}
+use Rattle.map_join.specs.Tables.{IsKeyTable}
 use Rattle.map_join.proofs.Joins.{lone_here, lone_else}
 
 -- a page that has no key
@@ -32,7 +32,7 @@ one_key n lane key lt other = go (cases_eq other lane)
     go (inr ne) = get_or-set_other (blank n) lane other key 0 ne ∙ none_at n other ∙ sym (lone_else lane key other ne)
 
 -- a page of keys that a page or a table has
-pub same_page : (keys table : Lanes) → IsSame (slice_index keys) (slice_index table) → IsTable table → HasKey table → IsPage keys
+pub same_page : (keys table : Lanes) → IsSame (slice_index keys) (slice_index table) → IsKeyTable table → HasKey table → IsPage keys
 same_page keys table same least some = record {
   least = λ lane above. let e = same lane in let l = least lane (omega arith) in omega arith;
   some = (some.0, some.1, (let e = same some.0 in let s = some.2 in omega arith));

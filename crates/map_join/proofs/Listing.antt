@@ -19,40 +19,40 @@ abbrev pub recorded : ℕ × ℕ → Record
 recorded e = record_of e.0 e.1
 
 -- a number that is at least the least key has a record, and no other number does
-pub told : (block key : ℕ) → 2 ^ 32 ≤ key → record_at block key ≡ Some (record_of block key)
-told block key h = grind (arith, nat_tests)
+pub reported : (block key : ℕ) → 2 ^ 32 ≤ key → record_at block key ≡ Some (record_of block key)
+reported block key h = grind (arith, nat_tests)
 
 untold : (block key : ℕ) → key < 2 ^ 32 → record_at block key ≡ None
 untold block key h = grind (arith, nat_tests)
 
 -- the record with this key is what a map has of a block; where there is no such record, the map has nothing
-pub told_key : (block key : ℕ) → (0 < key → 2 ^ 32 ≤ key) → MatchOption (record_at block key) (key ≡ 0) (λ r. key_of r ≡ key)
-told_key block key least = go key least
+pub reported_key : (block key : ℕ) → (0 < key → 2 ^ 32 ≤ key) → MatchOption (record_at block key) (key ≡ 0) (λ r. key_of r ≡ key)
+reported_key block key least = go key least
   where
     same : (n : ℕ) → key_of (record_of block n) ≡ n
     same n = omega arith
 
     go : (n : ℕ) → (0 < n → 2 ^ 32 ≤ n) → MatchOption (record_at block n) (n ≡ 0) (λ r. key_of r ≡ n)
     go zero l = refl
-    go (suc n) l = rw (told block (suc n) (l (omega arith))) (same (suc n))
+    go (suc n) l = rw (reported block (suc n) (l (omega arith))) (same (suc n))
 
 -- a key that has a record
-pub record_told : (block key : ℕ) (r : Record) → record_at block key ≡ Some r → (2 ^ 32 ≤ key) × (record_of block key ≡ r)
-record_told block key r is = by_size (cases_lt key (2 ^ 32))
+pub record_reported : (block key : ℕ) (r : Record) → record_at block key ≡ Some r → (2 ^ 32 ≤ key) × (record_of block key ≡ r)
+record_reported block key r is = by_size (cases_lt key (2 ^ 32))
   where
     none_some : None ≡ Some r → ⊥
     none_some e = cc
 
     by_size : (key < 2 ^ 32) ⊎ (2 ^ 32 ≤ key) → (2 ^ 32 ≤ key) × (record_of block key ≡ r)
     by_size (inl small) = absurd (none_some (sym (untold block key small) ∙ is))
-    by_size (inr big) = (big, same_Some _ _ (sym (told block key big) ∙ is))
+    by_size (inr big) = (big, same_Some _ _ (sym (reported block key big) ∙ is))
 
 -- the key that a map has of a block whose key has a record
-pub key_told : (es : Entries) (block : ℕ) (r : Record) → record_at block (at es block) ≡ Some r → (key : ℕ) × (at es block ≡ key) × (recorded (block, key) ≡ r)
-key_told es block r is = (at es block, refl, (record_told block (at es block) r is).1)
+pub key_reported : (es : Entries) (block : ℕ) (r : Record) → record_at block (at es block) ≡ Some r → (key : ℕ) × (at es block ≡ key) × (recorded (block, key) ≡ r)
+key_reported es block r is = (at es block, refl, (record_reported block (at es block) r is).1)
 
 own_block : (block key : ℕ) (r : Record) → record_at block key ≡ Some r → r.block ≡ block
-own_block block key r is = sym (ap (λ (q : Record). q.block) (record_told block key r is).1)
+own_block block key r is = sym (ap (λ (q : Record). q.block) (record_reported block key r is).1)
 
 map_member : {X Y : Type 0} (g : X → Y) (xs : List X) (d : X) (y : Y) → Contains (map g xs) y → (x : X) × (Contains xs x) × (g x ≡ y)
 map_member g xs d y h =
@@ -105,15 +105,15 @@ list_push M bound xs r is h = record {
         subst (Contains (xs ++ r ∷ [])) same (Contains-push xs r)
 
 -- the record of a lane
-pub told_lane : (M : ℕ → ℕ) (number lane : ℕ) (keys : Lanes) (block : ℕ) (result : Option Record) → IsPageOf M number keys → lane < 64
+pub reported_lane : (M : ℕ → ℕ) (number lane : ℕ) (keys : Lanes) (block : ℕ) (result : Option Record) → IsPageOf M number keys → lane < 64
     → block ≡ 64 * number + lane → result ≡ record_at block (slice_index keys lane) → record_at (64 * number + lane) (M (64 * number + lane)) ≡ result
-told_lane M number lane keys block result own lt here is =
+reported_lane M number lane keys block result own lt here is =
     ap (record_at (64 * number + lane)) (own lane lt) ∙ ap (λ b. record_at b (slice_index keys lane)) (sym here) ∙ sym is
 
 pub lane_more : (M : ℕ → ℕ) (bound lane : ℕ) (xs ys : List Record) (r : Record) → ys ≡ xs ++ r ∷ [] → record_at (bound + lane) (M (bound + lane)) ≡ Some r
     → IsListBelow (bound + lane) M xs → IsListBelow (bound + (lane + 1)) M ys
-lane_more M bound lane xs ys r is told h =
-    subst (λ zs. IsListBelow (bound + (lane + 1)) M zs) (sym is) (subst (λ b. IsListBelow b M (xs ++ r ∷ [])) (omega arith) (list_push M (bound + lane) xs r told h))
+lane_more M bound lane xs ys r is reported h =
+    subst (λ zs. IsListBelow (bound + (lane + 1)) M zs) (sym is) (subst (λ b. IsListBelow b M (xs ++ r ∷ [])) (omega arith) (list_push M (bound + lane) xs r reported h))
 
 pub lane_skip : (M : ℕ → ℕ) (bound lane : ℕ) (xs ys : List Record) → ys ≡ xs → record_at (bound + lane) (M (bound + lane)) ≡ None
     → IsListBelow (bound + lane) M xs → IsListBelow (bound + (lane + 1)) M ys
@@ -124,7 +124,7 @@ lane_skip M bound lane xs ys is none h =
 pub list_none : IsListOf (at []) []
 list_none = record {
   rising = λ k lt. absurd (omega (arith, lt));
-  each = λ r. ((λ has. absurd (omega (arith, has.1))), (λ is. let t = (record_told r.block (at [] r.block) r is).0 in let z = at_none r.block in absurd (omega arith)));
+  each = λ r. ((λ has. absurd (omega (arith, has.1))), (λ is. let t = (record_reported r.block (at [] r.block) r is).0 in let z = at_none r.block in absurd (omega arith)));
 }
 
 module _ (es front : Entries) (number : ℕ) (keys : Lanes) (rest : Entries) (met : IsMet es front number keys rest) where
@@ -142,7 +142,7 @@ module _ (es front : Entries) (number : ℕ) (keys : Lanes) (rest : Entries) (me
           by (inl lt) = (omega arith, ap (record_at r.block) (met_below es front number keys rest met r.block lt) ∙ is)
           by (inr le) =
               let z = unmet es front number keys rest met r.block le in
-              let t = (record_told r.block (at front r.block) r is).0 in
+              let t = (record_reported r.block (at front r.block) r is).0 in
               absurd (omega arith)
 
       from : (r : Record) → r.block < 64 * number → record_at r.block (at es r.block) ≡ Some r → Contains xs r
@@ -175,5 +175,5 @@ module _ (es front : Entries) (number : ℕ) (keys : Lanes) (rest : Entries) (me
           by (inr le) =
               let e = front_else es front number keys rest met r.block (λ q. absurd (omega arith)) in
               let z = unmet es front number keys rest met r.block (omega arith) in
-              let t = (record_told r.block (at more r.block) r is).0 in
+              let t = (record_reported r.block (at more r.block) r is).0 in
               absurd (omega arith)

@@ -4,7 +4,7 @@ use Rattle.std.proofs.lemmas.Bool.{cases_eq}
 use Rattle.std.proofs.lemmas.Bool.Decides.{nat_tests}
 use Rattle.map_join.specs.declared.block_map.MapRefusal.{MapRefusal}
 use Rattle.map_join.specs.Maps.{Lanes, Entries, find, at, lanes_of, IsSame, join, lone, IsMapOf}
-use Rattle.map_join.specs.Pages.{with_page, paged, AreNumbers, HasSet, IsRaised}
+use Rattle.map_join.specs.Pages.{with_page, paged, AreNumbers, HasSet, IsPageJoined}
 use Rattle.map_join.proofs.Joins.{tied, apart, lone_here, lone_else}
 
 pub at_is : (m : Entries) (block : ℕ) → at m block ≡ lanes_of (find m (block / 64)) (block % 64)
@@ -16,7 +16,7 @@ at_none block = at_is [] block
 
 pub none_map : IsMapOf [] (at [])
 none_map = record {
-  told = λ block above. let z = at_none block in absurd (omega arith);
+  reported = λ block above. let z = at_none block in absurd (omega arith);
   most = λ r has. let lt = has.1 in absurd (omega (arith, lt));
 }
 
@@ -90,7 +90,7 @@ module _ (m n : Entries) (number : ℕ) (keys : Lanes) (new : HasSet m n number 
       go (inr ne) = were other had (sym (set_else other ne) ∙ has)
 
 -- a map of which one page was joined with keys is the join with that page
-pub raised : (m n : Entries) (number : ℕ) (f : ℕ → ℕ) → IsRaised m n number f → IsSame (at n) (join (at m) (paged number f))
+pub raised : (m n : Entries) (number : ℕ) (f : ℕ → ℕ) → IsPageJoined m n number f → IsSame (at n) (join (at m) (paged number f))
 raised m n number f new block = go (cases_eq (block / 64) number)
   where
     now : at n block ≡ with_page (at m) number (slice_index new.0) block
@@ -106,11 +106,11 @@ raised m n number f new block = go (cases_eq (block / 64) number)
         let p = paged_else number f block ne in
         grind arith
 
-pub raised_key : (m n : Entries) (block key : ℕ) → IsRaised m n (block / 64) (lone (block % 64) key) → IsSame (at n) (join (at m) (lone block key))
+pub raised_key : (m n : Entries) (block key : ℕ) → IsPageJoined m n (block / 64) (lone (block % 64) key) → IsSame (at n) (join (at m) (lone block key))
 raised_key m n block key new b =
     raised m n (block / 64) (lone (block % 64) key) new b ∙ ap (λ k. max (at m b) k) (paged_lone block key b)
 
-pub raised_numbers : (m n : Entries) (number : ℕ) (f : ℕ → ℕ) → number < 2 ^ 26 → AreNumbers m → IsRaised m n number f → AreNumbers n
+pub raised_numbers : (m n : Entries) (number : ℕ) (f : ℕ → ℕ) → number < 2 ^ 26 → AreNumbers m → IsPageJoined m n number f → AreNumbers n
 raised_numbers m n number f low were new = set_numbers m n number new.0 new.1 low were
 
 -- a page that isn't there has no key
@@ -121,12 +121,12 @@ absent_at m block none = at_is m block ∙ ap (λ o. lanes_of o (block % 64)) no
 abbrev pub Answer : Type 0
 Answer = Result (Unit {0}) MapRefusal
 
-pub raised_ok : (result : Answer) (m n : Entries) (block key : ℕ) → OnOk result (IsRaised m n (block / 64) (lone (block % 64) key))
+pub raised_ok : (result : Answer) (m n : Entries) (block key : ℕ) → OnOk result (IsPageJoined m n (block / 64) (lone (block % 64) key))
     → OnOk result (IsSame (at n) (join (at m) (lone block key)))
 raised_ok (Ok _) m n block key new = raised_key m n block key new
 raised_ok (Err _) m n block key new = tt
 
-pub paged_ok : (result : Answer) (m n : Entries) (number : ℕ) (f : ℕ → ℕ) → OnOk result (IsRaised m n number f)
+pub paged_ok : (result : Answer) (m n : Entries) (number : ℕ) (f : ℕ → ℕ) → OnOk result (IsPageJoined m n number f)
     → OnOk result (IsSame (at n) (join (at m) (paged number f)))
 paged_ok (Ok _) m n number f new = raised m n number f new
 paged_ok (Err _) m n number f new = tt
@@ -142,7 +142,7 @@ absent_there (Ok _) m block none above = refl
 absent_there (Err _) m block none above = let z = absent_at m block none in absurd (omega arith)
 
 -- the numbers are kept where a call failed, and where it didn't
-pub numbers_where : (result : Answer) (m n : Entries) (number : ℕ) (f : ℕ → ℕ) → number < 2 ^ 26 → AreNumbers m → OnOk result (IsRaised m n number f)
+pub numbers_where : (result : Answer) (m n : Entries) (number : ℕ) (f : ℕ → ℕ) → number < 2 ^ 26 → AreNumbers m → OnOk result (IsPageJoined m n number f)
     → OnErr result (n ≡ m) → AreNumbers n
 numbers_where (Ok _) m n number f low were new same = raised_numbers m n number f low were new
 numbers_where (Err _) m n number f low were new same = subst AreNumbers (sym same) were

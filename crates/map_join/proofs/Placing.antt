@@ -7,10 +7,10 @@ use Rattle.map_join.specs.declared.records.Record.{Record}
 use Rattle.map_join.specs.Maps.{Lanes, Entries, at}
 use Rattle.map_join.specs.Record.{record_of}
 use Rattle.map_join.specs.Lists.{IsCount, ListsBelow}
-use Rattle.map_join.specs.Live.{LiesAt, IsLive, IsBlockAt, IsLiveIn, IsLiveCount}
+use Rattle.map_join.specs.Live.{MapsTo, IsLive, IsBlockAt, IsLiveIn, IsLiveCount}
 use Rattle.map_join.specs.Marks.{IsPlacedAt, IsPlacedBelow, IsPlaced, IsSet, IsMarkedIn}
 use Rattle.map_join.proofs.Fronts.{IsMet, unmet, front_at, front_else}
-use Rattle.map_join.proofs.Listing.{told, record_told, page_of}
+use Rattle.map_join.proofs.Listing.{reported, record_reported, page_of}
 use Rattle.map_join.proofs.Paged.{at_none, number_of, lane_of}
 use Rattle.map_join.proofs.Rising.{count_same, below_more, below_skip}
 
@@ -25,15 +25,15 @@ none_set n index is =
     cc
 
 -- a slot is live exactly where some block's key says so
-pub lies : (keys : ℕ → ℕ) (slot block : ℕ) → IsPlacedAt keys slot block → LiesAt keys block slot
-lies keys slot block p = (record_of block (keys block), told block (keys block) p.0, p.1)
+pub lies : (keys : ℕ → ℕ) (slot block : ℕ) → IsPlacedAt keys slot block → MapsTo keys block slot
+lies keys slot block p = (record_of block (keys block), reported block (keys block) p.0, p.1)
 
 pub live_placed : (keys : ℕ → ℕ) (slot : ℕ) → IsPlaced keys slot → IsLive keys slot
 live_placed keys slot p = (p.0, lies keys slot p.0 p.1)
 
 pub placed_live : (keys : ℕ → ℕ) (slot : ℕ) → IsLive keys slot → IsPlaced keys slot
 placed_live keys slot live =
-    let r = record_told live.0 (keys live.0) live.1.0 live.1.1 in
+    let r = record_reported live.0 (keys live.0) live.1.0 live.1.1 in
     (live.0, (r.0, ap (λ (q : Record). q.place) r.1 ∙ live.1.2))
 
 -- the places of a map with one page more are those of the map and those of the page
@@ -108,7 +108,7 @@ marks_more es front number keys rest met read own group was now before step inde
 -- counted marks count live slots
 pub counted : (keys : ℕ → ℕ) (group slots count : ℕ) (marks : List Bool) → slots ≤ 128 → AreMarks keys group marks
     → IsCount (IsMarkedIn marks group slots) count → IsLiveCount keys group slots count
-counted keys group slots count marks few told h = count_same (IsMarkedIn marks group slots) (IsLiveIn keys group slots) count to from h
+counted keys group slots count marks few reported h = count_same (IsMarkedIn marks group slots) (IsLiveIn keys group slots) count to from h
   where
     slot_is : (slot : ℕ) → slot / 128 ≡ group → 128 * group + slot % 128 ≡ slot
     slot_is slot e = omega arith
@@ -117,14 +117,14 @@ counted keys group slots count marks few told h = count_same (IsMarkedIn marks g
     to slot m = record {
       own = m.own;
       among = m.among;
-      live = live_placed keys slot (subst (IsPlaced keys) (slot_is slot m.own) ((told (slot % 128) (omega (arith, m.among))).0 m.marked));
+      live = live_placed keys slot (subst (IsPlaced keys) (slot_is slot m.own) ((reported (slot % 128) (omega (arith, m.among))).0 m.marked));
     }
 
     from : (slot : ℕ) → IsLiveIn keys group slots slot → IsMarkedIn marks group slots slot
     from slot m = record {
       own = m.own;
       among = m.among;
-      marked = (told (slot % 128) (omega (arith, m.among))).1 (subst (IsPlaced keys) (sym (slot_is slot m.own)) (placed_live keys slot m.live));
+      marked = (reported (slot % 128) (omega (arith, m.among))).1 (subst (IsPlaced keys) (sym (slot_is slot m.own)) (placed_live keys slot m.live));
     }
 
 -- what is read of the marks

@@ -75,7 +75,7 @@ IsDifference M N (Some block) = IsLowestDifference M N block
 -- a map is that of a list of records: each of its keys is the key of a record of the list, and no record of the list has a
 -- greater one; neither the order of the list nor duplicates in it matter
 pub record IsMapOf (records : List Record) (M : ℕ → ℕ) : Type 0 where
-  pub told : (block : ℕ) → 0 < M block → (r : Record) × (Contains records r) × (r.block ≡ block) × (key_of r ≡ M block)
+  pub reported : (block : ℕ) → 0 < M block → (r : Record) × (Contains records r) × (r.block ≡ block) × (key_of r ≡ M block)
   pub most : (r : Record) → Contains records r → key_of r ≤ M r.block
 
 -- two lists have the same records, in any order and with any repeats

@@ -5,7 +5,7 @@ use Rattle.std.specs.Ordering.{nat_cmp, is_eq}
 use Rattle.map_join.specs.declared.records.Record.{Record}
 use Rattle.map_join.specs.Record.{record_at}
 use Rattle.map_join.specs.Maps.{Lanes, Entries, find, lanes_of, IsSame, join}
-use Rattle.map_join.specs.Tables.{IsTable}
+use Rattle.map_join.specs.Tables.{IsKeyTable}
 
 -- some block of the page has a key
 abbrev pub HasKey : Lanes → Type 0
@@ -13,7 +13,7 @@ HasKey keys = (lane : ℕ) × (lane < 64) × (0 < slice_index keys lane)
 
 -- the numbers of a page are records' keys or 0, and not all 0
 pub record IsPage (keys : Lanes) : Type 0 where
-  pub least : IsTable keys
+  pub least : IsKeyTable keys
   pub some : HasKey keys
 
 -- a map with other keys in one page
@@ -37,8 +37,8 @@ abbrev pub HasSet : Entries → Entries → ℕ → Lanes → Type 0
 HasSet m n number keys = (other : ℕ) → find n other ≡ cond (is_eq (nat_cmp number other)) (Some keys) (find m other)
 
 -- one page of n is m's joined with these keys, and every other page is as in m
-abbrev pub IsRaised : Entries → Entries → ℕ → (ℕ → ℕ) → Type 0
-IsRaised m n number lanes = (keys : Lanes) × HasSet m n number keys × IsSame (slice_index keys) (join (lanes_of (find m number)) lanes)
+abbrev pub IsPageJoined : Entries → Entries → ℕ → (ℕ → ℕ) → Type 0
+IsPageJoined m n number lanes = (keys : Lanes) × HasSet m n number keys × IsSame (slice_index keys) (join (lanes_of (find m number)) lanes)
 
 -- a block of which two maps have different keys, where they agree on each lower block of which the first has a key; none where
 -- they agree on each block of which the first has a key

@@ -35,8 +35,8 @@ pub record IsRecord (r : Record) : Type 0 where
   pub place : r.place < 2 ^ 16
 
 -- the twelve bytes of a record: block, version, hop and place, each with its highest byte first
-abbrev pub bytes_of : Record → List ℕ
-bytes_of r = big_bytes 4 r.block ++ (big_bytes 4 r.version ++ (big_bytes 2 r.hop ++ big_bytes 2 r.place))
+abbrev pub record_bytes : Record → List ℕ
+record_bytes r = big_bytes 4 r.block ++ (big_bytes 4 r.version ++ (big_bytes 2 r.hop ++ big_bytes 2 r.place))
 
 -- the fields are the numbers that the twelve bytes spell
 pub record Spells (bytes : List ℕ) (r : Record) : Type 0 where

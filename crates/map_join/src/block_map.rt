@@ -4,8 +4,8 @@ ghost use Rattle.std.specs.Prelude.{◌++◌, IsOk, IfOk, IfSome, MatchOption, O
 ghost use Rattle.map_join.specs.Record.{record_at, key_of};
 ghost use Rattle.map_join.specs.Maps.{find, at, lanes_of, IsSame, IsBelow, join, lone, only, IsMapOf, IsListOf, IsPartlyJoined, IsDifference};
 ghost use Rattle.map_join.specs.Numbers.{refusal_number};
-ghost use Rattle.map_join.specs.Pages.{HasKey, AreNumbers, HasSet, IsRaised, with_page, paged, IsPageOf, IsDifferenceOf, IsFirstBlock, lower_of, IsListBelow};
-ghost use Rattle.map_join.specs.Tables.{IsTable};
+ghost use Rattle.map_join.specs.Pages.{HasKey, AreNumbers, HasSet, IsPageJoined, with_page, paged, IsPageOf, IsDifferenceOf, IsFirstBlock, lower_of, IsListBelow};
+ghost use Rattle.map_join.specs.Tables.{IsKeyTable};
 
 use crate::page::{LANES, Page, block_of, covers_lanes, differing_lane, has_none};
 use crate::records::Record;
@@ -64,7 +64,7 @@ impl BlockMap {
     /// there is a key.
     pub fn of_table(alloc: Global, keys: &[u64]) -> Result<BlockMap, MapRefusal>
         requires many { length keys.now ≤ 2 ^ 32 }
-        requires written { IsTable keys.now }
+        requires written { IsKeyTable keys.now }
         ensures table { IfOk result (λ map. IsSame (at map) (slice_index keys.now)) }
         ensures there { IsSame (slice_index keys.now) (λ _. 0) → IsOk result }
     {
@@ -86,7 +86,7 @@ impl BlockMap {
     fn put_table(&mut self, alloc: Global, number: u32, table: &[u64]) -> Result<(), MapRefusal>
         requires number { number < 2 ^ 26 }
         requires many { length table.now ≤ 64 }
-        requires written { IsTable table.now }
+        requires written { IsKeyTable table.now }
         requires some { HasKey table.now }
         ensures { OnOk result (IsSame (at self.new) (with_page (at self.old) number (slice_index table.now))) }
     {
@@ -252,7 +252,7 @@ static NO_KEYS: [u64; LANES] = [0; LANES];
 // The keys of a page, all 0 where it isn't there.
 fn lanes_in(pages: &BTreeMap<u32, Page>, number: u32) -> &[u64; LANES]
     ensures value { IsSame (slice_index result.now) (lanes_of (find pages.now.entries number)) }
-    ensures least { IsTable result.now }
+    ensures least { IsKeyTable result.now }
 {
     match pages.get(&number) {
         Some(page) => page.lanes(),
@@ -270,7 +270,7 @@ fn raise_key(
 ) -> Result<(), MapRefusal>
     requires lane { lane < 64 }
     requires key { 2 ^ 32 ≤ key }
-    ensures ok { OnOk result (IsRaised pages.old.entries pages.new.entries number (lone lane key)) }
+    ensures ok { OnOk result (IsPageJoined pages.old.entries pages.new.entries number (lone lane key)) }
     ensures err { OnErr result (pages.new.entries ≡ pages.old.entries) }
     ensures absent { OnErr result (find pages.old.entries number ≡ None) }
 {
@@ -286,7 +286,7 @@ fn raise_key(
 
 // Raises the keys of a page to those of another, where these are greater. Allocates only if the page isn't there.
 fn raise_page(pages: &mut BTreeMap<u32, Page>, number: u32, theirs: &Page) -> Result<(), MapRefusal>
-    ensures ok { OnOk result (IsRaised pages.old.entries pages.new.entries number (slice_index theirs.now)) }
+    ensures ok { OnOk result (IsPageJoined pages.old.entries pages.new.entries number (slice_index theirs.now)) }
     ensures err { OnErr result (pages.new.entries ≡ pages.old.entries) }
     ensures absent { OnErr result (find pages.old.entries number ≡ None) }
     ensures some { HasKey theirs.now }

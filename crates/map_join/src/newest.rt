@@ -6,7 +6,7 @@ ghost use Rattle.map_join.specs.Lists.{IsCount};
 ghost use Rattle.map_join.specs.Live.{IsBlockAt, IsLiveCount};
 ghost use Rattle.map_join.specs.Marks.{IsPlacedAt, IsPlacedBelow, IsPlaced, IsSet, IsMarkedIn};
 ghost use Rattle.map_join.specs.Pages.{AreNumbers};
-ghost use Rattle.map_join.specs.Tables.{IsTable};
+ghost use Rattle.map_join.specs.Tables.{IsKeyTable};
 
 use crate::block_map::BlockMap;
 use crate::page::{LANES, Page, block_of};
@@ -82,7 +82,7 @@ fn placed_at(pages: &BTreeMap<u32, Page>, slot: u16) -> Option<u32>
 
 // The first lane whose key has the slot as its place.
 fn placed_lane(keys: &[u64; LANES], slot: u16) -> Option<u32>
-    requires { IsTable keys.now }
+    requires { IsKeyTable keys.now }
     ensures at { MatchOption result (IsPlacedBelow 64 (slice_index keys.now) slot → ⊥) (IsPlacedAt (slice_index keys.now) slot) }
     ensures low { IfSome result (λ lane. lane < 64) }
 {
@@ -110,7 +110,7 @@ fn places_in(pages: &BTreeMap<u32, Page>, group: u16) -> [bool; 128]
 // Marks the places of the keys of a page.
 fn mark_lanes(marks: &mut [bool; 128], group: u16, keys: &[u64; LANES])
     requires group { group < 512 }
-    requires least { IsTable keys.now }
+    requires least { IsKeyTable keys.now }
     ensures { (index : ℕ) → index < 128 → IsSet marks.new index ↔ (IsSet marks.old index ⊎ IsPlacedBelow 64 (slice_index keys.now) (128 * group + index)) }
 {
     for lane in 0..LANES {

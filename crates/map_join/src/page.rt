@@ -3,7 +3,7 @@ ghost use Rattle.std.specs.Prelude.{◌≡◌, ◌==◌, ℕ, ◌+◌, ◌*◌, 
 ghost use Rattle.std.specs.List.{list_all};
 ghost use Rattle.map_join.specs.Maps.{IsSame, IsDifference, join, lone};
 ghost use Rattle.map_join.specs.Pages.{HasKey};
-ghost use Rattle.map_join.specs.Tables.{IsTable};
+ghost use Rattle.map_join.specs.Tables.{IsKeyTable};
 
 use std::alloc::{AllocError, Global};
 use std::marker::Model;
@@ -42,7 +42,7 @@ impl Page {
     /// A page of the keys that a table has for its blocks: block 0's first, at least one of them.
     pub(crate) fn of_table(alloc: Global, table: &[u64]) -> Result<Page, AllocError>
         requires many { length table.now ≤ 64 }
-        requires written { IsTable table.now }
+        requires written { IsKeyTable table.now }
         requires some { HasKey table.now }
         ensures { IfOk result (λ page. IsSame (slice_index page) (slice_index table.now)) }
     {
@@ -71,7 +71,7 @@ impl Page {
     /// The keys, 0 where a block has none.
     pub(crate) fn lanes(&self) -> &[u64; LANES]
         ensures value { result.now ≡ self.now }
-        ensures least { IsTable self.now }
+        ensures least { IsKeyTable self.now }
         ensures some { HasKey self.now }
     {
         &self.keys

@@ -1,7 +1,7 @@
 // A record of a commit. Its key is `version * 2^32 + hop * 2^16 + place`; its twelve bytes are block
 // (4), version (4), hop (2) and place (2), each with the highest byte first.
 ghost use Rattle.std.specs.Prelude.{◌≡◌, IfOk, IfErr, ◌<◌, ℕ, ◌++◌, ◌^◌, Some};
-ghost use Rattle.map_join.specs.Record.{IsRecord, Spells, bytes_of, key_of, record_at};
+ghost use Rattle.map_join.specs.Record.{IsRecord, Spells, record_bytes, key_of, record_at};
 ghost use Rattle.byteorder.specs.Endian.{big_bytes};
 ghost use Rattle.map_join.specs.Faults.{IsNoRecord};
 ghost use Rattle.map_join.specs.Numbers.{fault_number};
@@ -80,7 +80,7 @@ impl Record {
 
     /// The twelve bytes of the record.
     pub fn to_bytes(&self) -> [u8; 12]
-        ensures value { result ≡ bytes_of self.now }
+        ensures value { result ≡ record_bytes self.now }
         ensures again { Spells result self.now }
     {
         spelled(self.block, self.version, self.hop, self.place)

@@ -9,7 +9,7 @@ use Rattle.map_join.specs.Record.{key_of}
 use Rattle.map_words.specs.declared.view.Found.{Found}
 use Rattle.map_words.specs.declared.view.View.{View}
 use Rattle.map_words.specs.Places.{word_of}
-use Rattle.map_words.specs.TakeRule.{shares, steps, whole, TakenBy, FoundBy, Tells, IsLeft, TakeRule}
+use Rattle.map_words.specs.TakeRule.{shares, steps, whole, TakenBy, FoundBy, DecodesTo, IsLeft, TakeRule}
 
 -- the word of a block
 abbrev pub word : List ℕ → ℕ → ℕ
@@ -22,7 +22,7 @@ AreSpent vs = (seat : ℕ) (v : View) → get_elem? vs seat ≡ some v → v.sha
 -- what is left depends on the steps alone
 pub relabelled : (P Q : Found → Type 0) (block time key : ℕ) → ((f : Found) → P f → Q f) → ((f : Found) → Q f → P f) → IsLeft P block time key → IsLeft Q block time key
 relabelled P Q block time key to from is = record {
-  told = λ above. let t = is.told above in (t.0, to t.0 t.1, t.2, t.3, t.4);
+  reported = λ above. let t = is.reported above in (t.0, to t.0 t.1, t.2, t.3, t.4);
   most = λ f q here early. is.most f (from f q) here early;
 }
 
@@ -49,8 +49,8 @@ pub stepped : (n : ℕ) (ws : List ℕ) (vs xs : List View) (e : Found) → Take
     → ((r : Record) → TakenBy vs r → TakenBy xs r)
     → ((r : Record) → TakenBy xs r → TakenBy vs r ⊎ ((r.block ≡ e.block) × (key_of r ≤ e.left)))
     → ((f : Found) → FoundBy vs f → FoundBy xs f) → FoundBy xs e → ((f : Found) → FoundBy xs f → FoundBy vs f ⊎ (e ≡ f))
-    → (0 < e.left → (r : Record) × TakenBy xs r × Tells e.block e.left r) → TakeRule n (set ws (word_of e.block) e.left) xs
-stepped n ws vs xs e rule within spent more inside now finds_it rises keeps takes notes noted finds tells = record {
+    → (0 < e.left → (r : Record) × TakenBy xs r × DecodesTo e.block e.left r) → TakeRule n (set ws (word_of e.block) e.left) xs
+stepped n ws vs xs e rule within spent more inside now finds_it rises keeps takes notes noted finds reports = record {
   wide = length-set ws (word_of e.block) e.left ∙ rule.wide;
   within = within;
   spent = spent;
@@ -71,7 +71,7 @@ stepped n ws vs xs e rule within spent more inside now finds_it rises keeps take
       (λ (ne : block ≢ e.block). subst (λ (k : ℕ). IsLeft (FoundBy xs) block (steps xs) k) (sym (unmoved block ne)) (elsewhere block ne small));
   known = λ f by above. ⊎_elim
       (λ (old : FoundBy vs f). let t = rule.known f old above in (t.0, keeps t.0 t.1, t.2))
-      (λ (new : e ≡ f). subst (λ (g : Found). (r : Record) × TakenBy xs r × Tells g.block g.left r) new (tells (subst (λ (g : Found). 0 < g.left) (sym new) above)))
+      (λ (new : e ≡ f). subst (λ (g : Found). (r : Record) × TakenBy xs r × DecodesTo g.block g.left r) new (reports (subst (λ (g : Found). 0 < g.left) (sym new) above)))
       (finds f by);
   most = λ r by. ⊎_elim
       (λ (old : TakenBy vs r). le_trans (rule.most r old) (climbs r.block))
@@ -96,7 +96,7 @@ stepped n ws vs xs e rule within spent more inside now finds_it rises keeps take
     -- what was left before a time up to now is left before it still
     lasting : (block time key : ℕ) → time ≤ steps vs → IsLeft (FoundBy vs) block time key → IsLeft (FoundBy xs) block time key
     lasting block time key past is = record {
-      told = λ above. let t = is.told above in (t.0, notes t.0 t.1, t.2, t.3, t.4);
+      reported = λ above. let t = is.reported above in (t.0, notes t.0 t.1, t.2, t.3, t.4);
       most = λ f by same early. ⊎_elim
           (λ (old : FoundBy vs f). is.most f old same early)
           (λ (new : e ≡ f). absurd (too_early f new early))
@@ -108,7 +108,7 @@ stepped n ws vs xs e rule within spent more inside now finds_it rises keeps take
 
     here : IsLeft (FoundBy xs) e.block (steps xs) e.left
     here = record {
-      told = λ above. (e, noted, refl, omega arith, refl);
+      reported = λ above. (e, noted, refl, omega arith, refl);
       most = λ f by same early. ⊎_elim
           (λ (old : FoundBy vs f). le_trans ((rule.current e.block inside).most f old same (rule.timed f old)) (subst (λ (k : ℕ). k ≤ e.left) finds_it rises))
           (λ (new : e ≡ f). subst (λ (g : Found). g.left ≤ e.left) new (le_refl e.left))
@@ -117,7 +117,7 @@ stepped n ws vs xs e rule within spent more inside now finds_it rises keeps take
 
     elsewhere : (block : ℕ) → block ≢ e.block → block < n → IsLeft (FoundBy xs) block (steps xs) (word ws block)
     elsewhere block ne small = record {
-      told = λ above. let t = (rule.current block small).told above in let early = t.3 in (t.0, notes t.0 t.1, t.2, omega arith, t.4);
+      reported = λ above. let t = (rule.current block small).reported above in let early = t.3 in (t.0, notes t.0 t.1, t.2, omega arith, t.4);
       most = λ f by same early. ⊎_elim
           (λ (old : FoundBy vs f). (rule.current block small).most f old same (rule.timed f old))
           (λ (new : e ≡ f). absurd (ne (sym (subst (λ (g : Found). g.block ≡ block) (sym new) same))))

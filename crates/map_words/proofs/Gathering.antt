@@ -9,11 +9,11 @@ use Rattle.map_join.specs.Maps.{IsSame, join, only, IsMapOf}
 use Rattle.map_join.proofs.Joins.{only_here, only_else}
 use Rattle.map_words.specs.declared.view.Found.{Found}
 use Rattle.map_words.specs.declared.view.View.{View}
-use Rattle.map_words.specs.Answers.{IsGreatest, IsNewest, IsExact, AreExact}
+use Rattle.map_words.specs.Answers.{IsGreatestKey, IsUpperBound, IsExact, AreExact}
 
 -- a block's key is the greatest that the Taker took of it, and at least all that it found, each of which was exact
 abbrev pub IsLast : View → ℕ → ℕ → Type 0
-IsLast v block key = IsGreatest v.taken block key × IsNewest v block key × AreExact v block
+IsLast v block key = IsGreatestKey v.taken block key × IsUpperBound v block key × AreExact v block
 
 -- each block below `count` has its last key in the map, and no other block any
 pub record Gathered (v : View) (count : ℕ) (M : ℕ → ℕ) : Type 0 where
@@ -61,8 +61,8 @@ each P l x all has = subst P has.2 (all has.0 x has.1)
 -- all blocks are done
 pub ends : (v : View) (count : ℕ) (M : ℕ → ℕ) → Gathered v count M → All (λ (r : Record). r.block < count) v.taken → IsMapOf v.taken M
 ends v count M so inside = record {
-  told = λ b above. dite (dec_lt b count)
-      (λ (small : b < count). let t = (so.done b small).0.told above in (t.0, t.1, t.2.block, t.2.key))
+  reported = λ b above. dite (dec_lt b count)
+      (λ (small : b < count). let t = (so.done b small).0.reported above in (t.0, t.1, t.2.block, t.2.key))
       (λ (high : b < count → ⊥). let none = so.rest b (omega arith) in absurd (omega arith));
   most = λ r has. (so.done r.block (each (λ (q : Record). q.block < count) v.taken r inside has)).0.most r has refl;
 }

@@ -11,7 +11,7 @@ use Rattle.map_join.specs.Record.{key_of}
 use Rattle.map_words.specs.declared.view.Found.{Found}
 use Rattle.map_words.specs.declared.view.View.{View}
 use Rattle.map_words.specs.Places.{word_of}
-use Rattle.map_words.specs.TakeRule.{knows, steps, TakenBy, Tells, TakeRule}
+use Rattle.map_words.specs.TakeRule.{knows, steps, TakenBy, DecodesTo, TakeRule}
 use Rattle.map_words.specs.Steps.{kept_half, given_half, both_views}
 use Rattle.map_words.proofs.Shares.{at_inside, total_set, total_push}
 use Rattle.map_words.proofs.Carried.{word, settled, stepped}
@@ -26,8 +26,8 @@ pub grown : (n : ℕ) (ws : List ℕ) (vs : List View) (id : ℕ) (v w : View) (
     → e.block < n → e.time ≡ steps vs → e.key ≡ word ws e.block → e.key ≤ e.left
     → ((r : Record) → Contains v.taken r → Contains w.taken r)
     → ((r : Record) → Contains w.taken r → Contains v.taken r ⊎ ((r.block ≡ e.block) × (key_of r ≤ e.left)))
-    → (0 < e.left → ((r : Record) × (Contains w.taken r ⊎ TakenBy vs r) × Tells e.block e.left r)) → TakeRule n (set ws (word_of e.block) e.left) (set vs id w)
-grown n ws vs id v w e rule here live same one inside now finds_it rises more takes tells = stepped n ws vs (set vs id w) e rule
+    → (0 < e.left → ((r : Record) × (Contains w.taken r ⊎ TakenBy vs r) × DecodesTo e.block e.left r)) → TakeRule n (set ws (word_of e.block) e.left) (set vs id w)
+grown n ws vs id v w e rule here live same one inside now finds_it rises more takes reports = stepped n ws vs (set vs id w) e rule
     (let sum = total_set (λ (u : View). u.share) vs id v w here in let within = rule.within in omega arith)
     (λ s x at none. ⊎_elim
     (λ (h : (s ≡ id) × (w ≡ x)). let e : w.share ≡ x.share = ap (λ (y : View). y.share) h.1 in absurd (omega arith))
@@ -63,7 +63,7 @@ grown n ws vs id v w e rule here live same one inside now finds_it rises more ta
     (Contains-push_cases v.found e f (subst (λ (l : List Found). Contains l f) one (subst (λ (y : View). Contains y.found f) (sym h.1) t.3))))
     (λ (h : (t.0 ≢ id) × (get_elem? vs t.0 ≡ some t.1)). inl (t.0, t.1, h.1, t.3))
     (at_set vs id t.0 w t.1 t.2))
-    (λ above. let t = tells above in (
+    (λ above. let t = reports above in (
       t.0,
       ⊎_elim
           (λ (own : Contains w.taken t.0). (id, w, mine, own))

@@ -46,14 +46,14 @@ abbrev pub FoundBy : List View → Found → Type 0
 FoundBy views f = (seat : ℕ) × (v : View) × (get_elem? views seat ≡ some v) × Contains v.found f
 
 -- the record that a word represents: of this block, with this number as its key, and of a version
-pub record Tells (of number : ℕ) (r : Record) : Type 0 where
+pub record DecodesTo (of number : ℕ) (r : Record) : Type 0 where
   pub block : r.block ≡ of
   pub key : key_of r ≡ number
   pub written : 0 < r.version
 
 -- this key is the greatest that steps before this time left at the block, or 0 where there was none
 pub record IsLeft (step : Found → Type 0) (block time key : ℕ) : Type 0 where
-  pub told : 0 < key → (f : Found) × step f × (f.block ≡ block) × (f.time < time) × (f.left ≡ key)
+  pub reported : 0 < key → (f : Found) × step f × (f.block ≡ block) × (f.time < time) × (f.left ≡ key)
   pub most : (f : Found) → step f → f.block ≡ block → f.time < time → f.left ≤ key
 
 -- All takes and finds have one order: each one's time is below their number, and the time of the last one is the
@@ -69,5 +69,5 @@ pub record TakeRule (blocks : ℕ) (words : List ℕ) (views : List View) : Type
   pub latest : 0 < steps views → (f : Found) × FoundBy views f × (f.time + 1 ≡ steps views)
   pub exact : (f : Found) → FoundBy views f → IsLeft (FoundBy views) f.block f.time f.key
   pub current : (block : ℕ) → block < blocks → IsLeft (FoundBy views) block (steps views) (slice_index words (word_of block))
-  pub known : (f : Found) → FoundBy views f → 0 < f.left → (r : Record) × TakenBy views r × Tells f.block f.left r
+  pub known : (f : Found) → FoundBy views f → 0 < f.left → (r : Record) × TakenBy views r × DecodesTo f.block f.left r
   pub most : (r : Record) → TakenBy views r → key_of r ≤ slice_index words (word_of r.block)

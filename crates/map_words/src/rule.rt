@@ -1,6 +1,6 @@
 // The rule of the table, and what holds for each kind of step.
 ghost use Rattle.map_words.specs.TakeRule.{knows, opening, whole, TakeRule};
-ghost use Rattle.map_words.specs.Steps.{Took, Saw, Closed, Weighed, kept_half, given_half, both_views};
+ghost use Rattle.map_words.specs.Steps.{IsTakeStep, Saw, Closed, Weighed, kept_half, given_half, both_views};
 ghost use Rattle.std.specs.Prelude.{[]};
 
 use crate::view::View;
@@ -26,7 +26,7 @@ impl TableRule<u8, View, u64> for Greatest {
 pub struct Takes;
 
 impl Play<u8, View> for Takes {
-    ghost then = { Took };
+    ghost then = { IsTakeStep };
 }
 
 /// The load of a call of `find`.

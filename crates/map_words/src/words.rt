@@ -4,8 +4,8 @@ ghost use Rattle.map_join.specs.Maps.{at, IsMapOf};
 ghost use Rattle.map_words.specs.Places.{word_of, blocks_of};
 ghost use Rattle.map_words.specs.TakeRule.{opening, whole};
 ghost use Rattle.map_words.specs.Steps.{kept_half, given_half, both_views};
-ghost use Rattle.map_words.specs.Answers.{IsNewest, IsGreatest, IsExact, AreExact, HasTaken, HasFound, key_in};
-ghost use Rattle.map_words.specs.Refused.{IsOpen};
+ghost use Rattle.map_words.specs.Answers.{IsUpperBound, IsGreatestKey, IsExact, AreExact, HasTaken, HasFound, key_or_zero};
+ghost use Rattle.map_words.specs.Refused.{IsCloseRefused};
 
 use crate::naming::Naming;
 use crate::rule::{Both, Closes, Halves, Sees, Sitting, Takes, Weighs, Words};
@@ -161,7 +161,7 @@ impl<N: Naming> MapWords<N> {
     pub fn take(&self, taker: &mut Taker<N>, record: Record) -> u64
         requires block { «record».block < blocks_of N.table }
         requires written { 0 < «record».version }
-        ensures newest { IsNewest taker.old «record».block result }
+        ensures newest { IsUpperBound taker.old «record».block result }
         // the Taker took the record and found the returned key, by a step that left the greater of the two
         ensures taken { HasTaken taker.old «record» result taker.new }
     {
@@ -174,10 +174,10 @@ impl<N: Naming> MapWords<N> {
     /// Finds the newest record of the block by one load.
     pub fn find(&self, taker: &mut Taker<N>, block: u32) -> Option<Record>
         requires { block < blocks_of N.table }
-        ensures newest { IsNewest taker.old block (key_in result) }
+        ensures newest { IsUpperBound taker.old block (key_or_zero result) }
         ensures block { IfSome result (λ r. (r.block ≡ block) × (0 < r.version)) }
         // the Taker found the returned key, by a step that left it there
-        ensures found { HasFound taker.old block (key_in result) taker.new }
+        ensures found { HasFound taker.old block (key_or_zero result) taker.new }
     {
         let key = self
             .table
@@ -199,7 +199,7 @@ impl<N: Naming> MapWords<N> {
         ensures found { IfOk result (λ map. All (λ f. f.key ≤ at map f.block) taker.found) }
         // all calls of `take` and `find` had one order, and each found exactly what those before it had left
         ensures exact { OnOk result (All (IsExact taker) taker.found) }
-        ensures err { IfErr result (λ e. IsOpen taker e.0) }
+        ensures err { IfErr result (λ e. IsCloseRefused taker e.0) }
         ensures same { IfErr result (λ e. e.2 ≡ taker) }
     {
         if taker.share != WHOLE {
@@ -220,7 +220,7 @@ impl<N: Naming> MapWords<N> {
         ensures found { IfSome result (λ map. All (λ f. f.key ≤ at map f.block) taker.old.found) }
         ensures exact { IfSome result (λ _. All (IsExact taker.old) taker.old.found) }
         // allocates only for what was taken
-        ensures wanted { IfNone result (taker.old.taken ≢ []) }
+        ensures expected { IfNone result (taker.old.taken ≢ []) }
         ensures same { taker.new ≡ taker.old }
     {
         let mut map = BlockMap::new(alloc);
@@ -239,8 +239,8 @@ impl<N: Naming> MapWords<N> {
     fn greatest(&self, taker: &mut Taker<N>, block: u32) -> Option<Record>
         requires share { taker.old.share ≡ whole }
         requires block { block < blocks_of N.table }
-        ensures greatest { IsGreatest taker.old.taken block (key_in result) }
-        ensures newest { IsNewest taker.old block (key_in result) }
+        ensures greatest { IsGreatestKey taker.old.taken block (key_or_zero result) }
+        ensures newest { IsUpperBound taker.old block (key_or_zero result) }
         ensures exact { AreExact taker.old block }
         ensures block { IfSome result (λ r. (r.block ≡ block) × (0 < r.version)) }
         ensures same { taker.new ≡ taker.old }

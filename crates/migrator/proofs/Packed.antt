@@ -4,7 +4,7 @@ use Rattle.std.proofs.lemmas.Bool.{lt-ltb, le-ltb, cases_eq, cases_lt}
 use Rattle.std.proofs.lemmas.List.{get_or-drop, get_or-take, get_or_default, get_or-set_same, get_or-set_other, length-set, length-take-le, length-append, take_all}
 use Rattle.std.proofs.lemmas.List.Elements.{filter-append}
 use Rattle.std.proofs.lemmas.List.Filters.{FiltersInPlace, FiltersInPlace-more_set, FiltersInPlace-more_no}
-use Rattle.migrator.specs.Inside.{blocks_in, first_turns, in_order, order_of, AreAt, AreTurns, KeepsFront, Order}
+use Rattle.migrator.specs.Inside.{blocks_in, first_turns, in_order, order_of, AreTurnsOf, AreTurns, KeepsFront, TurnOrder}
 use Rattle.migrator.proofs.Keeping.{blocks_again}
 use Rattle.migrator.proofs.Turned.{at_number, count_blocks, count_order, first_same, kept_first, kept_later, length_kept}
 
@@ -21,7 +21,7 @@ pub record ArePacked (n : ℕ) (xs us ys ts : List ℕ) (packed at : ℕ) : Type
   pub early : (k : ℕ) → k < packed → get_or us (get_or ys k 0) 0 < n + at
   pub once : (k : ℕ) → k < packed → get_or ts (get_or ys k 0) 0 ≡ n + k
 
-module _ (us xs : List ℕ) (t : AreAt (length us) (first_turns us ++ xs) us) where
+module _ (us xs : List ℕ) (t : AreTurnsOf (length us) (first_turns us ++ xs) us) where
   abbrev n : ℕ
   n = length us
 
@@ -222,7 +222,7 @@ module _ (us xs : List ℕ) (t : AreAt (length us) (first_turns us ++ xs) us) wh
         ap (λ b. get_or ts b 0) (in_later k high (omega (arith, l, longs))) ∙ p.once (k - n) (omega (arith, l, longs, high))
         ∙ (let e : n + (k - n) ≡ k = omega (arith, high) in e)
 
-    all_at : AreAt n left_over ts
+    all_at : AreTurnsOf n left_over ts
     all_at = record {
       all = p.all;
       used = λ b low. used_by b low (cases_lt (get_or us b 0) n);
@@ -251,10 +251,10 @@ module _ (us xs : List ℕ) (t : AreAt (length us) (first_turns us ++ xs) us) wh
       few = omega (arith, u.few, p.all);
       within = omega (arith, few, long, p.all);
       room = omega (arith, u.room, p.all);
-      at = subst (λ m. AreAt m left_over ts) (sym p.all) all_at;
+      at = subst (λ m. AreTurnsOf m left_over ts) (sym p.all) all_at;
     }
 
-    module _ (capacity : ℕ) (u : AreTurns us xs capacity) (order : Order) (view : order_of us xs ≡ order) where
+    module _ (capacity : ℕ) (u : AreTurns us xs capacity) (order : TurnOrder) (view : order_of us xs ≡ order) where
       after_is : order_of ts (take packed ys) ≡ record { blocks = n; kept = left_over }
       after_is = λ i. record { blocks = p.all i; kept = left_over }
 

@@ -9,15 +9,15 @@ use Rattle.extent_groups.specs.Groups.{Groups}
 use Rattle.extent_groups.specs.Stores.{IsSlotOf}
 use Rattle.extent_groups.proofs.Bounds.{made_low}
 use Rattle.migrator.specs.Picking.{IsPicked}
-use Rattle.migrator.specs.Slots.{IsIdle}
+use Rattle.migrator.specs.Slots.{IsDeadGroup}
 
 -- a parity group is idle where none of its slots is counted as live, and none is counted where it is idle
 module _ (groups : Groups) (keys : ℕ → ℕ) (group slots count : ℕ) (just : (slot : ℕ) → slot / 128 ≡ group → IsSlotOf Parity groups slot ↔ (slot % 128 < slots)) where
-  pub none_counted : IsLiveCount keys group slots count → count ≡ 0 → IsIdle groups keys group
+  pub none_counted : IsLiveCount keys group slots count → count ≡ 0 → IsDeadGroup groups keys group
   none_counted counted zero slot is own live =
       count_zero (IsLiveIn keys group slots) (subst (IsLiveCount keys group slots) zero counted) slot (record { own = own; among = (just slot own).0 is; live = live })
 
-  pub idle_counts : IsLiveCount keys group slots count → IsIdle groups keys group → count ≡ 0
+  pub idle_counts : IsLiveCount keys group slots count → IsDeadGroup groups keys group → count ≡ 0
   idle_counts counted idle = count_none (IsLiveIn keys group slots) count counted (λ slot so. idle slot ((just slot so.own).1 so.among) so.own so.live)
 
 -- lists of picked slots, group by group

@@ -12,7 +12,7 @@ use Rattle.std.proofs.lemmas.Map.Steps.{length-le_from_distinct_below, le-length
 use Rattle.std.proofs.lemmas.Map.Views.{any-filter_same}
 use Rattle.std.specs.List.{IsDistinct}
 use Rattle.migrator.specs.Ages.{by_number, written}
-use Rattle.migrator.specs.Inside.{blocks_in, first_turns, in_order, order_of, AreAt, AreTurns, KeepsFront, Order}
+use Rattle.migrator.specs.Inside.{blocks_in, first_turns, in_order, order_of, AreTurnsOf, AreTurns, KeepsFront, TurnOrder}
 use Rattle.migrator.proofs.Keeping.{gap_over, blocks_by_number}
 
 pub length_numbers : (n : ℕ) → length (by_number n) ≡ n
@@ -61,7 +61,7 @@ pub length_kept : (ts later : List ℕ) → length (first_turns ts ++ later) ≡
 length_kept ts later = let e = length-append (first_turns ts) later in omega (arith, e, length_first ts)
 
 -- a block at a first turn is at its number
-pub at_number : (ts later : List ℕ) → AreAt (length ts) (first_turns ts ++ later) ts → (b : ℕ) → b < length ts → get_or ts b 0 < length ts → get_or ts b 0 ≡ b
+pub at_number : (ts later : List ℕ) → AreTurnsOf (length ts) (first_turns ts ++ later) ts → (b : ℕ) → b < length ts → get_or ts b 0 < length ts → get_or ts b 0 ≡ b
 at_number ts later t b low first = by (cases_eq (get_or ts (get_or ts b 0) 0) (get_or ts b 0))
   where
     read : get_or (first_turns ts) (get_or ts b 0) 0 ≡ b
@@ -88,7 +88,7 @@ first_by_number n =
     let here : k < n = omega (arith, low, length_first (by_number n), length_numbers n) in
     first_there (by_number n) k (omega (arith, here, length_numbers n)) (read_number n k here) ∙ sym (read_number n k here))
 
-numbers_at : (n : ℕ) → AreAt n (by_number n) (by_number n)
+numbers_at : (n : ℕ) → AreTurnsOf n (by_number n) (by_number n)
 numbers_at n = record {
   all = length_numbers n;
   used = λ b low. let e = read_number n b low in omega (arith, e, low, length_numbers n);
@@ -102,8 +102,8 @@ turns_by_number n capacity ts later few room es none =
       few = omega (arith, few, length_numbers n);
       within = omega arith;
       room = omega (arith, room, length_numbers n);
-      at = subst (λ m. AreAt m (first_turns (by_number n) ++ []) (by_number n)) (sym (length_numbers n))
-          (subst (λ kept. AreAt n kept (by_number n)) (sym (first_by_number n)) (numbers_at n));
+      at = subst (λ m. AreTurnsOf m (first_turns (by_number n) ++ []) (by_number n)) (sym (length_numbers n))
+          (subst (λ kept. AreTurnsOf n kept (by_number n)) (sym (first_by_number n)) (numbers_at n));
     }))
 
 pub order_by_number : (n : ℕ) (ts later : List ℕ) → ts ≡ by_number n → later ≡ [] → in_order (order_of ts later) ≡ by_number n
@@ -113,7 +113,7 @@ order_by_number n ts later es none =
 
 -- ---- exactly n blocks are in the order
 
-pub count_blocks : (n : ℕ) (ns ts : List ℕ) → AreAt n ns ts → length (blocks_in n ns) ≡ n
+pub count_blocks : (n : ℕ) (ns ts : List ℕ) → AreTurnsOf n ns ts → length (blocks_in n ns) ≡ n
 count_blocks n ns ts t = let most = at_most in let least = at_least in omega (arith, most, least)
   where
     apart : (i j d : ℕ) → i < j → j < length ns → nat_lt (get_or ns i d) n ≡ true → nat_eq (get_or ns i d) (get_or ns j d) ≡ false
@@ -148,20 +148,20 @@ count_blocks n ns ts t = let most = at_most in let least = at_least in omega (ar
         any-filter_same (nat_eq q) (λ x. nat_lt x n) true (λ x e. let same = eqb-true q x e in lt-ltb x n (omega (arith, same, low))) ns
         ∙ list_any_at (nat_eq q) ns (get_or ts q 0) 0 (t.used q low) (eq-eqb q _ (sym (t.at_turn q low))))
 
-pub count_order : (ts later : List ℕ) (capacity : ℕ) (order : Order) → AreTurns ts later capacity → order_of ts later ≡ order → length (in_order order) ≡ length ts
+pub count_order : (ts later : List ℕ) (capacity : ℕ) (order : TurnOrder) → AreTurns ts later capacity → order_of ts later ≡ order → length (in_order order) ≡ length ts
 count_order ts later capacity order t view =
     ap (λ o. length (in_order o)) (sym view) ∙ count_blocks (length ts) (first_turns ts ++ later) ts t.at
 
-pub count_kept : (ts later : List ℕ) (order : Order) → order_of ts later ≡ order → length order.kept ≡ length ts + length later
+pub count_kept : (ts later : List ℕ) (order : TurnOrder) → order_of ts later ≡ order → length order.kept ≡ length ts + length later
 count_kept ts later order view = ap (λ o. length o.kept) (sym view) ∙ length_kept ts later
 
 -- a block is found at its turn alone
-pub only_turn : (n : ℕ) (ns ts : List ℕ) → AreAt n ns ts → (b : ℕ) → b < n → (k : ℕ) → k < length ns → get_or ns k 0 ≡ b → k ≡ get_or ts b 0
+pub only_turn : (n : ℕ) (ns ts : List ℕ) → AreTurnsOf n ns ts → (b : ℕ) → b < n → (k : ℕ) → k < length ns → get_or ns k 0 ≡ b → k ≡ get_or ts b 0
 only_turn n ns ts t b low k l e = sym (t.once k l (omega (arith, e, low))) ∙ ap (λ x. get_or ts x 0) e
 
 -- ---- a block leaves a gap, and is put at the last turn
 
-module _ (n b : ℕ) (ns ts : List ℕ) (t : AreAt n ns ts) (low : b < n) where
+module _ (n b : ℕ) (ns ts : List ℕ) (t : AreTurnsOf n ns ts) (low : b < n) where
   abbrev left : ℕ
   left = get_or ts b 0
 
@@ -218,7 +218,7 @@ module _ (n b : ℕ) (ns ts : List ℕ) (t : AreAt n ns ts) (low : b < n) where
       let o = t.once k here (omega (arith, same, lo)) in
       ap (λ x. get_or turns x 0) same ∙ turn_other (get_or ns k 0) (λ e. away (sym o ∙ ap (λ x. get_or ts x 0) e)) ∙ o
 
-  pub moved : AreAt n numbers turns
+  pub moved : AreTurnsOf n numbers turns
   moved = record {
     all = length-set ts b (length ns) ∙ t.all;
     used = λ c l. used_by c l (cases_eq c b);
@@ -240,7 +240,7 @@ module _ (n b : ℕ) (ns ts : List ℕ) (t : AreAt n ns ts) (low : b < n) where
   }
 
 -- the same of the first turns and the later ones
-module _ (b : ℕ) (ts later : List ℕ) (t : AreAt (length ts) (first_turns ts ++ later) ts) (low : b < length ts) (behind : List ℕ) where
+module _ (b : ℕ) (ts later : List ℕ) (t : AreTurnsOf (length ts) (first_turns ts ++ later) ts) (low : b < length ts) (following : List ℕ) where
   abbrev from : ℕ
   from = get_or ts b 0
 
@@ -290,22 +290,22 @@ module _ (b : ℕ) (ts later : List ℕ) (t : AreAt (length ts) (first_turns ts 
       leaves c l was (inr ne) e = was (sym (get_or-set_other ts b c (length (first_turns ts ++ later)) 0 ne) ∙ e)
 
   -- what is kept then
-  pub kept_after : (from < length ts → behind ≡ later) → (length ts ≤ from → behind ≡ set later (from - length ts) (length ts))
-      → first_turns now ++ (behind ++ b ∷ []) ≡ set (first_turns ts ++ later) from (length ts) ++ b ∷ []
-  kept_after first high = sym (append_assoc (first_turns now) behind (b ∷ [])) ∙ ap (λ l. l ++ b ∷ []) (by (cases_lt from (length ts)))
+  pub kept_after : (from < length ts → following ≡ later) → (length ts ≤ from → following ≡ set later (from - length ts) (length ts))
+      → first_turns now ++ (following ++ b ∷ []) ≡ set (first_turns ts ++ later) from (length ts) ++ b ∷ []
+  kept_after first high = sym (append_assoc (first_turns now) following (b ∷ [])) ∙ ap (λ l. l ++ b ∷ []) (by (cases_lt from (length ts)))
     where
-      by : (from < length ts) ⊎ (length ts ≤ from) → first_turns now ++ behind ≡ set (first_turns ts ++ later) from (length ts)
+      by : (from < length ts) ⊎ (length ts ≤ from) → first_turns now ++ following ≡ set (first_turns ts ++ later) from (length ts)
       by (inl l) =
-          ap (λ xs. xs ++ behind) (first_left l) ∙ ap (λ ys. set (first_turns ts) from (length ts) ++ ys) (first l)
+          ap (λ xs. xs ++ following) (first_left l) ∙ ap (λ ys. set (first_turns ts) from (length ts) ++ ys) (first l)
           ∙ sym (set-append_left (first_turns ts) later from (length ts) (omega (arith, l, length_first ts)))
       by (inr h) =
-          ap (λ xs. xs ++ behind) (first_stay h) ∙ ap (λ ys. first_turns ts ++ ys) (high h)
+          ap (λ xs. xs ++ following) (first_stay h) ∙ ap (λ ys. first_turns ts ++ ys) (high h)
           ∙ sym (set-append_right (first_turns ts) later (length ts) from (length ts) (length_first ts) h)
 
 -- the same of an order
-module _ (b capacity : ℕ) (ts later behind : List ℕ) (t : AreTurns ts later capacity) (order : Order) (view : order_of ts later ≡ order)
+module _ (b capacity : ℕ) (ts later following : List ℕ) (t : AreTurns ts later capacity) (order : TurnOrder) (view : order_of ts later ≡ order)
     (listed : b < length (in_order order)) (room : length order.kept < 5 * length (in_order order)) (last : ℕ) (is : last ≡ length ts + length later)
-    (first : get_or ts b 0 < length ts → behind ≡ later) (high : length ts ≤ get_or ts b 0 → behind ≡ set later (get_or ts b 0 - length ts) (length ts)) where
+    (first : get_or ts b 0 < length ts → following ≡ later) (high : length ts ≤ get_or ts b 0 → following ≡ set later (get_or ts b 0 - length ts) (length ts)) where
   pub is_block : b < length ts
   is_block = omega (arith, count_order ts later capacity order t view, listed)
 
@@ -318,42 +318,42 @@ module _ (b capacity : ℕ) (ts later behind : List ℕ) (t : AreTurns ts later 
   same_long : length (set ts b last) ≡ length ts
   same_long = length-set ts b last
 
-  kept_is : first_turns (set ts b last) ++ (behind ++ b ∷ []) ≡ set (first_turns ts ++ later) (get_or ts b 0) (length ts) ++ b ∷ []
-  kept_is = ap (λ us. first_turns us ++ (behind ++ b ∷ [])) at_last ∙ kept_after b ts later t.at is_block behind first high
+  kept_is : first_turns (set ts b last) ++ (following ++ b ∷ []) ≡ set (first_turns ts ++ later) (get_or ts b 0) (length ts) ++ b ∷ []
+  kept_is = ap (λ us. first_turns us ++ (following ++ b ∷ [])) at_last ∙ kept_after b ts later t.at is_block following first high
 
-  pub as_long_behind : length behind ≡ length later
-  as_long_behind = by (cases_lt (get_or ts b 0) (length ts))
+  pub as_long_following : length following ≡ length later
+  as_long_following = by (cases_lt (get_or ts b 0) (length ts))
     where
-      by : (get_or ts b 0 < length ts) ⊎ (length ts ≤ get_or ts b 0) → length behind ≡ length later
+      by : (get_or ts b 0 < length ts) ⊎ (length ts ≤ get_or ts b 0) → length following ≡ length later
       by (inl l) = ap length (first l)
       by (inr h) = ap length (high h) ∙ length-set later (get_or ts b 0 - length ts) (length ts)
 
-  after_at : AreAt (length ts) (first_turns (set ts b last) ++ (behind ++ b ∷ [])) (set ts b last)
+  after_at : AreTurnsOf (length ts) (first_turns (set ts b last) ++ (following ++ b ∷ [])) (set ts b last)
   after_at =
-      subst (λ us. AreAt (length ts) (first_turns (set ts b last) ++ (behind ++ b ∷ [])) us) (sym at_last)
-      (subst (λ kept. AreAt (length ts) kept (set ts b (length (first_turns ts ++ later)))) (sym kept_is)
+      subst (λ us. AreTurnsOf (length ts) (first_turns (set ts b last) ++ (following ++ b ∷ [])) us) (sym at_last)
+      (subst (λ kept. AreTurnsOf (length ts) kept (set ts b (length (first_turns ts ++ later)))) (sym kept_is)
       (moved (length ts) b (first_turns ts ++ later) ts t.at is_block))
 
-  after_turns : AreTurns (set ts b last) (behind ++ b ∷ []) capacity
+  after_turns : AreTurns (set ts b last) (following ++ b ∷ []) capacity
   after_turns = record {
     few = omega (arith, same_long, t.few);
-    within = let e = length_push behind b in omega (arith, e, as_long_behind, free, same_long);
+    within = let e = length_push following b in omega (arith, e, as_long_following, free, same_long);
     room = omega (arith, same_long, t.room);
-    at = subst (λ n. AreAt n (first_turns (set ts b last) ++ (behind ++ b ∷ [])) (set ts b last)) (sym same_long) after_at;
+    at = subst (λ n. AreTurnsOf n (first_turns (set ts b last) ++ (following ++ b ∷ [])) (set ts b last)) (sym same_long) after_at;
   }
 
-  pub after_in : (us all : List ℕ) (room : ℕ) → us ≡ set ts b last → all ≡ behind ++ b ∷ [] → room ≡ capacity → AreTurns us all room
+  pub after_in : (us all : List ℕ) (room : ℕ) → us ≡ set ts b last → all ≡ following ++ b ∷ [] → room ≡ capacity → AreTurns us all room
   after_in us all room turned put kept =
       subst (λ us. AreTurns us all room) (sym turned)
-      (subst (λ l. AreTurns (set ts b last) l room) (sym put) (subst (AreTurns (set ts b last) (behind ++ b ∷ [])) (sym kept) after_turns))
+      (subst (λ l. AreTurns (set ts b last) l room) (sym put) (subst (AreTurns (set ts b last) (following ++ b ∷ [])) (sym kept) after_turns))
 
-  abbrev after : Order
-  after = order_of (set ts b last) (behind ++ b ∷ [])
+  abbrev after : TurnOrder
+  after = order_of (set ts b last) (following ++ b ∷ [])
 
   after_is : after ≡ record { blocks = length ts; kept = set (first_turns ts ++ later) (get_or ts b 0) (length ts) ++ b ∷ [] }
   after_is = λ i. record { blocks = same_long i; kept = kept_is i }
 
-  pub after_same : (us all : List ℕ) → us ≡ set ts b last → all ≡ behind ++ b ∷ [] → order_of us all ≡ after
+  pub after_same : (us all : List ℕ) → us ≡ set ts b last → all ≡ following ++ b ∷ [] → order_of us all ≡ after
   after_same us all turned put = λ i. order_of (turned i) (put i)
 
   pub after_order : in_order after ≡ written (in_order order) b
@@ -361,7 +361,7 @@ module _ (b capacity : ℕ) (ts later behind : List ℕ) (t : AreTurns ts later 
 
   pub after_length : length (in_order after) ≡ length (in_order order)
   after_length =
-      count_order (set ts b last) (behind ++ b ∷ []) capacity after after_turns refl ∙ same_long ∙ sym (count_order ts later capacity order t view)
+      count_order (set ts b last) (following ++ b ∷ []) capacity after after_turns refl ∙ same_long ∙ sym (count_order ts later capacity order t view)
 
   pub after_front : KeepsFront (length order.kept) order after
   after_front =

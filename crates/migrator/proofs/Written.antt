@@ -12,7 +12,7 @@ use Rattle.std.specs.List.{IsDistinct, list_any}
 use Rattle.std.specs.Map.{lookup}
 use Rattle.indexmap.specs.IndexMap.{IndexMap, get, keys, index_map_len, spare, ContainsKey, IsEmpty, IsUnique, Updates}
 use Rattle.migrator.specs.Ages.{by_number}
-use Rattle.migrator.specs.Inside.{turns_of, IsWritten}
+use Rattle.migrator.specs.Inside.{turns_of, IsTurnTable}
 use Rattle.migrator.proofs.Turned.{length_numbers, read_number}
 
 -- the turn of each block by what is written down
@@ -58,13 +58,13 @@ module _ {S : Type 0} where
   length_keys m = length-map m.entries _
 
   -- the keys are blocks, so there are at most as many
-  pub count_written : (n : ℕ) (m : IndexMap ℕ ℕ S) → IsWritten n m → index_map_len m ≤ n
+  pub count_written : (n : ℕ) (m : IndexMap ℕ ℕ S) → IsTurnTable n m → index_map_len m ≤ n
   count_written n m w =
       let few = length-le_from_distinct_below (keys m) n w.unique (λ q e. w.below q (is_some-lookup (nat_eq q) m.entries ∙ e)) in
       omega (arith, few, length_keys m)
 
   -- a block that isn't among them makes one fewer
-  pub spare_for : (n b : ℕ) (m : IndexMap ℕ ℕ S) → IsWritten n m → b < n → get nat_eq m b ≡ None → 0 < spare m
+  pub spare_for : (n b : ℕ) (m : IndexMap ℕ ℕ S) → IsTurnTable n m → b < n → get nat_eq m b ≡ None → 0 < spare m
   spare_for n b m w low absent =
       let fewer = length-le_from_distinct_below (keys m ++ b ∷ []) n distinct below in
       omega (arith, fewer, length_push (keys m) b, length_keys m, w.room)
@@ -88,8 +88,8 @@ module _ {S : Type 0} where
               cc)
 
   -- one more turn is written down
-  pub written_more : (n b v : ℕ) (m more : IndexMap ℕ ℕ S) → IsWritten n m → b < n → Updates nat_eq m more b (Some v) → IsUnique nat_eq more → n ≤ index_map_len more + spare more
-      → IsWritten n more
+  pub written_more : (n b v : ℕ) (m more : IndexMap ℕ ℕ S) → IsTurnTable n m → b < n → Updates nat_eq m more b (Some v) → IsUnique nat_eq more → n ≤ index_map_len more + spare more
+      → IsTurnTable n more
   written_more n b v m more w low updates unique room = record {
     few = w.few;
     unique = unique;

@@ -4,7 +4,7 @@ use Rattle.extent_groups.specs.declared.class.Class.{Class}
 use Rattle.extent_groups.specs.declared.class.Class.TheVariants.{Parity}
 use Rattle.extent_groups.specs.Groups.{Groups}
 use Rattle.extent_groups.specs.Stores.{IsSlotOf}
-use Rattle.migrator.specs.Slots.{End, IsBehind, IsFresh}
+use Rattle.migrator.specs.Slots.{End, IsTailSlot, IsFresh}
 use Rattle.migrator.specs.Picking.{IsPicked, IsFreeFrom}
 
 -- the lowest number that has the property P
@@ -18,18 +18,18 @@ IsFirst P None = (n : ℕ) → P n → ⊥
 IsFirst P (Some n) = IsLowest P n
 
 -- a free slot of the write group where the log goes on, and a free one of a group where the log can start over
-abbrev pub IsFreeBehind : End → Groups → (ℕ → ℕ) → (ℕ → Type 0) → ℕ → Type 0
-IsFreeBehind end groups keys free slot = IsBehind end groups keys slot × free slot
+abbrev pub IsFreeFollowing : End → Groups → (ℕ → ℕ) → (ℕ → Type 0) → ℕ → Type 0
+IsFreeFollowing end groups keys free slot = IsTailSlot end groups keys slot × free slot
 
 abbrev pub IsFreeFresh : End → Groups → (ℕ → ℕ) → (ℕ → Type 0) → ℕ → Type 0
 IsFreeFresh end groups keys free slot = IsFresh end groups keys slot × free slot
 
 -- the lowest of the first kind, or of the second where there is none of the first
 abbrev pub IsFirstAppend : End → Groups → (ℕ → ℕ) → (ℕ → Type 0) → Option ℕ → Type 0
-IsFirstAppend end groups keys free None = (slot : ℕ) → IsBehind end groups keys slot ⊎ IsFresh end groups keys slot → free slot → ⊥
+IsFirstAppend end groups keys free None = (slot : ℕ) → IsTailSlot end groups keys slot ⊎ IsFresh end groups keys slot → free slot → ⊥
 IsFirstAppend end groups keys free (Some slot) =
-    IsLowest (IsFreeBehind end groups keys free) slot
-    ⊎ (((other : ℕ) → IsFreeBehind end groups keys free other → ⊥) × IsLowest (IsFreeFresh end groups keys free) slot)
+    IsLowest (IsFreeFollowing end groups keys free) slot
+    ⊎ (((other : ℕ) → IsFreeFollowing end groups keys free other → ⊥) × IsLowest (IsFreeFresh end groups keys free) slot)
 
 -- a picked slot that is free
 pub record IsFreePick (class : Class) (groups : Groups) (group_is slot_is free : ℕ → Type 0) (slot : ℕ) : Type 0 where
@@ -37,8 +37,8 @@ pub record IsFreePick (class : Class) (groups : Groups) (group_is slot_is free :
   pub is_free : free slot
 
 -- a picked and free slot of the write group, from the next index on
-abbrev pub Behind : End → Groups → (ℕ → ℕ) → (ℕ → Type 0) → ℕ → Type 0
-Behind end groups keys free = IsFreePick Parity groups (λ group. end.group ≡ Some group) (IsFreeFrom end.next keys) free
+abbrev pub FreeAtTail : End → Groups → (ℕ → ℕ) → (ℕ → Type 0) → ℕ → Type 0
+FreeAtTail end groups keys free = IsFreePick Parity groups (λ group. end.group ≡ Some group) (IsFreeFrom end.next keys) free
 
 -- a free slot of a parity group
 abbrev pub IsFreeParity : Groups → (ℕ → Type 0) → ℕ → Type 0

@@ -1,7 +1,7 @@
 -- Slots of a class of which a group and a slot are picked.
 use Rattle.std.specs.Prelude.{◌≢◌, ℕ, ◌/◌, ◌%◌, ◌≤◌, Some}
 use Rattle.map_join.specs.Live.{IsLive}
-use Rattle.migrator.specs.Slots.{End, IsIdle}
+use Rattle.migrator.specs.Slots.{End, IsDeadGroup}
 use Rattle.extent_groups.specs.declared.class.Class.{Class}
 use Rattle.extent_groups.specs.Groups.{Groups}
 use Rattle.extent_groups.specs.Stores.{IsSlotOf}
@@ -20,4 +20,4 @@ pub record IsFreeFrom (next : ℕ) (keys : ℕ → ℕ) (slot : ℕ) : Type 0 wh
 -- a group that isn't the write group, and has no live slot
 pub record IsOtherIdle (end : End) (groups : Groups) (keys : ℕ → ℕ) (group : ℕ) : Type 0 where
   pub other : end.group ≢ Some group
-  pub idle : IsIdle groups keys group
+  pub idle : IsDeadGroup groups keys group

@@ -1,7 +1,7 @@
 // Where the next block may be appended.
 ghost use Rattle.std.specs.Prelude.{◌≡◌, ◌↔◌, ◌/◌, ◌%◌, ◌<◌, IsTrue, IfOk, Some};
 ghost use Rattle.map_join.specs.Lists.{Lists};
-ghost use Rattle.migrator.specs.Slots.{IsIdle, IsBehind, IsFresh, AreAppendSlots};
+ghost use Rattle.migrator.specs.Slots.{IsDeadGroup, IsTailSlot, IsFresh, AreAppendSlots};
 ghost use Rattle.migrator.specs.Picking.{IsFreeFrom, IsOtherIdle};
 
 use crate::LogEnd;
@@ -56,7 +56,7 @@ impl<'a, L: Live> Picks for Fresh<'a, L> {
 // Whether no slot of a parity group is live; other groups have none to look at.
 fn is_idle<L: Live>(groups: &GroupTable, live: &L, group: u16) -> bool
     requires { group < 512 }
-    ensures { IsTrue result ↔ IsIdle groups.now (L.keys live.now) group }
+    ensures { IsTrue result ↔ IsDeadGroup groups.now (L.keys live.now) group }
 {
     let slots = count_of(groups, Class::Parity, group);
     slots == 0 || live.count_live(group, slots) == 0
@@ -72,20 +72,20 @@ pub fn append_slots<L: Live>(
 ) -> Result<Vec<u16>, AllocError>
     ensures { IfOk result (λ slots. AreAppendSlots end.now groups.now (L.keys live.now) slots.items) }
 {
-    let mut slots = slots_behind(alloc, end, groups, live)?;
+    let mut slots = slots_following(alloc, end, groups, live)?;
     let mut fresh = fresh_slots(alloc, end, groups, live)?;
     slots.append(&mut fresh)?;
     Ok(slots)
 }
 
 // The slots of the write group.
-fn slots_behind<L: Live>(
+fn slots_following<L: Live>(
     alloc: Global,
     end: &LogEnd,
     groups: &GroupTable,
     live: &L,
 ) -> Result<Vec<u16>, AllocError>
-    ensures { IfOk result (λ slots. Lists (IsBehind end.now groups.now (L.keys live.now)) slots.items) }
+    ensures { IfOk result (λ slots. Lists (IsTailSlot end.now groups.now (L.keys live.now)) slots.items) }
 {
     picked_in(
         alloc,

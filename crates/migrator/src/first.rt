@@ -3,7 +3,7 @@ ghost use Rattle.std.specs.Prelude.{◌≡◌, ◌↔◌, ℕ, ◌/◌, ◌%◌,
 ghost use Rattle.extent_groups.specs.declared.class.Class.TheVariants.{Mirrored, Parity};
 ghost use Rattle.extent_groups.specs.Stores.{IsSlotOf};
 ghost use Rattle.migrator.specs.Counts.{AreZeroIfIdle, IsOtherZero};
-ghost use Rattle.migrator.specs.First.{Behind, IsFirst, IsFirstAppend, IsFirstRoom, IsFreeParity, IsFreePick};
+ghost use Rattle.migrator.specs.First.{FreeAtTail, IsFirst, IsFirstAppend, IsFirstRoom, IsFreeParity, IsFreePick};
 
 use crate::LogEnd;
 use crate::append::GoingOn;
@@ -55,7 +55,7 @@ pub fn first_append<L: Live, F: Free>(
     requires { AreZeroIfIdle groups.now (L.keys live.now) counts.now }
     ensures { IsFirstAppend end.now groups.now (L.keys live.now) (F.free free.now) result }
 {
-    match first_behind(end, groups, live, free) {
+    match first_following(end, groups, live, free) {
         Some(slot) => return Some(slot),
         None => {}
     }
@@ -63,13 +63,13 @@ pub fn first_append<L: Live, F: Free>(
 }
 
 // The first of these in the write group; no other group is looked at.
-fn first_behind<L: Live, F: Free>(
+fn first_following<L: Live, F: Free>(
     end: &LogEnd,
     groups: &GroupTable,
     live: &L,
     free: &F,
 ) -> Option<u16>
-    ensures { IsFirst (Behind end.now groups.now (L.keys live.now) (F.free free.now)) result }
+    ensures { IsFirst (FreeAtTail end.now groups.now (L.keys live.now) (F.free free.now)) result }
 {
     let _members = groups.members(0);
     match end.group() {

@@ -2,12 +2,12 @@
 ghost use Rattle.std.specs.Prelude.{ℕ, ◌<◌, ◌↔◌, List, Bool, Option};
 ghost use Rattle.extent_groups.specs.Groups.{Groups};
 ghost use Rattle.migrator.specs.Slots.{IsMirrored};
-ghost use Rattle.migrator.specs.Ages.{after, IsOlder, WasBefore, IsMarked, IsOldest};
+ghost use Rattle.migrator.specs.Ages.{after_notes, IsOlder, WasBefore, IsMarked, IsOldest};
 
 /// After any notes, the one of two blocks is the older exactly where it was last written before the other.
 pub fn age_law()
     ensures { (blocks : ℕ) (notes : List ℕ) (b c : ℕ) → b < blocks → c < blocks
-        → IsOlder (after blocks notes) b c ↔ WasBefore notes b c }
+        → IsOlder (after_notes blocks notes) b c ↔ WasBefore notes b c }
 {
     // The law is the contract: there is nothing to do.
 }

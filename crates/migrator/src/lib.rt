@@ -16,7 +16,7 @@ mod turns;
 pub use append::append_slots;
 pub use first::{Free, first_append, first_mirror, first_parity, first_room};
 pub use laws::{age_law, mark_law};
-pub use log_end::{LogEnd, wants_demotion};
+pub use log_end::{LogEnd, needs_demotion};
 pub use marked_ages::{MarkedAges, PicksBlocks};
 pub use recency::Recency;
 pub use slots::mirror_slots;

@@ -55,7 +55,7 @@ impl LogEnd {
 }
 
 /// Whether a block has to be demoted: fewer than `low` slots are free.
-pub fn wants_demotion(free: u32, low: u32) -> bool
+pub fn needs_demotion(free: u32, low: u32) -> bool
     ensures { IsTrue result ↔ (free < low) }
 {
     free < low

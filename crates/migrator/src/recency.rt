@@ -3,7 +3,7 @@ ghost use Rattle.std.specs.Prelude.{◌≡◌, ◌↔◌, ◌<◌, ◌≤◌, le
 ghost use Rattle.migrator.specs.Ages.{by_number, written, IsOldest};
 ghost use Rattle.migrator.specs.Inside.{in_order};
 ghost use Rattle.extent_groups.specs.declared.class.Class.TheVariants.{Mirrored};
-ghost use Rattle.migrator.specs.Slots.{class_at, IsMirrored};
+ghost use Rattle.migrator.specs.Slots.{class_of_record, IsMirrored};
 
 use crate::turns::Turns;
 use extent_groups::{Class, GroupTable, SLOTS};
@@ -76,7 +76,7 @@ fn first_mirrored<N: Newest>(turns: &Turns, groups: &GroupTable, newest: &N) -> 
 
 // Whether a record's place is in a mirrored group.
 fn is_mirrored(groups: &GroupTable, record: Option<Record>) -> bool
-    ensures { IsTrue result ↔ (class_at groups.now «record» ≡ Some Mirrored) }
+    ensures { IsTrue result ↔ (class_of_record groups.now «record» ≡ Some Mirrored) }
 {
     match record {
         Some(record) => matches!(groups.class_of(record.place / SLOTS), Some(Class::Mirrored)),

@@ -18,13 +18,13 @@ pub(crate) struct TurnMap {
 
 impl Model for TurnMap {
     ghost use Rattle.std.specs.Prelude.{ℕ, List};
-    ghost use Rattle.migrator.specs.Inside.{turns_of, IsWritten};
+    ghost use Rattle.migrator.specs.Inside.{turns_of, IsTurnTable};
 
     ghost Value = { List ℕ };
 
     ghost view = { λ m. turns_of m.blocks m.written };
 
-    ghost invariant = { λ m. IsWritten m.blocks m.written };
+    ghost invariant = { λ m. IsTurnTable m.blocks m.written };
 }
 
 impl TurnMap {

@@ -20,9 +20,9 @@ pub(crate) struct Turns {
 
 impl Model for Turns {
     ghost use Rattle.std.specs.Prelude.{vec_capacity};
-    ghost use Rattle.migrator.specs.Inside.{Order, AreTurns, order_of};
+    ghost use Rattle.migrator.specs.Inside.{TurnOrder, AreTurns, order_of};
 
-    ghost Value = { Order };
+    ghost Value = { TurnOrder };
 
     ghost view = { λ t. order_of t.turns t.later.items };
 

@@ -12,7 +12,7 @@ ghost use Rattle.extent_groups.specs.Calls.{HaveFronts, HaveRoom, IsPlace, if_ok
 ghost use Rattle.extent_groups.specs.Cursors.{IsMirroredAt};
 ghost use Rattle.extent_groups.specs.Groups.{group_at, class_in, slots_in};
 ghost use Rattle.extent_groups.specs.Stores.{unit_bytes, unit_of, header_of, IsBuffer, AreHeaders, AreSound, IsSlotOf, AreDrives};
-ghost use Rattle.extent_groups.specs.Stores.{Wrote, NamesGone, IsOwnOf, AreCopies, IsGroupOf, ReadLeaves};
+ghost use Rattle.extent_groups.specs.Stores.{WroteSlot, NamesGone, IsOwnOf, AreCopies, IsGroupOf, ReadLeaves};
 ghost use Rattle.extent_groups.specs.declared.place.Place.{Place};
 ghost use Rattle.extent_groups.specs.Planned.{after, WroteByPlan};
 
@@ -186,7 +186,7 @@ pub fn write<D: Drive>(
     requires scratch { length scratch.old ≡ 2 * unit_bytes groups.now }
     ensures ok { OnOk result (unit_of groups.now (cells D.units D.lost drives.new) slot ≡ Some unit.now) }
     ensures gone { IfErr result (NamesGone groups.now (cells D.units D.lost drives.new) slot) }
-    ensures wrote { Wrote groups.now (cells D.units D.lost drives.old) (cells D.units D.lost drives.new) slot unit.now }
+    ensures wrote { WroteSlot groups.now (cells D.units D.lost drives.old) (cells D.units D.lost drives.new) slot unit.now }
     ensures copies { AreCopies (IsOwnOf groups.now slot) (cells D.units D.lost drives.new) unit.now }
     ensures planned { OnOk result (WroteByPlan groups.now (cells D.units D.lost drives.old) (cells D.units D.lost drives.new) slot unit.now) }
     ensures unwritten { OnErr result ((x : Place) → FadesAt (cells D.units D.lost drives.old) (cells D.units D.lost drives.new) x) }
@@ -214,7 +214,7 @@ pub fn write_gathered<D: Drive>(
     requires scratch { length scratch.old ≡ unit_bytes groups.now }
     ensures ok { OnOk result (unit_of groups.now (cells D.units D.lost drives.new) slot ≡ Some (front.now ++ rest.now)) }
     ensures gone { IfErr result (NamesGone groups.now (cells D.units D.lost drives.new) slot) }
-    ensures wrote { Wrote groups.now (cells D.units D.lost drives.old) (cells D.units D.lost drives.new) slot (front.now ++ rest.now) }
+    ensures wrote { WroteSlot groups.now (cells D.units D.lost drives.old) (cells D.units D.lost drives.new) slot (front.now ++ rest.now) }
     ensures copies { AreCopies (IsOwnOf groups.now slot) (cells D.units D.lost drives.new) (front.now ++ rest.now) }
     ensures planned { OnOk result (WroteByPlan groups.now (cells D.units D.lost drives.old) (cells D.units D.lost drives.new) slot (front.now ++ rest.now)) }
     ensures unwritten { OnErr result ((x : Place) → FadesAt (cells D.units D.lost drives.old) (cells D.units D.lost drives.new) x) }

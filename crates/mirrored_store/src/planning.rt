@@ -4,7 +4,7 @@ ghost use Rattle.extent_groups.specs.declared.class.Class.TheVariants.{Mirrored}
 ghost use Rattle.extent_groups.specs.declared.plan.PlanRefusal.TheVariants as refusal;
 ghost use Rattle.extent_groups.specs.Cells.{cells};
 ghost use Rattle.extent_groups.specs.Missing.{missing_of, IsGone};
-ghost use Rattle.extent_groups.specs.Planned.{IsPlanned, IsPlan};
+ghost use Rattle.extent_groups.specs.Planned.{IsWritePlan, IsPlan};
 ghost use Rattle.extent_groups.specs.PlanLists.{listed};
 ghost use Rattle.extent_groups.specs.Stores.{unit_bytes, unit_of, IsSlotOf, AreDrives};
 
@@ -24,7 +24,7 @@ pub fn plan<D: Drive>(
     requires slot { IsSlotOf Mirrored groups.now slot }
     requires drives { AreDrives D.units groups.now drives.old }
     requires unit { length unit.now ≡ unit_bytes groups.now }
-    ensures ok { IfOk result (λ plan. IsPlanned groups.now (cells D.units D.lost drives.new) slot unit.now (λ place. unit.now) (listed plan.writes.items)
+    ensures ok { IfOk result (λ plan. IsWritePlan groups.now (cells D.units D.lost drives.new) slot unit.now (λ place. unit.now) (listed plan.writes.items)
         × (plan.parity ≡ None)) }
     ensures listed { IfOk result (λ plan. IsPlan groups.now (cells D.units D.lost drives.new) slot unit.now (λ place. unit.now) (listed plan.writes.items)) }
     ensures there { OnOk result (IsGone groups.now (missing_of D.lost drives.new) slot → ⊥) }

@@ -2,19 +2,19 @@
 use Rattle.std.proofs.Common.{◌≡◌, ℕ, ◌≤◌, List, [], ◌∷◌, ◌++◌, ◌⊎◌, inl, inr, refl, sym, ap, subst, arith}
 use Rattle.std.specs.Prelude.{Contains}
 use Rattle.std.proofs.lemmas.List.Elements.{All-cons, All-contains, All-nil, Contains-append_cases, Contains-append_left, Contains-append_right}
-use Rattle.byte_store.specs.Flat.{Flat}
+use Rattle.byte_store.specs.Flat.{StoreState}
 use Rattle.byte_store.specs.Lasting.{Covers, Lasts, Within}
 use Rattle.byte_store.proofs.Lasts.{covering, lasts_ahead}
 use Rattle.byte_store.specs.declared.fault.StoreFault.{StoreFault}
-use Rattle.nbd_serve.specs.Exchanges.{Exchange, IsExchange, Runs}
+use Rattle.nbd_serve.specs.Exchanges.{Exchange, IsExchange, RunsSession}
 use Rattle.nbd_serve.specs.Stopping.{LeavesBy, Outlasting, OutlastingSince, Survives}
-use Rattle.nbd_serve.specs.Enduring.{AreKept, Endures, IsKept, Joins, LastsThrough, Rise, HoldsSince, passed}
+use Rattle.nbd_serve.specs.Enduring.{AreKept, Endures, IsHonored, CoversBoth, LastsThrough, Rise, HoldsSince, passed}
 use Rattle.nbd_serve.proofs.Stopping.{has_head, has_rest}
 
 -- one exchange more
-abbrev pub runs_more : (may : StoreFault → Type 0) (size : ℕ) (F : Flat) (xs : List Exchange) (G : Flat) (x : Exchange) (H : Flat) → Runs may size F xs G → IsExchange may size G x H
-    → Runs may size F (xs ++ x ∷ []) H
-runs_more may size F [] G x H runs is = (H, (let P : Flat → Type 0 = λ S. IsExchange may size S x H in subst P runs is), refl)
+abbrev pub runs_more : (may : StoreFault → Type 0) (size : ℕ) (F : StoreState) (xs : List Exchange) (G : StoreState) (x : Exchange) (H : StoreState) → RunsSession may size F xs G → IsExchange may size G x H
+    → RunsSession may size F (xs ++ x ∷ []) H
+runs_more may size F [] G x H runs is = (H, (let P : StoreState → Type 0 = λ S. IsExchange may size S x H in subst P runs is), refl)
 runs_more may size F (y ∷ xs) G x H runs is = (runs.0, runs.1, runs_more may size runs.0 xs G x H runs.2 is)
 
 -- lists within others
@@ -25,38 +25,38 @@ within_cons x xs more has within = λ b is.
       | inr rest ↦ within b rest
     ]
 
-within_behind : (xs ys zs : List (List ℕ)) → Within ys zs → Within (xs ++ ys) (xs ++ zs)
-within_behind xs ys zs within = λ b is.
+within_following : (xs ys zs : List (List ℕ)) → Within ys zs → Within (xs ++ ys) (xs ++ zs)
+within_following xs ys zs within = λ b is.
     elim (Contains-append_cases xs ys b is) [
       | inl first ↦ Contains-append_left xs zs b first
       | inr second ↦ Contains-append_right xs zs b (within b second)
     ]
 
-joining : (some states : List (List ℕ)) → Joins (some ++ states) some states
+joining : (some states : List (List ℕ)) → CoversBoth (some ++ states) some states
 joining some states = record { first = λ b is. Contains-append_left some states b is; second = λ b is. Contains-append_right some states b is }
 
 -- the last state was passed
-has_state : (may : StoreFault → Type 0) (size : ℕ) (F : Flat) (xs : List Exchange) (H : Flat) (run : Runs may size F xs H) → Contains (passed may size F xs H run) H.bytes
-has_state may size F [] H run = let P : List ℕ → Type 0 = λ b. Contains (F.bytes ∷ []) b in subst P (ap (λ (S : Flat). S.bytes) (sym run)) (has_head F.bytes [])
+has_state : (may : StoreFault → Type 0) (size : ℕ) (F : StoreState) (xs : List Exchange) (H : StoreState) (run : RunsSession may size F xs H) → Contains (passed may size F xs H run) H.bytes
+has_state may size F [] H run = let P : List ℕ → Type 0 = λ b. Contains (F.bytes ∷ []) b in subst P (ap (λ (S : StoreState). S.bytes) (sym run)) (has_head F.bytes [])
 has_state may size F (x ∷ xs) H run = has_rest F.bytes H.bytes (passed may size run.0 xs H run.2) (has_state may size run.0 xs H run.2)
 
 -- with one exchange more, no fewer were
-passed_more : (may : StoreFault → Type 0) (size : ℕ) (F : Flat) (xs : List Exchange) (G : Flat) (x : Exchange) (H : Flat) (run : Runs may size F xs G) (is : IsExchange may size G x H)
+passed_more : (may : StoreFault → Type 0) (size : ℕ) (F : StoreState) (xs : List Exchange) (G : StoreState) (x : Exchange) (H : StoreState) (run : RunsSession may size F xs G) (is : IsExchange may size G x H)
     → Within (passed may size F xs G run) (passed may size F (xs ++ x ∷ []) H (runs_more may size F xs G x H run is))
 passed_more may size F [] G x H run is = λ b has. Contains-append_left (F.bytes ∷ []) (H.bytes ∷ []) b has
 passed_more may size F (y ∷ xs) G x H run is =
-    within_behind (F.bytes ∷ []) (passed may size run.0 xs G run.2) (passed may size run.0 (xs ++ x ∷ []) H (runs_more may size run.0 xs G x H run.2 is))
+    within_following (F.bytes ∷ []) (passed may size run.0 xs G run.2) (passed may size run.0 (xs ++ x ∷ []) H (runs_more may size run.0 xs G x H run.2 is))
     (passed_more may size run.0 xs G x H run.2 is)
 
 -- and so with the state at the end before them
-states_more : (may : StoreFault → Type 0) (size : ℕ) (F : Flat) (xs : List Exchange) (G : Flat) (x : Exchange) (H : Flat) (run : Runs may size F xs G) (is : IsExchange may size G x H)
+states_more : (may : StoreFault → Type 0) (size : ℕ) (F : StoreState) (xs : List Exchange) (G : StoreState) (x : Exchange) (H : StoreState) (run : RunsSession may size F xs G) (is : IsExchange may size G x H)
     → Within (G.bytes ∷ passed may size F xs G run) (H.bytes ∷ passed may size F (xs ++ x ∷ []) H (runs_more may size F xs G x H run is))
 states_more may size F xs G x H run is =
     let more = passed may size F (xs ++ x ∷ []) H (runs_more may size F xs G x H run is) in
     let within : Within (passed may size F xs G run) (H.bytes ∷ more) = λ b has. has_rest H.bytes b more (passed_more may size F xs G x H run is b has) in
     within_cons G.bytes (passed may size F xs G run) (H.bytes ∷ more) (within G.bytes (has_state may size F xs G run)) within
 
-states_last : (may : StoreFault → Type 0) (size : ℕ) (F : Flat) (xs : List Exchange) (G : Flat) (run : Runs may size F xs G) (final : List ℕ)
+states_last : (may : StoreFault → Type 0) (size : ℕ) (F : StoreState) (xs : List Exchange) (G : StoreState) (run : RunsSession may size F xs G) (final : List ℕ)
     → Within (G.bytes ∷ passed may size F xs G run) (final ∷ passed may size F xs G run)
 states_last may size F xs G run final =
     let within : Within (passed may size F xs G run) (final ∷ passed may size F xs G run) = λ b has. has_rest final b (passed may size F xs G run) has in
@@ -80,11 +80,11 @@ module _ {S : Type 0} (outlasts : Outlasting S) (moment : S → ℕ) (outlasts_s
   through_one : (states : List (List ℕ)) (before now : List ℕ) (old new : S) → Lasts outlasts moment outlasts_since before now old new
       → Contains states before → Contains states now → LastsThrough outlasts moment outlasts_since states old new
   through_one states before now old new lasts has_before has_now =
-      let covers : (more some : List (List ℕ)) → Joins more some states → Covers more some before now =
+      let covers : (more some : List (List ℕ)) → CoversBoth more some states → Covers more some before now =
       λ more some joins. record { each = joins.first; has_before = joins.second before has_before; has_now = joins.second now has_now } in record {
         later = lasts.later;
-        behind = λ killed cut more_killed more_cut holds joins joins_cut.
-            lasts.behind killed cut more_killed more_cut holds (covers more_killed killed joins) (covers more_cut cut joins_cut);
+        following = λ killed cut more_killed more_cut holds joins joins_cut.
+            lasts.following killed cut more_killed more_cut holds (covers more_killed killed joins) (covers more_cut cut joins_cut);
         during = λ killed cut more_killed more_cut holds joins joins_cut.
             lasts.during killed cut more_killed more_cut holds (covers more_killed killed joins) (covers more_cut cut joins_cut);
         earlier = λ t since_killed since_cut killed cut more_killed more_cut early since holds within within_cut joins joins_cut.
@@ -97,29 +97,29 @@ module _ {S : Type 0} (outlasts : Outlasting S) (moment : S → ℕ) (outlasts_s
       → Lasts outlasts moment outlasts_since before now mid new → Within states more → Contains more before → Contains more now
       → LastsThrough outlasts moment outlasts_since more old new
   through_more states more before now old mid new first second wider has_before has_now =
-      let joins_states : (all some : List (List ℕ)) → Joins all some more → Joins all some states =
+      let joins_states : (all some : List (List ℕ)) → CoversBoth all some more → CoversBoth all some states =
       λ all some joins. record { first = joins.first; second = λ b has. joins.second b (wider b has) } in
-      let covers : (all some : List (List ℕ)) → Joins all some more → Covers all all before now =
+      let covers : (all some : List (List ℕ)) → CoversBoth all some more → Covers all all before now =
       λ all some joins. record { each = λ b has. has; has_before = joins.second before has_before; has_now = joins.second now has_now } in record {
         later = λ killed cut holds.
-            let there = first.behind killed cut (killed ++ states) (cut ++ states) holds (joining killed states) (joining cut states) in
+            let there = first.following killed cut (killed ++ states) (cut ++ states) holds (joining killed states) (joining cut states) in
             let one = first.later killed cut holds in
             let two = second.later (killed ++ states) (cut ++ states) there in omega (arith, one, two);
-        behind = λ killed cut more_killed more_cut holds joins joins_cut.
-            second.behind more_killed more_cut more_killed more_cut
-            (first.behind killed cut more_killed more_cut holds (joins_states more_killed killed joins) (joins_states more_cut cut joins_cut))
+        following = λ killed cut more_killed more_cut holds joins joins_cut.
+            second.following more_killed more_cut more_killed more_cut
+            (first.following killed cut more_killed more_cut holds (joins_states more_killed killed joins) (joins_states more_cut cut joins_cut))
             (covers more_killed killed joins) (covers more_cut cut joins_cut);
         during = λ killed cut more_killed more_cut holds joins joins_cut.
             second.earlier (moment old) more_killed more_cut more_killed more_cut more_killed more_cut (first.later killed cut holds)
             (first.during killed cut more_killed more_cut holds (joins_states more_killed killed joins) (joins_states more_cut cut joins_cut))
-            (first.behind killed cut more_killed more_cut holds (joins_states more_killed killed joins) (joins_states more_cut cut joins_cut))
+            (first.following killed cut more_killed more_cut holds (joins_states more_killed killed joins) (joins_states more_cut cut joins_cut))
             (λ b has. has) (λ b has. has) (covers more_killed killed joins) (covers more_cut cut joins_cut);
         earlier = λ t since_killed since_cut killed cut more_killed more_cut early since holds within within_cut joins joins_cut.
             let one = first.later killed cut holds in
             second.earlier t more_killed more_cut more_killed more_cut more_killed more_cut (omega (arith, early, one))
             (first.earlier t since_killed since_cut killed cut more_killed more_cut early since holds within within_cut
             (joins_states more_killed killed joins) (joins_states more_cut cut joins_cut))
-            (first.behind killed cut more_killed more_cut holds (joins_states more_killed killed joins) (joins_states more_cut cut joins_cut))
+            (first.following killed cut more_killed more_cut holds (joins_states more_killed killed joins) (joins_states more_cut cut joins_cut))
             (λ b has. has) (λ b has. has) (covers more_killed killed joins) (covers more_cut cut joins_cut);
       }
 
@@ -128,22 +128,22 @@ module _ {S : Type 0} (outlasts : Outlasting S) (moment : S → ℕ) (outlasts_s
       → Lasts outlasts moment outlasts_since before now old new → Covers more_killed killed before now → Covers more_cut cut before now
       → HoldsSince outlasts outlasts_since old t killed cut → HoldsSince outlasts outlasts_since new t more_killed more_cut
   since_more t killed cut more_killed more_cut before now old new early lasts covers covers_cut was = record {
-    now = lasts.behind killed cut more_killed more_cut was.now covers covers_cut;
+    now = lasts.following killed cut more_killed more_cut was.now covers covers_cut;
     since = lasts.earlier t killed cut killed cut more_killed more_cut early was.since was.now covers.each covers_cut.each covers covers_cut;
   }
 
   kept_on : (t : ℕ) (x : Exchange) (later all more more_all : List (List ℕ)) (before now : List ℕ) (old new : S) → t ≤ moment old
       → Lasts outlasts moment outlasts_since before now old new → Covers more later before now → Covers more_all all before now
-      → IsKept (HoldsSince outlasts outlasts_since old t) x later all → IsKept (HoldsSince outlasts outlasts_since new t) x more more_all
+      → IsHonored (HoldsSince outlasts outlasts_since old t) x later all → IsHonored (HoldsSince outlasts outlasts_since new t) x more more_all
   kept_on t x later all more more_all before now old new early lasts covers covers_all kept = record {
     changed = λ says. since_more t later all more more_all before now old new early lasts covers covers_all (kept.changed says);
     durable = λ says. since_more t later later more more before now old new early lasts covers covers (kept.durable says);
   }
 
   -- the exchanges made, after one more
-  kept_more : (may : StoreFault → Type 0) (size : ℕ) (F : Flat) (xs : List Exchange) (G : Flat) (x : Exchange) (H : Flat) (run : Runs may size F xs G) (is : IsExchange may size G x H)
+  kept_more : (may : StoreFault → Type 0) (size : ℕ) (F : StoreState) (xs : List Exchange) (G : StoreState) (x : Exchange) (H : StoreState) (run : RunsSession may size F xs G) (is : IsExchange may size G x H)
       (all more_all : List (List ℕ)) (first : ℕ) (ts : List ℕ) (t : ℕ) (old new : S) → Rise first ts (moment old) → Lasts outlasts moment outlasts_since G.bytes H.bytes old new
-      → Covers more_all all G.bytes H.bytes → IsKept (HoldsSince outlasts outlasts_since new t) x (H.bytes ∷ H.bytes ∷ []) more_all
+      → Covers more_all all G.bytes H.bytes → IsHonored (HoldsSince outlasts outlasts_since new t) x (H.bytes ∷ H.bytes ∷ []) more_all
       → AreKept (HoldsSince outlasts outlasts_since old) all G.bytes may size F xs G run ts
       → AreKept (HoldsSince outlasts outlasts_since new) more_all H.bytes may size F (xs ++ x ∷ []) H (runs_more may size F xs G x H run is) (ts ++ t ∷ [])
   kept_more may size F [] G x H run is all more_all first [] t old new rise lasts covers last kept = (last, tt)
@@ -160,7 +160,7 @@ module _ {S : Type 0} (outlasts : Outlasting S) (moment : S → ℕ) (outlasts_s
       )
 
   -- and after what the session stops at
-  kept_last : (may : StoreFault → Type 0) (size : ℕ) (F : Flat) (xs : List Exchange) (G : Flat) (run : Runs may size F xs G) (final : List ℕ)
+  kept_last : (may : StoreFault → Type 0) (size : ℕ) (F : StoreState) (xs : List Exchange) (G : StoreState) (run : RunsSession may size F xs G) (final : List ℕ)
       (all more_all : List (List ℕ)) (first : ℕ) (ts : List ℕ) (old new : S) → Rise first ts (moment old) → Lasts outlasts moment outlasts_since G.bytes final old new
       → Covers more_all all G.bytes final → AreKept (HoldsSince outlasts outlasts_since old) all G.bytes may size F xs G run ts
       → AreKept (HoldsSince outlasts outlasts_since new) more_all final may size F xs G run ts
@@ -177,7 +177,7 @@ module _ {S : Type 0} (outlasts : Outlasting S) (moment : S → ℕ) (outlasts_s
       )
 
   -- no exchange was made
-  pub endures_none : (may : StoreFault → Type 0) (size : ℕ) (F : Flat) (store : S) → Endures outlasts moment outlasts_since may size F [] F refl F.bytes store store
+  pub endures_none : (may : StoreFault → Type 0) (size : ℕ) (F : StoreState) (store : S) → Endures outlasts moment outlasts_since may size F [] F refl F.bytes store store
   endures_none may size F store = record {
     lasts = inl (refl, refl, refl);
     moments = [];
@@ -204,7 +204,7 @@ module _ {S : Type 0} (outlasts : Outlasting S) (moment : S → ℕ) (outlasts_s
   outlasted states killed cut old store P same (inr through) holds = record {
     killed = killed ++ states;
     cut = cut ++ states;
-    holds = through.behind killed cut (killed ++ states) (cut ++ states) holds (joining killed states) (joining cut states);
+    holds = through.following killed cut (killed ++ states) (cut ++ states) holds (joining killed states) (joining cut states);
     within = λ b has. has;
   }
 
@@ -225,13 +225,13 @@ module _ {S : Type 0} (outlasts : Outlasting S) (moment : S → ℕ) (outlasts_s
       → (more : List (List ℕ)) × (more_cut : List (List ℕ)) × outlasts mid more more_cut
   held_by before now killed cut old mid (inl still) holds = let P : S → Type 0 = λ s. outlasts s killed cut in (killed, cut, subst P (sym still.0) holds)
   held_by before now killed cut old mid (inr first) holds =
-      (killed ++ before ∷ now ∷ [], cut ++ before ∷ now ∷ [], first.behind killed cut (killed ++ before ∷ now ∷ []) (cut ++ before ∷ now ∷ []) holds (covering killed before now) (covering cut before now))
+      (killed ++ before ∷ now ∷ [], cut ++ before ∷ now ∷ [], first.following killed cut (killed ++ before ∷ now ∷ []) (cut ++ before ∷ now ∷ []) holds (covering killed before now) (covering cut before now))
 
   -- what an exchange's reply says holds from the moment when it was answered
-  kept_new : (represents : S → Flat → Type 0) (G H : Flat) (x : Exchange) (all : List (List ℕ)) (old mid new : S)
+  kept_new : (represents : S → StoreState → Type 0) (G H : StoreState) (x : Exchange) (all : List (List ℕ)) (old mid new : S)
       → LeavesBy represents outlasts moment outlasts_since G old mid x.request x.reply H → Lasts outlasts moment outlasts_since H.bytes H.bytes mid new
       → Contains all G.bytes → Contains all H.bytes → Outlasted all old
-      → IsKept (HoldsSince outlasts outlasts_since new (moment mid)) x (H.bytes ∷ H.bytes ∷ []) all
+      → IsHonored (HoldsSince outlasts outlasts_since new (moment mid)) x (H.bytes ∷ H.bytes ∷ []) all
   kept_new represents G H x all old mid new left rested has_before has_now there =
       let later = H.bytes ∷ H.bytes ∷ [] in
       let one = H.bytes ∷ [] in
@@ -244,19 +244,19 @@ module _ {S : Type 0} (outlasts : Outlasting S) (moment : S → ℕ) (outlasts_s
       let covers_cut : Covers all there.cut G.bytes H.bytes = record { each = there.within; has_before = has_before; has_now = has_now } in record {
         changed = λ says.
             let holds = left.acknowledged says there.killed there.cut all there.holds covers_cut in record {
-              now = rested.behind one all later all holds covers covers_all;
+              now = rested.following one all later all holds covers covers_all;
               since = rested.during one all later all holds covers covers_all;
             };
         durable = λ says.
             let holds = left.flushed says there.killed there.cut there.holds in record {
-              now = rested.behind one one later later holds covers covers;
+              now = rested.following one one later later holds covers covers;
               since = rested.during one one later later holds covers covers;
             };
       }
 
   -- one exchange more was made, and then the store rested
-  pub endures_more : (represents : S → Flat → Type 0) (may : StoreFault → Type 0) (size : ℕ) (F : Flat) (xs : List Exchange) (G : Flat) (x : Exchange) (H : Flat)
-      (run : Runs may size F xs G) (is : IsExchange may size G x H) (old store mid new : S)
+  pub endures_more : (represents : S → StoreState → Type 0) (may : StoreFault → Type 0) (size : ℕ) (F : StoreState) (xs : List Exchange) (G : StoreState) (x : Exchange) (H : StoreState)
+      (run : RunsSession may size F xs G) (is : IsExchange may size G x H) (old store mid new : S)
       → Endures outlasts moment outlasts_since may size F xs G run G.bytes old store
       → LeavesBy represents outlasts moment outlasts_since G store mid x.request x.reply H → Lasts outlasts moment outlasts_since H.bytes H.bytes mid new
       → Endures outlasts moment outlasts_since may size F (xs ++ x ∷ []) H (runs_more may size F xs G x H run is) H.bytes old new
@@ -284,7 +284,7 @@ module _ {S : Type 0} (outlasts : Outlasting S) (moment : S → ℕ) (outlasts_s
         kept = λ killed cut holds.
             let all = cut ++ H.bytes ∷ more in
             let now = there killed cut holds in
-            let wider = within_behind cut (G.bytes ∷ some) (H.bytes ∷ more) within in
+            let wider = within_following cut (G.bytes ∷ some) (H.bytes ∷ more) within in
             let all_before = Contains-append_right cut (H.bytes ∷ more) G.bytes has_before in
             let all_now = Contains-append_right cut (H.bytes ∷ more) H.bytes has_now in
             let covers : Covers all (cut ++ G.bytes ∷ some) G.bytes H.bytes = record { each = wider; has_before = all_before; has_now = all_now } in
@@ -295,7 +295,7 @@ module _ {S : Type 0} (outlasts : Outlasting S) (moment : S → ℕ) (outlasts_s
       }
 
   -- and then the session stopped
-  pub endures_last : (may : StoreFault → Type 0) (size : ℕ) (F : Flat) (xs : List Exchange) (G : Flat) (run : Runs may size F xs G) (final : List ℕ) (old store new : S)
+  pub endures_last : (may : StoreFault → Type 0) (size : ℕ) (F : StoreState) (xs : List Exchange) (G : StoreState) (run : RunsSession may size F xs G) (final : List ℕ) (old store new : S)
       → Endures outlasts moment outlasts_since may size F xs G run G.bytes old store → Survives outlasts moment outlasts_since G.bytes final store new
       → Endures outlasts moment outlasts_since may size F xs G run final old new
   endures_last may size F xs G run final old store new before (inl still) =
@@ -319,7 +319,7 @@ module _ {S : Type 0} (outlasts : Outlasting S) (moment : S → ℕ) (outlasts_s
             rise_later (moment old) before.moments (moment store) (moment new) (before.rise killed cut holds) (lasts.later now.killed now.cut now.holds);
         kept = λ killed cut holds.
             let covers : Covers (cut ++ final ∷ some) (cut ++ G.bytes ∷ some) G.bytes final = record {
-              each = within_behind cut (G.bytes ∷ some) (final ∷ some) within;
+              each = within_following cut (G.bytes ∷ some) (final ∷ some) within;
               has_before = Contains-append_right cut (final ∷ some) G.bytes has_before;
               has_now = Contains-append_right cut (final ∷ some) final has_now;
             } in

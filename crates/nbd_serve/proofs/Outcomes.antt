@@ -2,7 +2,7 @@
 use Rattle.std.proofs.Common.{◌≡◌, ℕ, List, [], length, replicate, Bool, true, false, if◌then◌else◌, ◌⊎◌, Option, Some, None, Result, Ok, Err, refl, sym, ap, subst, ◌∙◌, inl, inr}
 use Rattle.std.specs.Prelude.{IfErr, MatchOption}
 use Rattle.std.proofs.KnownBytes.{Consumes-nil}
-use Rattle.byte_store.specs.Flat.{Flat}
+use Rattle.byte_store.specs.Flat.{StoreState}
 use Rattle.byte_store.specs.Changes.{IsFlushed}
 use Rattle.byte_store.specs.declared.fault.StoreFault.{StoreFault}
 use Rattle.nbd_wire.specs.declared.reply.Errno.{Errno}
@@ -13,16 +13,16 @@ use Rattle.nbd_wire.specs.declared.request.Request.{Request}
 use Rattle.nbd_wire.specs.Requests.{carried_by, carried_len, has_known_flags, is_forced}
 use Rattle.nbd_wire.specs.Replies.{reply_bytes}
 use Rattle.nbd_serve.specs.Refusals.{error_of, refusal_by, refusal_of}
-use Rattle.nbd_serve.specs.Answers.{Answers, Causes, Does, IsCarriedOut, IsRefused, Stores, bytes_read}
-use Rattle.nbd_serve.specs.Answering.{IsAnswered, IsReadReply, IsTaken}
+use Rattle.nbd_serve.specs.Answers.{AnswersRequest, Causes, Does, IsCarriedOut, IsErrorReply, Stores, bytes_read}
+use Rattle.nbd_serve.specs.Answering.{IsAnswered, IsReadReply, IsWriteServed}
 use Rattle.nbd_serve.specs.Streams.{Skips}
 use Rattle.nbd_serve.proofs.Replying.{no_bytes_written}
 
 -- an answer by what the request's refusal is
-not_refused : (may : StoreFault → Type 0) (size : ℕ) (F : Flat) (r : Request) (carried reply : List ℕ) (G : Flat) → refusal_of size r ≡ None
-    → IsCarriedOut may F r carried reply G → Answers may size F r carried reply G
+not_refused : (may : StoreFault → Type 0) (size : ℕ) (F : StoreState) (r : Request) (carried reply : List ℕ) (G : StoreState) → refusal_of size r ≡ None
+    → IsCarriedOut may F r carried reply G → AnswersRequest may size F r carried reply G
 not_refused may size F r carried reply G asked out =
-    let P : Option Errno → Type 0 = λ o. MatchOption o (IsCarriedOut may F r carried reply G) (λ error. IsRefused F r error reply G) in
+    let P : Option Errno → Type 0 = λ o. MatchOption o (IsCarriedOut may F r carried reply G) (λ error. IsErrorReply F r error reply G) in
     subst P (sym asked) out
 
 -- the cause of a command's refusal
@@ -31,7 +31,7 @@ causes_by : (may : StoreFault → Type 0) (is : Command) (outcome : Result (Unit
 causes_by may is outcome r same cause = let P : Command → Type 0 = λ c. Causes may c outcome in subst P (sym same) cause
 
 -- what a command does, and how many bytes it carries
-does_by : (is : Command) (outcome : Result (Unit {0}) StoreFault) (F : Flat) (r : Request) (carried read : List ℕ) (G : Flat)
+does_by : (is : Command) (outcome : Result (Unit {0}) StoreFault) (F : StoreState) (r : Request) (carried read : List ℕ) (G : StoreState)
     → r.command ≡ is → Does is outcome F r carried read G → Does r.command outcome F r carried read G
 does_by is outcome F r carried read G same does =
     let P : Command → Type 0 = λ c. Does c outcome F r carried read G in subst P (sym same) does
@@ -46,9 +46,9 @@ write_cause may (Ok u) cause = tt
 write_cause may (Err reason) cause = inl cause
 
 -- a write. `says` is what the reply says of the state that it left
-pub write_answered : (stored : Flat → Type 0) (leaves : Request → List ℕ → Flat → Type 0) (may : StoreFault → Type 0) (size : ℕ) (F : Flat) (r : Request)
+pub write_answered : (stored : StoreState → Type 0) (leaves : Request → List ℕ → StoreState → Type 0) (may : StoreFault → Type 0) (size : ℕ) (F : StoreState) (r : Request)
     (outcome : Result (Unit {0}) StoreFault) (before after : Option (List ℕ)) (error : Option Errno) (reply : List ℕ) → refusal_of size r ≡ None
-    → r.command ≡ command.Write → IsTaken may stored outcome F r before after → ((G : Flat) → stored G → leaves r reply G) → error ≡ error_of outcome
+    → r.command ≡ command.Write → IsWriteServed may stored outcome F r before after → ((G : StoreState) → stored G → leaves r reply G) → error ≡ error_of outcome
     → reply ≡ reply_bytes error r.cookie → IsAnswered leaves may size F r before after reply
 write_answered stored leaves may size F r outcome before after error reply asked is taken says same written = record {
   carried = taken.carried;
@@ -66,8 +66,8 @@ write_answered stored leaves may size F r outcome before after error reply asked
 }
 
 -- a command that carries and reads no bytes
-quiet_answered : (is : Command) (leaves : Request → List ℕ → Flat → Type 0) (may : StoreFault → Type 0) (size : ℕ) (F : Flat) (r : Request) (outcome : Result (Unit {0}) StoreFault)
-    (before : Option (List ℕ)) (error : Option Errno) (reply : List ℕ) (G : Flat) → refusal_of size r ≡ None → r.command ≡ is
+quiet_answered : (is : Command) (leaves : Request → List ℕ → StoreState → Type 0) (may : StoreFault → Type 0) (size : ℕ) (F : StoreState) (r : Request) (outcome : Result (Unit {0}) StoreFault)
+    (before : Option (List ℕ)) (error : Option Errno) (reply : List ℕ) (G : StoreState) → refusal_of size r ≡ None → r.command ≡ is
     → 0 ≡ carried_by is r.length → Causes may is outcome → leaves r reply G → Does is outcome F r [] [] G → error ≡ error_of outcome
     → reply ≡ reply_bytes error r.cookie → IsAnswered leaves may size F r before before reply
 quiet_answered is leaves may size F r outcome before error reply G asked same none cause next_is does error_is written = record {
@@ -85,11 +85,11 @@ quiet_answered is leaves may size F r outcome before error reply G asked same no
   });
 }
 
-pub trim_answered : (stored : Flat → Type 0) (leaves : Request → List ℕ → Flat → Type 0) (may : StoreFault → Type 0) (size : ℕ) (F : Flat) (r : Request)
+pub trim_answered : (stored : StoreState → Type 0) (leaves : Request → List ℕ → StoreState → Type 0) (may : StoreFault → Type 0) (size : ℕ) (F : StoreState) (r : Request)
     (outcome : Result (Unit {0}) StoreFault) (before : Option (List ℕ)) (error : Option Errno) (reply : List ℕ) → refusal_of size r ≡ None
     → (r.command ≡ command.Trim) ⊎ (r.command ≡ command.WriteZeroes)
-    → IfErr outcome may → (G : Flat) × stored G × Stores outcome (is_forced r) F r.offset (replicate r.length 0) G
-    → ((G : Flat) → stored G → leaves r reply G) → error ≡ error_of outcome → reply ≡ reply_bytes error r.cookie
+    → IfErr outcome may → (G : StoreState) × stored G × Stores outcome (is_forced r) F r.offset (replicate r.length 0) G
+    → ((G : StoreState) → stored G → leaves r reply G) → error ≡ error_of outcome → reply ≡ reply_bytes error r.cookie
     → IsAnswered leaves may size F r before before reply
 trim_answered stored leaves may size F r outcome before error reply asked (inl is) cause left says error_is written =
     quiet_answered command.Trim leaves may size F r outcome before error reply left.0 asked is refl cause (says left.0 left.1) (refl, left.2)
@@ -98,23 +98,23 @@ trim_answered stored leaves may size F r outcome before error reply asked (inr i
     quiet_answered command.WriteZeroes leaves may size F r outcome before error reply left.0 asked is refl cause (says left.0 left.1) (refl, left.2)
     error_is written
 
-pub flush_answered : (represents : Flat → Type 0) (leaves : Request → List ℕ → Flat → Type 0) (may : StoreFault → Type 0) (size : ℕ) (F : Flat) (r : Request)
+pub flush_answered : (represents : StoreState → Type 0) (leaves : Request → List ℕ → StoreState → Type 0) (may : StoreFault → Type 0) (size : ℕ) (F : StoreState) (r : Request)
     (outcome : Result (Unit {0}) StoreFault) (before : Option (List ℕ)) (error : Option Errno) (reply : List ℕ) → refusal_of size r ≡ None
-    → r.command ≡ command.Flush → IfErr outcome may → (G : Flat) × represents G × IsFlushed outcome F G
-    → ((G : Flat) → represents G → IsFlushed outcome F G → leaves r reply G) → error ≡ error_of outcome → reply ≡ reply_bytes error r.cookie
+    → r.command ≡ command.Flush → IfErr outcome may → (G : StoreState) × represents G × IsFlushed outcome F G
+    → ((G : StoreState) → represents G → IsFlushed outcome F G → leaves r reply G) → error ≡ error_of outcome → reply ≡ reply_bytes error r.cookie
     → IsAnswered leaves may size F r before before reply
 flush_answered represents leaves may size F r outcome before error reply asked is cause flushed says error_is written =
     quiet_answered command.Flush leaves may size F r outcome before error reply flushed.0 asked is refl cause (says flushed.0 flushed.1 flushed.2)
     (refl, flushed.2) error_is written
 
-pub cache_answered : (leaves : Request → List ℕ → Flat → Type 0) (may : StoreFault → Type 0) (size : ℕ) (F : Flat) (r : Request) (before : Option (List ℕ)) (reply : List ℕ)
+pub cache_answered : (leaves : Request → List ℕ → StoreState → Type 0) (may : StoreFault → Type 0) (size : ℕ) (F : StoreState) (r : Request) (before : Option (List ℕ)) (reply : List ℕ)
     → refusal_of size r ≡ None → r.command ≡ command.Cache → leaves r reply F → reply ≡ reply_bytes None r.cookie
     → IsAnswered leaves may size F r before before reply
 cache_answered leaves may size F r before reply asked is next_is written =
     quiet_answered command.Cache leaves may size F r (Ok tt) before None reply F asked is refl tt next_is (refl, refl, refl) refl written
 
 -- a read
-pub read_answered : (leaves : Request → List ℕ → Flat → Type 0) (may : StoreFault → Type 0) (size : ℕ) (F : Flat) (r : Request) (before : Option (List ℕ)) (reply : List ℕ)
+pub read_answered : (leaves : Request → List ℕ → StoreState → Type 0) (may : StoreFault → Type 0) (size : ℕ) (F : StoreState) (r : Request) (before : Option (List ℕ)) (reply : List ℕ)
     → refusal_of size r ≡ None → r.command ≡ command.Read → leaves r reply F → IsReadReply may F r reply → IsAnswered leaves may size F r before before reply
 read_answered leaves may size F r before reply asked is next_is read = record {
   carried = [];
@@ -132,11 +132,11 @@ read_answered leaves may size F r before reply asked is next_is read = record {
 }
 
 -- a request that was refused
-pub refused_answered : (leaves : Request → List ℕ → Flat → Type 0) (may : StoreFault → Type 0) (size : ℕ) (F : Flat) (r : Request) (before after : Option (List ℕ)) (error : Errno) (reply : List ℕ)
+pub refused_answered : (leaves : Request → List ℕ → StoreState → Type 0) (may : StoreFault → Type 0) (size : ℕ) (F : StoreState) (r : Request) (before after : Option (List ℕ)) (error : Errno) (reply : List ℕ)
     → refusal_of size r ≡ Some error → Skips before after (carried_len r) → leaves r reply F → reply ≡ reply_bytes (Some error) r.cookie
     → IsAnswered leaves may size F r before after reply
 refused_answered leaves may size F r before after error reply refused skipped next_is written =
-    let P : Option Errno → Type 0 = λ o. MatchOption o (IsCarriedOut may F r skipped.bytes reply F) (λ error. IsRefused F r error reply F) in
+    let P : Option Errno → Type 0 = λ o. MatchOption o (IsCarriedOut may F r skipped.bytes reply F) (λ error. IsErrorReply F r error reply F) in
     record {
       carried = skipped.bytes;
       carries = skipped.size;

@@ -2,7 +2,7 @@
 use Rattle.std.proofs.Common.{◌≡◌, ℕ, List, get_or, Bool, true, false, Option, Some, None, Result, Ok, Err, inl, inr, refl, sym, ap, subst, ◌∙◌, arith}
 use Rattle.std.specs.Prelude.{IsOk, IsTrue, OnOk}
 use Rattle.std.proofs.lemmas.Bool.{false≢true}
-use Rattle.byte_store.specs.Flat.{Flat}
+use Rattle.byte_store.specs.Flat.{StoreState}
 use Rattle.byte_store.specs.Changes.{IsFlushed}
 use Rattle.byte_store.specs.Lasting.{Flushes, Lasts}
 use Rattle.byte_store.specs.declared.fault.StoreFault.{StoreFault}
@@ -15,7 +15,7 @@ use Rattle.nbd_wire.specs.declared.request.Request.{Request}
 use Rattle.nbd_wire.specs.Requests.{is_forced}
 use Rattle.nbd_wire.specs.Replies.{reply_bytes}
 use Rattle.nbd_serve.specs.Refusals.{error_of}
-use Rattle.nbd_serve.specs.Stopping.{Leaves, LeavesBy, Outlasting, OutlastingSince, Survives, is_change, secures}
+use Rattle.nbd_serve.specs.Stopping.{LeavesStore, LeavesBy, Outlasting, OutlastingSince, Survives, is_change, secures}
 
 -- the lowest byte of an error's number
 error_byte : (error other : Option Errno) (cookie : ℕ) → reply_bytes error cookie ≡ reply_bytes other cookie → get_or (reply_bytes error cookie) 7 0 ≡ get_or (reply_bytes other cookie) 7 0
@@ -55,9 +55,9 @@ secures_change command.Disconnect forced is = absurd (false≢true is)
 secures_change command.Other forced is = absurd (false≢true is)
 
 -- a request that changed bytes
-pub change_says : {S : Type 0} (represents : S → Flat → Type 0) (outlasts : Outlasting S) (moment : S → ℕ) (outlasts_since : OutlastingSince S) (F : Flat) (old new : S) (r : Request)
+pub change_says : {S : Type 0} (represents : S → StoreState → Type 0) (outlasts : Outlasting S) (moment : S → ℕ) (outlasts_since : OutlastingSince S) (F : StoreState) (old new : S) (r : Request)
     (outcome : Result (Unit {0}) StoreFault) (error : Option Errno) (reply : List ℕ) → is_change r.command ≡ true → error ≡ error_of outcome → reply ≡ reply_bytes error r.cookie
-    → (G : Flat) → Leaves represents outlasts moment outlasts_since (IsOk outcome) (IsOk outcome × IsTrue (is_forced r)) F old new G
+    → (G : StoreState) → LeavesStore represents outlasts moment outlasts_since (IsOk outcome) (IsOk outcome × IsTrue (is_forced r)) F old new G
     → LeavesBy represents outlasts moment outlasts_since F old new r reply G
 change_says represents outlasts moment outlasts_since F old new r outcome error reply is error_is written G left = record {
   represented = left.represented;
@@ -72,14 +72,14 @@ on_ok : (outcome : Result (Unit {0}) StoreFault) (P : Type 0) → OnOk outcome P
 on_ok (Ok u) P holds ok = holds
 on_ok (Err reason) P holds ok = absurd (false≢true ok)
 
-flushed_bytes : (outcome : Result (Unit {0}) StoreFault) (F G : Flat) → IsFlushed outcome F G → G.bytes ≡ F.bytes
+flushed_bytes : (outcome : Result (Unit {0}) StoreFault) (F G : StoreState) → IsFlushed outcome F G → G.bytes ≡ F.bytes
 flushed_bytes (Ok u) F G flushed = flushed.0
-flushed_bytes (Err reason) F G flushed = ap (λ (H : Flat). H.bytes) flushed
+flushed_bytes (Err reason) F G flushed = ap (λ (H : StoreState). H.bytes) flushed
 
-pub flush_says : {S : Type 0} (represents : S → Flat → Type 0) (outlasts : Outlasting S) (moment : S → ℕ) (outlasts_since : OutlastingSince S) (F : Flat) (old new : S) (r : Request)
+pub flush_says : {S : Type 0} (represents : S → StoreState → Type 0) (outlasts : Outlasting S) (moment : S → ℕ) (outlasts_since : OutlastingSince S) (F : StoreState) (old new : S) (r : Request)
     (outcome : Result (Unit {0}) StoreFault) (error : Option Errno) (reply : List ℕ) → r.command ≡ command.Flush → error ≡ error_of outcome → reply ≡ reply_bytes error r.cookie
     → Lasts outlasts moment outlasts_since F.bytes F.bytes old new → OnOk outcome (Flushes outlasts F.bytes old new)
-    → (G : Flat) → represents new G → IsFlushed outcome F G → LeavesBy represents outlasts moment outlasts_since F old new r reply G
+    → (G : StoreState) → represents new G → IsFlushed outcome F G → LeavesBy represents outlasts moment outlasts_since F old new r reply G
 flush_says represents outlasts moment outlasts_since F old new r outcome error reply is error_is written lasts flushes G represented flushed =
     let same = sym (flushed_bytes outcome F G flushed) in
     let P : List ℕ → Type 0 = λ b. Lasts outlasts moment outlasts_since F.bytes b old new in
@@ -91,7 +91,7 @@ flush_says represents outlasts moment outlasts_since F old new r outcome error r
     }
 
 -- a request of which nothing was said
-pub quiet_says : {S : Type 0} (represents : S → Flat → Type 0) (outlasts : Outlasting S) (moment : S → ℕ) (outlasts_since : OutlastingSince S) (F : Flat) (old new : S) (r : Request)
+pub quiet_says : {S : Type 0} (represents : S → StoreState → Type 0) (outlasts : Outlasting S) (moment : S → ℕ) (outlasts_since : OutlastingSince S) (F : StoreState) (old new : S) (r : Request)
     (reply : List ℕ) → (is_change r.command ≡ false) → ((forced : Bool) → secures r.command forced ≡ false) → represents new F
     → Survives outlasts moment outlasts_since F.bytes F.bytes old new → LeavesBy represents outlasts moment outlasts_since F old new r reply F
 quiet_says represents outlasts moment outlasts_since F old new r reply none never represented survives = record {
@@ -102,7 +102,7 @@ quiet_says represents outlasts moment outlasts_since F old new r reply none neve
 }
 
 -- a request that was refused
-pub refusal_says : {S : Type 0} (represents : S → Flat → Type 0) (outlasts : Outlasting S) (moment : S → ℕ) (outlasts_since : OutlastingSince S) (F : Flat) (store : S) (r : Request)
+pub refusal_says : {S : Type 0} (represents : S → StoreState → Type 0) (outlasts : Outlasting S) (moment : S → ℕ) (outlasts_since : OutlastingSince S) (F : StoreState) (store : S) (r : Request)
     (error : Errno) (reply : List ℕ) → reply ≡ reply_bytes (Some error) r.cookie → represents store F
     → LeavesBy represents outlasts moment outlasts_since F store store r reply F
 refusal_says represents outlasts moment outlasts_since F store r error reply written represented = record {

@@ -5,9 +5,9 @@ use Rattle.std.specs.List.{flat_map}
 use Rattle.std.specs.Io.KnownBytes.{Appends, Consumes}
 use Rattle.std.proofs.KnownBytes.{Appends-nil, Appends-trans, Consumes-nil, Consumes-trans}
 use Rattle.byte_store.specs.declared.fault.StoreFault.{StoreFault}
-use Rattle.byte_store.specs.Flat.{Flat}
+use Rattle.byte_store.specs.Flat.{StoreState}
 use Rattle.byte_store.specs.Lasting.{Lasts}
-use Rattle.nbd_serve.specs.Exchanges.{Exchange, Runs, asked_by, replied_by}
+use Rattle.nbd_serve.specs.Exchanges.{Exchange, RunsSession, asked_by, replied_by}
 use Rattle.nbd_serve.specs.Serving.{Breaks, IsCutOff, Serves, Stops}
 use Rattle.nbd_serve.specs.Streams.{IsPartWritten, IsShort, end_by}
 use Rattle.nbd_serve.specs.Answering.{IsAnswered}
@@ -16,28 +16,28 @@ use Rattle.nbd_serve.specs.declared.calls.Short.TheVariants as short
 use Rattle.nbd_wire.specs.declared.request.Command.TheVariants as command
 use Rattle.nbd_wire.specs.declared.request.Request.{Request}
 use Rattle.nbd_wire.specs.Requests.{SpellsRequest, carried_len}
-use Rattle.nbd_serve.specs.Stepping.{IsDone, IsStop}
-use Rattle.nbd_serve.specs.Stopping.{Leaves, LeavesBy, Outlasting, OutlastingSince}
+use Rattle.nbd_serve.specs.Stepping.{IsCompleted, IsStop}
+use Rattle.nbd_serve.specs.Stopping.{LeavesStore, LeavesBy, Outlasting, OutlastingSince}
 use Rattle.nbd_serve.specs.Enduring.{Endures}
 use Rattle.nbd_serve.proofs.Enduring.{endures_last, endures_more, endures_none, runs_more}
 use Rattle.nbd_serve.specs.declared.end.End.{End}
 use Rattle.nbd_serve.specs.declared.end.End.TheVariants as end
 
 -- n exchanges were made, and the store rested after each
-pub record IsAlong {S : Type 0} (represents : S → Flat → Type 0) (outlasts : Outlasting S) (moment : S → ℕ) (outlasts_since : OutlastingSince S)
-    (may : StoreFault → Type 0) (size n : ℕ) (F : Flat) (old new : S) (before after held now : Option (List ℕ)) : Type 0 where
+pub record IsAlong {S : Type 0} (represents : S → StoreState → Type 0) (outlasts : Outlasting S) (moment : S → ℕ) (outlasts_since : OutlastingSince S)
+    (may : StoreFault → Type 0) (size n : ℕ) (F : StoreState) (old new : S) (before after held now : Option (List ℕ)) : Type 0 where
   pub exchanges : List Exchange
   pub count : length exchanges ≡ n
-  pub state : Flat
-  pub runs : Runs may size F exchanges state
+  pub state : StoreState
+  pub runs : RunsSession may size F exchanges state
   pub represented : represents new state
   pub read : Consumes before after (flat_map asked_by exchanges)
   pub wrote : Appends held now (flat_map replied_by exchanges)
   pub endures : Endures outlasts moment outlasts_since may size F exchanges state runs state.bytes old new
 
 -- none was made
-pub along_none : {S : Type 0} (represents : S → Flat → Type 0) (outlasts : Outlasting S) (moment : S → ℕ) (outlasts_since : OutlastingSince S)
-    (may : StoreFault → Type 0) (size : ℕ) (F : Flat) (store : S) (before held : Option (List ℕ)) → represents store F
+pub along_none : {S : Type 0} (represents : S → StoreState → Type 0) (outlasts : Outlasting S) (moment : S → ℕ) (outlasts_since : OutlastingSince S)
+    (may : StoreFault → Type 0) (size : ℕ) (F : StoreState) (store : S) (before held : Option (List ℕ)) → represents store F
     → IsAlong represents outlasts moment outlasts_since may size 0 F store store before before held held
 along_none represents outlasts moment outlasts_since may size F store before held represented = record {
   exchanges = [];
@@ -56,11 +56,11 @@ bytes_more f [] x = append-nil (f x)
 bytes_more f (y ∷ xs) x = ap (λ bytes. f y ++ bytes) (bytes_more f xs x) ∙ sym (append_assoc (f y) (flat_map f xs) (f x))
 
 -- one exchange after n, after which the store rested
-pub along_more : {S : Type 0} (represents : S → Flat → Type 0) (outlasts : Outlasting S) (moment : S → ℕ) (outlasts_since : OutlastingSince S)
-    (may : StoreFault → Type 0) (size n : ℕ) (F : Flat) (old store rests new : S) (before mid after held written now : Option (List ℕ))
+pub along_more : {S : Type 0} (represents : S → StoreState → Type 0) (outlasts : Outlasting S) (moment : S → ℕ) (outlasts_since : OutlastingSince S)
+    (may : StoreFault → Type 0) (size n : ℕ) (F : StoreState) (old store rests new : S) (before mid after held written now : Option (List ℕ))
     → IsAlong represents outlasts moment outlasts_since may size n F old store before mid held written
-    → ((G : Flat) → represents store G → IsDone (LeavesBy represents outlasts moment outlasts_since G store rests) may size G mid after written now)
-    → ((G : Flat) → represents rests G → represents new G) → ((G : Flat) → represents rests G → Lasts outlasts moment outlasts_since G.bytes G.bytes rests new)
+    → ((G : StoreState) → represents store G → IsCompleted (LeavesBy represents outlasts moment outlasts_since G store rests) may size G mid after written now)
+    → ((G : StoreState) → represents rests G → represents new G) → ((G : StoreState) → represents rests G → Lasts outlasts moment outlasts_since G.bytes G.bytes rests new)
     → IsAlong represents outlasts moment outlasts_since may size (n + 1) F old new before after held now
 along_more represents outlasts moment outlasts_since may size n F old store rests new before mid after held written now along step kept lasts =
     let done = step along.state along.represented in
@@ -80,7 +80,7 @@ along_more represents outlasts moment outlasts_since may size n F old store rest
     }
 
 -- a stop at a request
-stop_at : (last : End) (n : ℕ) (may : StoreFault → Type 0) (size : ℕ) (F : Flat) (before after held now : Option (List ℕ)) (G : Flat)
+stop_at : (last : End) (n : ℕ) (may : StoreFault → Type 0) (size : ℕ) (F : StoreState) (before after held now : Option (List ℕ)) (G : StoreState)
     → Breaks last may size F before after held now G → Stops last n may size F before after held now G
 stop_at end.Disconnected n may size F before after held now G stops = stops
 stop_at end.Garbage n may size F before after held now G stops = stops
@@ -92,10 +92,10 @@ stop_at end.Aborted n may size F before after held now G stops = absurd stops
 stop_at end.Memory n may size F before after held now G stops = absurd stops
 
 -- exchanges, and a stop
-pub served : {S : Type 0} (represents : S → Flat → Type 0) (outlasts : Outlasting S) (moment : S → ℕ) (outlasts_since : OutlastingSince S) (last : End)
-    (may : StoreFault → Type 0) (size n : ℕ) (F : Flat) (old store new : S) (before mid after held written now : Option (List ℕ))
+pub served : {S : Type 0} (represents : S → StoreState → Type 0) (outlasts : Outlasting S) (moment : S → ℕ) (outlasts_since : OutlastingSince S) (last : End)
+    (may : StoreFault → Type 0) (size n : ℕ) (F : StoreState) (old store new : S) (before mid after held written now : Option (List ℕ))
     → IsAlong represents outlasts moment outlasts_since may size n F old store before mid held written
-    → ((G : Flat) → represents store G → IsStop (Leaves represents outlasts moment outlasts_since ⊥ ⊥ G store new) last may size G mid after written now)
+    → ((G : StoreState) → represents store G → IsStop (LeavesStore represents outlasts moment outlasts_since ⊥ ⊥ G store new) last may size G mid after written now)
     → Serves represents outlasts moment outlasts_since may size F old new last before after held now
 served represents outlasts moment outlasts_since last may size n F old store new before mid after held written now along step =
     let stop = step along.state along.represented in record {
@@ -114,8 +114,8 @@ served represents outlasts moment outlasts_since last may size n F old store new
     }
 
 -- no exchange, where there is no memory
-pub served_none : {S : Type 0} (represents : S → Flat → Type 0) (outlasts : Outlasting S) (moment : S → ℕ) (outlasts_since : OutlastingSince S)
-    (may : StoreFault → Type 0) (size : ℕ) (F : Flat) (store : S) (before held : Option (List ℕ)) → represents store F
+pub served_none : {S : Type 0} (represents : S → StoreState → Type 0) (outlasts : Outlasting S) (moment : S → ℕ) (outlasts_since : OutlastingSince S)
+    (may : StoreFault → Type 0) (size : ℕ) (F : StoreState) (store : S) (before held : Option (List ℕ)) → represents store F
     → Serves represents outlasts moment outlasts_since may size F store store end.Memory before before held held
 served_none represents outlasts moment outlasts_since may size F store before held represented = record {
   exchanges = [];
@@ -132,7 +132,7 @@ served_none represents outlasts moment outlasts_since may size F store before he
 }
 
 -- a stop where a request is cut off
-cut_of : (ends : Flat → Type 0) (reason : Short) (may : StoreFault → Type 0) (size : ℕ) (F : Flat) (before after held : Option (List ℕ)) → IsCutOff (end_by reason) before after
+cut_of : (ends : StoreState → Type 0) (reason : Short) (may : StoreFault → Type 0) (size : ℕ) (F : StoreState) (before after held : Option (List ℕ)) → IsCutOff (end_by reason) before after
     → ends F → IsStop ends (end_by reason) may size F before after held held
 cut_of ends short.Ended may size F before after held cut represented = record {
   final = F;
@@ -145,15 +145,15 @@ cut_of ends (short.Failed broke) may size F before after held cut represented = 
   stops = (cut, record { held_is = refl; same = refl });
 }
 
-cut_by : (ends : Flat → Type 0) (reason : Short) (last : End) (may : StoreFault → Type 0) (size : ℕ) (F : Flat) (before after held : Option (List ℕ))
+cut_by : (ends : StoreState → Type 0) (reason : Short) (last : End) (may : StoreFault → Type 0) (size : ℕ) (F : StoreState) (before after held : Option (List ℕ))
     → IsCutOff (end_by reason) before after → last ≡ end_by reason → ends F → IsStop ends last may size F before after held held
 cut_by ends reason last may size F before after held cut last_is represented =
     let P : End → Type 0 = λ e. IsStop ends e may size F before after held held in
     subst P (sym last_is) (cut_of ends reason may size F before after held cut represented)
 
 -- the store is the one before
-pub untouched : {S : Type 0} (represents : S → Flat → Type 0) (outlasts : Outlasting S) (moment : S → ℕ) (outlasts_since : OutlastingSince S) (F : Flat) (old new : S)
-    → new ≡ old → represents old F → Leaves represents outlasts moment outlasts_since ⊥ ⊥ F old new F
+pub untouched : {S : Type 0} (represents : S → StoreState → Type 0) (outlasts : Outlasting S) (moment : S → ℕ) (outlasts_since : OutlastingSince S) (F : StoreState) (old new : S)
+    → new ≡ old → represents old F → LeavesStore represents outlasts moment outlasts_since ⊥ ⊥ F old new F
 untouched {S} represents outlasts moment outlasts_since F old new same represented =
     let P : S → Type 0 = λ s. represents s F in record {
       represented = subst P (sym same) represented;
@@ -163,9 +163,9 @@ untouched {S} represents outlasts moment outlasts_since F old new same represent
     }
 
 -- a reply that wasn't whole says nothing
-pub unsaid : {S : Type 0} (represents : S → Flat → Type 0) (outlasts : Outlasting S) (moment : S → ℕ) (outlasts_since : OutlastingSince S) (F : Flat) (old new : S)
-    (r : Request) (reply : List ℕ) (G : Flat) → LeavesBy represents outlasts moment outlasts_since F old new r reply G
-    → Leaves represents outlasts moment outlasts_since ⊥ ⊥ F old new G
+pub unsaid : {S : Type 0} (represents : S → StoreState → Type 0) (outlasts : Outlasting S) (moment : S → ℕ) (outlasts_since : OutlastingSince S) (F : StoreState) (old new : S)
+    (r : Request) (reply : List ℕ) (G : StoreState) → LeavesBy represents outlasts moment outlasts_since F old new r reply G
+    → LeavesStore represents outlasts moment outlasts_since ⊥ ⊥ F old new G
 unsaid represents outlasts moment outlasts_since F old new r reply G left = record {
   represented = left.represented;
   survives = left.survives;
@@ -174,9 +174,9 @@ unsaid represents outlasts moment outlasts_since F old new r reply G left = reco
 }
 
 -- a reply that is whole
-pub exchange_done : (leaves : Request → List ℕ → Flat → Type 0) (may : StoreFault → Type 0) (size : ℕ) (F : Flat) (head : List ℕ) (r : Request) (before mid after held now : Option (List ℕ))
+pub exchange_done : (leaves : Request → List ℕ → StoreState → Type 0) (may : StoreFault → Type 0) (size : ℕ) (F : StoreState) (head : List ℕ) (r : Request) (before mid after held now : Option (List ℕ))
     (reply wrote : List ℕ) → length head ≡ 28 → SpellsRequest head r → r.command ≢ command.Disconnect → Consumes before mid head
-    → IsAnswered leaves may size F r mid after reply → wrote ≡ reply → Appends held now wrote → IsDone leaves may size F before after held now
+    → IsAnswered leaves may size F r mid after reply → wrote ≡ reply → Appends held now wrote → IsCompleted leaves may size F before after held now
 exchange_done leaves may size F head r before mid after held now reply wrote whole spells stays read answered same written =
     let P : List ℕ → Type 0 = λ xs. Appends held now xs in record {
       exchange = record { head = head; request = r; carried = answered.carried; reply = reply };
@@ -188,10 +188,10 @@ exchange_done leaves may size F head r before mid after held now reply wrote who
     }
 
 -- one that was written in part
-pub exchange_broken : (leaves : Request → List ℕ → Flat → Type 0) (ends : Flat → Type 0) (may : StoreFault → Type 0) (size : ℕ) (F : Flat) (head : List ℕ) (r : Request) (before mid after held now : Option (List ℕ))
+pub exchange_broken : (leaves : Request → List ℕ → StoreState → Type 0) (ends : StoreState → Type 0) (may : StoreFault → Type 0) (size : ℕ) (F : StoreState) (head : List ℕ) (r : Request) (before mid after held now : Option (List ℕ))
     (reply wrote : List ℕ) → length head ≡ 28 → SpellsRequest head r → r.command ≢ command.Disconnect → Consumes before mid head
     → IsAnswered leaves may size F r mid after reply → wrote ≡ reply → IsPartWritten held now wrote
-    → ((G : Flat) → leaves r reply G → ends G)
+    → ((G : StoreState) → leaves r reply G → ends G)
     → IsStop ends end.WriteFault may size F before after held now
 exchange_broken leaves ends may size F head r before mid after held now reply wrote whole spells stays read answered same written breaks =
     let P : List ℕ → Type 0 = λ xs. IsPartWritten held now xs in record {
@@ -206,7 +206,7 @@ exchange_broken leaves ends may size F head r before mid after held now reply wr
     }
 
 -- a request whose bytes are not all there
-pub exchange_cut : (ends : Flat → Type 0) (reason : Short) (last : End) (may : StoreFault → Type 0) (size : ℕ) (F : Flat) (head : List ℕ) (r : Request)
+pub exchange_cut : (ends : StoreState → Type 0) (reason : Short) (last : End) (may : StoreFault → Type 0) (size : ℕ) (F : StoreState) (head : List ℕ) (r : Request)
     (before mid after held : Option (List ℕ)) → length head ≡ 28 → SpellsRequest head r → Consumes before mid head
     → IsShort (end_by reason) mid after (carried_len r) → last ≡ end_by reason → ends F → IsStop ends last may size F before after held held
 exchange_cut ends reason last may size F head r before mid after held whole spells read short last_is represented =

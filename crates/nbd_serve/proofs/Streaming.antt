@@ -63,9 +63,9 @@ skipped_more before mid after n m bytes first second size = record {
 }
 
 -- bytes were read, and then fewer than were wanted
-pub short_after : (last : End) (before mid after : Option (List ℕ)) (bytes : List ℕ) (m wanted : ℕ) → Consumes before mid bytes
-    → IsShort last mid after m → length bytes + m ≤ wanted → IsShort last before after wanted
-short_after last before mid after bytes m wanted first short fits = record {
+pub short_after : (last : End) (before mid after : Option (List ℕ)) (bytes : List ℕ) (m expected : ℕ) → Consumes before mid bytes
+    → IsShort last mid after m → length bytes + m ≤ expected → IsShort last before after expected
+short_after last before mid after bytes m expected first short fits = record {
   part = bytes ++ short.part;
   read = Consumes-trans before mid after bytes short.part first short.read;
   few = let few : length short.part < m = short.few in omega (arith, length-append bytes short.part);

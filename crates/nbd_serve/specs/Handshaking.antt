@@ -16,7 +16,7 @@ use Rattle.nbd_serve.specs.declared.end.End.{End}
 use Rattle.nbd_serve.specs.declared.end.End.TheVariants as end
 
 -- the greeting was written, and the client's flags were read
-pub record IsOpened (no_zeroes : Bool) (before after held now : Option (List ℕ)) : Type 0 where
+pub record IsGreeted (no_zeroes : Bool) (before after held now : Option (List ℕ)) : Type 0 where
   pub flags : List ℕ
   pub whole : length flags ≡ 4
   pub known : no_zeroes_in flags ≡ Some no_zeroes
@@ -152,7 +152,7 @@ pub record IsHandshake (result : Result (Unit {0}) End) (e : Export) (before aft
   pub no_zeroes : Bool
   pub left : Option (List ℕ)
   pub written : Option (List ℕ)
-  pub opened : IsOpened no_zeroes before left held written
+  pub opened : IsGreeted no_zeroes before left held written
   pub negotiates : Negotiates result e no_zeroes left after written now
 
 -- a handshake that ends with the transmission phase, or with the session

@@ -4,12 +4,12 @@ use Rattle.std.specs.List.{flat_map}
 use Rattle.std.specs.Io.KnownBytes.{Appends, Consumes}
 use Rattle.byteorder.specs.Endian.{big_number}
 use Rattle.byte_store.specs.declared.fault.StoreFault.{StoreFault}
-use Rattle.byte_store.specs.Flat.{Flat}
+use Rattle.byte_store.specs.Flat.{StoreState}
 use Rattle.nbd_wire.specs.declared.request.Command.TheVariants as command
 use Rattle.nbd_wire.specs.declared.request.Request.{Request}
 use Rattle.nbd_wire.specs.Requests.{SpellsRequest, carried_len, request_magic}
 use Rattle.nbd_serve.specs.Streams.{IsPartWritten, LeavesNone}
-use Rattle.nbd_serve.specs.Exchanges.{Exchange, IsExchange, Runs, asked_by, replied_by}
+use Rattle.nbd_serve.specs.Exchanges.{Exchange, IsExchange, RunsSession, asked_by, replied_by}
 use Rattle.nbd_serve.specs.Stopping.{Outlasting, OutlastingSince}
 use Rattle.nbd_serve.specs.Enduring.{Endures}
 use Rattle.nbd_serve.specs.declared.end.End.{End}
@@ -49,19 +49,19 @@ pub record IsCutOff (last : End) (before after : Option (List ℕ)) : Type 0 whe
   pub ended : LeavesNone last after
 
 -- a request was carried out, and a proper prefix of the reply was written
-pub record IsAnsweredInPart (may : StoreFault → Type 0) (size : ℕ) (F : Flat) (before after held now : Option (List ℕ)) (G : Flat) : Type 0 where
+pub record IsAnsweredInPart (may : StoreFault → Type 0) (size : ℕ) (F : StoreState) (before after held now : Option (List ℕ)) (G : StoreState) : Type 0 where
   pub exchange : Exchange
   pub is : IsExchange may size F exchange G
   pub read : Consumes before after (asked_by exchange)
   pub part : IsPartWritten held now exchange.reply
 
 -- nothing was written, and the state stays
-pub record IsSilent (F : Flat) (held now : Option (List ℕ)) (G : Flat) : Type 0 where
+pub record IsSilent (F : StoreState) (held now : Option (List ℕ)) (G : StoreState) : Type 0 where
   pub held_is : now ≡ held
   pub same : G ≡ F
 
 -- what a session stops at while it reads or answers a request, by how it ends
-abbrev pub Breaks : End → (StoreFault → Type 0) → ℕ → Flat → Option (List ℕ) → Option (List ℕ) → Option (List ℕ) → Option (List ℕ) → Flat → Type 0
+abbrev pub Breaks : End → (StoreFault → Type 0) → ℕ → StoreState → Option (List ℕ) → Option (List ℕ) → Option (List ℕ) → Option (List ℕ) → StoreState → Type 0
 Breaks end.Disconnected may size F before after held now G = IsDisconnect before after × IsSilent F held now G
 Breaks end.Garbage may size F before after held now G = IsGarbage before after × IsSilent F held now G
 Breaks end.Cut may size F before after held now G = IsCutOff end.Cut before after × IsSilent F held now G
@@ -76,22 +76,22 @@ abbrev pub most_requests : ℕ
 most_requests = 2 ^ 64 - 1
 
 -- what a session stops at after n exchanges, by how it ends: at the limit, without memory for its buffers, or at a request
-abbrev pub Stops : End → ℕ → (StoreFault → Type 0) → ℕ → Flat → Option (List ℕ) → Option (List ℕ) → Option (List ℕ) → Option (List ℕ) → Flat → Type 0
+abbrev pub Stops : End → ℕ → (StoreFault → Type 0) → ℕ → StoreState → Option (List ℕ) → Option (List ℕ) → Option (List ℕ) → Option (List ℕ) → StoreState → Type 0
 Stops end.Limit n may size F before after held now G = (n ≡ most_requests) × (after ≡ before) × IsSilent F held now G
 Stops end.Memory n may size F before after held now G = (n ≡ 0) × (after ≡ before) × IsSilent F held now G
 Stops last n may size F before after held now G = Breaks last may size F before after held now G
 
 -- from state F on: whole exchanges, and then what the session stops at. The store represents the state at the end
-pub record Serves {S : Type 0} (represents : S → Flat → Type 0) (outlasts : Outlasting S) (moment : S → ℕ) (outlasts_since : OutlastingSince S)
-    (may : StoreFault → Type 0) (size : ℕ) (F : Flat) (old new : S) (last : End) (before after held now : Option (List ℕ)) : Type 0 where
+pub record Serves {S : Type 0} (represents : S → StoreState → Type 0) (outlasts : Outlasting S) (moment : S → ℕ) (outlasts_since : OutlastingSince S)
+    (may : StoreFault → Type 0) (size : ℕ) (F : StoreState) (old new : S) (last : End) (before after held now : Option (List ℕ)) : Type 0 where
   pub exchanges : List Exchange
-  pub state : Flat
-  pub runs : Runs may size F exchanges state
+  pub state : StoreState
+  pub runs : RunsSession may size F exchanges state
   pub left : Option (List ℕ)
   pub read : Consumes before left (flat_map asked_by exchanges)
   pub written : Option (List ℕ)
   pub wrote : Appends held written (flat_map replied_by exchanges)
-  pub final : Flat
+  pub final : StoreState
   pub represented : represents new final
   pub stops : Stops last (length exchanges) may size state left after written now final
   pub endures : Endures outlasts moment outlasts_since may size F exchanges state runs final.bytes old new

@@ -1,6 +1,6 @@
 -- What a kill or a loss of power leaves of a store that was called for a request.
 use Rattle.std.specs.Prelude.{◌≡◌, ℕ, ◌⊎◌, List, Bool, true, false, IsTrue, None}
-use Rattle.byte_store.specs.Flat.{Flat}
+use Rattle.byte_store.specs.Flat.{StoreState}
 use Rattle.byte_store.specs.Lasting.{Acknowledges, Flushes, Lasts}
 use Rattle.nbd_wire.specs.declared.request.Command.{Command}
 use Rattle.nbd_wire.specs.declared.request.Command.TheVariants as command
@@ -22,8 +22,8 @@ Survives outlasts moment outlasts_since before now old new =
     ((new ≡ old) × (now ≡ before)) ⊎ Lasts outlasts moment outlasts_since before now old new
 
 -- A request in state F left the store in state G. If it changed bytes, a kill leaves those of G; if it made all durable, any stop does.
-pub record Leaves {S : Type 0} (represents : S → Flat → Type 0) (outlasts : Outlasting S) (moment : S → ℕ) (outlasts_since : OutlastingSince S)
-    (changed durable : Type 0) (F : Flat) (old new : S) (G : Flat) : Type 0 where
+pub record LeavesStore {S : Type 0} (represents : S → StoreState → Type 0) (outlasts : Outlasting S) (moment : S → ℕ) (outlasts_since : OutlastingSince S)
+    (changed durable : Type 0) (F : StoreState) (old new : S) (G : StoreState) : Type 0 where
   pub represented : represents new G
   pub survives : Survives outlasts moment outlasts_since F.bytes G.bytes old new
   pub acknowledged : changed → Acknowledges outlasts F.bytes G.bytes old new
@@ -52,6 +52,6 @@ abbrev pub SaysDurable : Request → List ℕ → Type 0
 SaysDurable r reply = IsTrue (secures r.command (is_forced r)) × (reply ≡ reply_bytes None r.cookie)
 
 -- what a request left, by the reply to it
-abbrev pub LeavesBy : {S : Type 0} → (S → Flat → Type 0) → Outlasting S → (S → ℕ) → OutlastingSince S → Flat → S → S → Request → List ℕ → Flat → Type 0
+abbrev pub LeavesBy : {S : Type 0} → (S → StoreState → Type 0) → Outlasting S → (S → ℕ) → OutlastingSince S → StoreState → S → S → Request → List ℕ → StoreState → Type 0
 LeavesBy represents outlasts moment outlasts_since F old new r reply G =
-    Leaves represents outlasts moment outlasts_since (SaysChanged r reply) (SaysDurable r reply) F old new G
+    LeavesStore represents outlasts moment outlasts_since (SaysChanged r reply) (SaysDurable r reply) F old new G

@@ -17,10 +17,10 @@ LeavesNone end.Cut after = IsAtEnd after
 LeavesNone _ after = Unit {0}
 
 -- fewer bytes were read than were wanted
-pub record IsShort (last : End) (before after : Option (List ℕ)) (wanted : ℕ) : Type 0 where
+pub record IsShort (last : End) (before after : Option (List ℕ)) (expected : ℕ) : Type 0 where
   pub part : List ℕ
   pub read : Consumes before after part
-  pub few : length part < wanted
+  pub few : length part < expected
   pub ended : LeavesNone last after
 
 -- `count` bytes were read

@@ -2,7 +2,7 @@
 ghost use Rattle.std.specs.Prelude.{◌≡◌, ◌++◌, ◌≤◌, length, IfOk, IfErr, Ok, Err, Some, None};
 ghost use Rattle.nbd_wire.specs.Options.{greeting};
 ghost use Rattle.nbd_serve.specs.Halts.{end_of, ended};
-ghost use Rattle.nbd_serve.specs.Handshaking.{Handshakes, IsOpened, IsTurnTaken, Negotiates, OptionSteps, StopsOpening, StopsTaking};
+ghost use Rattle.nbd_serve.specs.Handshaking.{Handshakes, IsGreeted, IsTurnTaken, Negotiates, OptionSteps, StopsOpening, StopsTaking};
 
 use crate::calls::{fill, skip, write_out};
 use crate::halt::Halt;
@@ -22,7 +22,7 @@ const MOST_OPTIONS: u32 = 1000;
 
 // Greets the client and reads its flags. Returns whether it takes no zeroes after an export's size.
 fn open<R: Read, W: Write>(reader: &mut R, writer: &mut W, out: &mut Vec<u8>) -> Result<bool, Halt>
-    ensures ok { IfOk result (λ no_zeroes. IsOpened no_zeroes (R.remaining reader.old) (R.remaining reader.new)
+    ensures ok { IfOk result (λ no_zeroes. IsGreeted no_zeroes (R.remaining reader.old) (R.remaining reader.new)
         (W.contents writer.old) (W.contents writer.new)) }
     ensures err { IfErr result (λ last. StopsOpening (end_of last) (R.remaining reader.old) (R.remaining reader.new)
         (W.contents writer.old) (W.contents writer.new)) }

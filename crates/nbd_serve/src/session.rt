@@ -1,5 +1,5 @@
 // A whole session.
-ghost use Rattle.byte_store.specs.Flat.{Flat};
+ghost use Rattle.byte_store.specs.Flat.{StoreState};
 ghost use Rattle.nbd_serve.specs.Sessions.{Session};
 
 use crate::end::End;
@@ -18,7 +18,7 @@ pub fn serve<R: Read, W: Write, S: ByteStore>(
     writer: &mut W,
     store: &mut S,
 ) -> End
-    ensures { (F : Flat) → S.represents store.old F →
+    ensures { (F : StoreState) → S.represents store.old F →
         Session S.represents S.outlasts S.moment S.outlasts_since S.may_refuse (S.sizes store.old) F store.old store.new result
         (R.remaining reader.old) (R.remaining reader.new) (W.contents writer.old) (W.contents writer.new) }
 {

@@ -13,7 +13,7 @@ use Rattle.extent_groups.specs.Units.{InStripe, places_of, site_of}
 use Rattle.extent_groups.proofs.DriveCalls.{keeps_place, keeps_sizes}
 use Rattle.extent_groups.proofs.Fronts.{have_fronts, keeps_fronts}
 use Rattle.extent_groups.proofs.Sites.{row_places}
-use Rattle.parity_store.specs.Ways.{row_at, IsLaid, IsReadable}
+use Rattle.parity_store.specs.Ways.{row_at, IsLaid, IsReadableRow}
 
 -- the stripes of a group of at most 8 members can be read and written
 pub laid : {D : Type 0} (units : D → List (List ℕ)) (groups : Groups) (drives : List D) (group offset bytes : ℕ) → AreDrives units groups drives → bytes ≡ unit_bytes groups
@@ -37,7 +37,7 @@ still_laid {units = units} {b = b} keeps same h = record {
 
 -- the first `count` bytes of the stripes of a group of at most 8 members can be read
 pub readable : {D : Type 0} (units : D → List (List ℕ)) (groups : Groups) (drives : List D) (group offset count : ℕ) → AreDrives units groups drives → count ≤ unit_bytes groups
-    → (offset < extent_units groups.segments) × (length (members_of groups group) ≤ 8) → IsReadable units groups group offset count drives
+    → (offset < extent_units groups.segments) × (length (members_of groups group) ≤ 8) → IsReadableRow units groups group offset count drives
 readable units groups drives group offset count are short inside = record {
   few = inside.1;
   low = inside.0;
@@ -47,12 +47,12 @@ readable units groups drives group offset count are short inside = record {
 
 -- a stripe that can be read and written can be read as far as its units go
 pub laid_readable : {D : Type 0} {units : D → List (List ℕ)} {drives : List D} {groups : Groups} {group offset m n : ℕ} → m ≡ n → IsLaid units groups group offset n drives
-    → IsReadable units groups group offset m drives
+    → IsReadableRow units groups group offset m drives
 laid_readable {units = units} {drives = drives} {m = m} {n = n} same h = record { few = h.few; low = h.low; row = h.row; fronts = have_fronts units m n drives (omega (arith, same)) h.size }
 
 -- and after reads
 pub still_readable : {D : Type 0} {units : D → List (List ℕ)} {lost : D → Bool} {failures : D → Failures} {a b : List D} {groups : Groups} {group offset m n : ℕ}
-    → KeepsDrives units lost failures NoPlace a b → m ≡ n → IsReadable units groups group offset n a → IsReadable units groups group offset m b
+    → KeepsDrives units lost failures NoPlace a b → m ≡ n → IsReadableRow units groups group offset n a → IsReadableRow units groups group offset m b
 still_readable {units = units} {b = b} keeps same h = record {
   few = h.few;
   low = h.low;

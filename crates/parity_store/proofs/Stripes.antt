@@ -34,23 +34,23 @@ row_elsewhere : (c new : Cells) (row : List Place) (p i : ℕ) (home parity : Pl
     → ((x : Place) → x.drive ≢ home.drive → x.drive ≢ parity.drive → held new x ≡ held c x) → (k : ℕ) → k ≢ i → k ≢ p → row_of c row k ≡ row_of new row k
 row_elsewhere c new row p i home parity h same k ni np = member_elsewhere c new row p i k home parity h ni np same (slice_get row k) refl
 
-member_beside : (c new : Cells) (row : List Place) (p i k : ℕ) (home parity : Place) → IsHome row p i home parity → k ≢ i → k ≢ p
+member_nearby : (c new : Cells) (row : List Place) (p i k : ℕ) (home parity : Place) → IsHome row p i home parity → k ≢ i → k ≢ p
     → ((x : Place) → x ≢ home → x ≢ parity → FadesAt c new x) → (o : Option Place) → slice_get row k ≡ o → Fades (held_in c o) (held_in new o)
-member_beside c new row p i k home parity h ni np fades None at = inl refl
-member_beside c new row p i k home parity h ni np fades (Some x) at =
+member_nearby c new row p i k home parity h ni np fades None at = inl refl
+member_nearby c new row p i k home parity h ni np fades (Some x) at =
     let d = other_drive row p i k home parity x h ni np at in
     fades x (λ e. d.0 (ap (λ (y : Place). y.drive) e)) (λ e. d.1 (ap (λ (y : Place). y.drive) e))
 
-row_beside : (c new : Cells) (row : List Place) (p i : ℕ) (home parity : Place) → IsHome row p i home parity
+row_nearby : (c new : Cells) (row : List Place) (p i : ℕ) (home parity : Place) → IsHome row p i home parity
     → ((x : Place) → x ≢ home → x ≢ parity → FadesAt c new x) → (k : ℕ) → k ≢ i → k ≢ p → Fades (row_of c row k) (row_of new row k)
-row_beside c new row p i home parity h fades k ni np = member_beside c new row p i k home parity h ni np fades (slice_get row k) refl
+row_nearby c new row p i home parity h fades k ni np = member_nearby c new row p i k home parity h ni np fades (slice_get row k) refl
 
 -- both written, or the unit alone
 pub differs_row : (c new : Cells) (row : List Place) (p i : ℕ) (home parity : Place) (u : List ℕ) → IsHome row p i home parity → Differs c new home parity u
     → WritesRow (length u) (length row) (row_of c row) (row_of new row) i p u
 differs_row c new row p i home parity u h d = elim d.there [
   | inl gone ↦ data_alone (length u) (length row) i p (row_of c row) (row_of new row) u h.whole.0 h.whole.1 (λ e. h.whole.2 (sym e))
-      (ap (held_in new) h.home_is ∙ d.here) (ap (held_in new) h.parity_is ∙ gone) (row_beside c new row p i home parity h d.beside)
+      (ap (held_in new) h.home_is ∙ d.here) (ap (held_in new) h.parity_is ∙ gone) (row_nearby c new row p i home parity h d.nearby)
   | inr is ↦ by_difference (length u) (length row) i p (row_of c row) (row_of new row) is.0 is.1 u h.whole.0 h.whole.1 (λ e. h.whole.2 (sym e)) refl
       (ap (held_in c) h.home_is ∙ is.2) (ap (held_in c) h.parity_is ∙ is.3) (ap (held_in new) h.home_is ∙ d.here) (ap (held_in new) h.parity_is ∙ is.4)
       (row_elsewhere c new row p i home parity h d.elsewhere)
@@ -64,7 +64,7 @@ pub differs_leaves : (c new : Cells) (row : List Place) (p i : ℕ) (home parity
     → IsSoundAt (length u) c (InStripe row p i) → Differs c new home parity u → LeavesSites (length u) c new (InStripe row p i)
 differs_leaves c new row p i home parity u h sized sound d =
     stripe_leaves (length u) c new row p i u sized (differs_row c new row p i home parity u h d) sound
-    (λ x never. let both = not_own row p i home parity x h never in d.beside x both.0 both.1)
+    (λ x never. let both = not_own row p i home parity x h never in d.nearby x both.0 both.1)
 
 -- a unit that is lost stays lost
 pub stays_gone : (a b : Option (List ℕ)) → Fades a b → a ≡ None → b ≡ None
@@ -96,7 +96,7 @@ pub parity_leaves : (c two new : Cells) (row : List Place) (p i : ℕ) (home par
     → LeavesSites (length u) c new (InStripe row p i)
 parity_leaves c two new row p i home parity u h sized sound fades gone w =
     stripe_leaves (length u) c new row p i u sized (parity_row c two new row p i home parity u h sized fades gone w) sound
-    (λ x never. fades_trans (held c x) (held two x) (held new x) (fades x) (w.beside x (λ e. never (inr e))))
+    (λ x never. fades_trans (held c x) (held two x) (held new x) (fades x) (w.nearby x (λ e. never (inr e))))
 
 -- a unit whose drive is lost: rebuilt from all others, or not there
 pub rebuilt : (n : ℕ) (c one two : Cells) (row : List Place) (p i : ℕ) (home : Place) (u v : List ℕ) (ok : Bool) → i < length row → slice_get row i ≡ Some home → DidRead c one home u false

@@ -4,11 +4,11 @@ use Rattle.std.specs.Prelude.{replicate, slice_get}
 use Rattle.std.proofs.lemmas.Option.{same_Some, none-some}
 use Rattle.extent_groups.specs.declared.place.Place.{Place}
 use Rattle.extent_groups.specs.Cells.{Cells, held}
-use Rattle.extent_groups.specs.Units.{plus, add, put, total, others, held_in, row_of}
+use Rattle.extent_groups.specs.Units.{plus, add, put, xor_total, others, held_in, row_of}
 use Rattle.extent_groups.specs.Calls.{DidRead}
 use Rattle.extent_groups.proofs.Places.{same_or_not}
 use Rattle.extent_groups.proofs.ExclusiveOr.{plus-comm, plus-zeros, add-comm, add-assoc, add-zeros}
-use Rattle.extent_groups.proofs.Totals.{Row, put_same, put_other, total_same, length-total}
+use Rattle.extent_groups.proofs.Totals.{Row, put_same, put_other, total_same, length-xor_total}
 use Rattle.extent_groups.proofs.Fading.{fades_trans}
 use Rattle.parity_store.specs.Ways.{bare, AddedOne, Missed}
 
@@ -71,15 +71,15 @@ missed_one c new row i p k x u low ni np at read = record { fades = read.fades; 
 
 -- the sum so far
 pub sum_more : (c now : Cells) (row : List Place) (n i p k j : ℕ) (before so_far after : List ℕ) → j ≡ k + 1 → ((x : Place) → held now x ≡ held c x)
-    → add (Some before) (total n k (bare n (row_of c row) i p)) ≡ Some so_far → add (Some so_far) (bare n (row_of now row) i p k) ≡ Some after
-    → add (Some before) (total n j (bare n (row_of c row) i p)) ≡ Some after
+    → add (Some before) (xor_total n k (bare n (row_of c row) i p)) ≡ Some so_far → add (Some so_far) (bare n (row_of now row) i p k) ≡ Some after
+    → add (Some before) (xor_total n j (bare n (row_of c row) i p)) ≡ Some after
 sum_more c now row n i p k zero before so_far after e same sum one = absurd (omega arith)
 sum_more c now row n i p k (suc j) before so_far after e same sum one =
     let is : j ≡ k = omega arith in
     let r = bare n (row_of c row) i p in
-    ap (λ m. add (Some before) (add (r m) (total n m r))) is
-    ∙ ap (add (Some before)) (add-comm (r k) (total n k r))
-    ∙ sym (add-assoc (Some before) (total n k r) (r k))
+    ap (λ m. add (Some before) (add (r m) (xor_total n m r))) is
+    ∙ ap (add (Some before)) (add-comm (r k) (xor_total n k r))
+    ∙ sym (add-assoc (Some before) (xor_total n k r) (r k))
     ∙ ap (λ a. add a (r k)) sum
     ∙ ap (add (Some so_far)) (sym (bare_same n (row_of now row) (row_of c row) i p k (row_same c now row same k)))
     ∙ one
@@ -95,23 +95,23 @@ sum_of : (u s : List ℕ) (rest : Option (List ℕ)) → add (Some u) rest ≡ S
 sum_of u s None e = absurd (none-some s e)
 sum_of u s (Some x) e = (x, refl, sym (same_Some _ _ e))
 
-pub sum_is : (n m : ℕ) (r : Row) (i p : ℕ) (u s : List ℕ) → add (Some u) (total n m (bare n r i p)) ≡ Some s → (x : List ℕ) × (total n m (bare n r i p) ≡ Some x) × (s ≡ plus u x)
-sum_is n m r i p u s e = sum_of u s (total n m (bare n r i p)) e
+pub sum_is : (n m : ℕ) (r : Row) (i p : ℕ) (u s : List ℕ) → add (Some u) (xor_total n m (bare n r i p)) ≡ Some s → (x : List ℕ) × (xor_total n m (bare n r i p) ≡ Some x) × (s ≡ plus u x)
+sum_is n m r i p u s e = sum_of u s (xor_total n m (bare n r i p)) e
 
 -- one member skipped
-pub others_bare : (n m : ℕ) (r : Row) (i : ℕ) → total n m (bare n r i i) ≡ others n m r i
+pub others_bare : (n m : ℕ) (r : Row) (i : ℕ) → xor_total n m (bare n r i i) ≡ others n m r i
 others_bare n m r i = total_same n m (bare n r i i) (put r i (Some (replicate n 0))) (λ k low. elim (same_or_not k i) [
   | inl e ↦ ap (bare n r i i) e ∙ bare_first n r i i ∙ sym (put_same r i _) ∙ ap (put r i (Some (replicate n 0))) (sym e)
   | inr ne ↦ bare_other n r i i k ne ne ∙ sym (put_other r i k _ ne)
 ])
 
 -- the sum of zeros and all others is that of all others
-pub sum_of_others : (n m : ℕ) (r : Row) (i : ℕ) (s : List ℕ) → add (Some (replicate n 0)) (total n m (bare n r i i)) ≡ Some s → others n m r i ≡ Some s
+pub sum_of_others : (n m : ℕ) (r : Row) (i : ℕ) (s : List ℕ) → add (Some (replicate n 0)) (xor_total n m (bare n r i i)) ≡ Some s → others n m r i ≡ Some s
 sum_of_others n m r i s e =
-    sym (others_bare n m r i) ∙ sym (add-zeros n (total n m (bare n r i i)) (length-total n m (bare n r i i))) ∙ e
+    sym (others_bare n m r i) ∙ sym (add-zeros n (xor_total n m (bare n r i i)) (length-xor_total n m (bare n r i i))) ∙ e
 
 -- nothing is added yet
-pub sum_begun : (s : List ℕ) (r : Row) (i p : ℕ) → add (Some s) (total (length s) 0 (bare (length s) r i p)) ≡ Some s
+pub sum_begun : (s : List ℕ) (r : Row) (i p : ℕ) → add (Some s) (xor_total (length s) 0 (bare (length s) r i p)) ≡ Some s
 sum_begun s r i p = ap (λ t. Some t) (plus-comm s (replicate (length s) 0) ∙ plus-zeros (length s) s (let fits : length s ≤ length s = omega arith in fits))
 
 -- bytes that are all zero

@@ -3,10 +3,10 @@ use Rattle.std.specs.Bool.{MatchBool}
 use Rattle.std.specs.Prelude.{◌≡◌, ◌≢◌, ℕ, Bool, true, false, Option, Some, None, List, [], ◌∷◌, length, slice_get}
 use Rattle.extent_groups.specs.declared.place.Place.{Place}
 use Rattle.extent_groups.specs.Cells.{Cells, held}
-use Rattle.extent_groups.specs.Units.{InStripe, plus, total, row_of, unit_at, IsSoundAt}
+use Rattle.extent_groups.specs.Units.{InStripe, plus, xor_total, row_of, unit_at, IsSoundAt}
 use Rattle.extent_groups.specs.Calls.{FadesAt, DidWrite, if_ok}
 use Rattle.extent_groups.specs.Stores.{LeavesSites}
-use Rattle.extent_groups.specs.Planned.{Wanted, after}
+use Rattle.extent_groups.specs.Planned.{Intended, after}
 use Rattle.parity_store.specs.Ways.{bare}
 use Rattle.parity_store.specs.declared.target.Target.{Target}
 use Rattle.parity_store.specs.Targets.{row_to, site_to}
@@ -24,12 +24,12 @@ IsRead c home parity unit sum Missed = held c home ≡ None
 -- a complete draft: as read above, and where the unit's drive is lost the sum is the parity from all others, or the unit is lost
 abbrev pub IsDraft : ℕ → Cells → List Place → ℕ → ℕ → Place → Place → List ℕ → List ℕ → Way → Type 0
 IsDraft n c row p i home parity unit sum Parity =
-    (rest : List ℕ) × (held c home ≡ None) × (held c parity ≡ None → ⊥) × (total n (length row) (bare n (row_of c row) i p) ≡ Some rest) × (sum ≡ plus unit rest)
+    (rest : List ℕ) × (held c home ≡ None) × (held c parity ≡ None → ⊥) × (xor_total n (length row) (bare n (row_of c row) i p) ≡ Some rest) × (sum ≡ plus unit rest)
 IsDraft n c row p i home parity unit sum Missed = unit_at n c (InStripe row p i) ≡ None
 IsDraft n c row p i home parity unit sum way = IsRead c home parity unit sum way
 
 -- the writes of a way, in order: the unit where it lies, then the sum as the parity
-abbrev pub writes_by : Place → Place → List ℕ → List ℕ → Way → List Wanted
+abbrev pub writes_by : Place → Place → List ℕ → List ℕ → Way → List Intended
 writes_by home parity unit sum Both = record { place = home; unit = unit } ∷ record { place = parity; unit = sum } ∷ []
 writes_by home parity unit sum Alone = record { place = home; unit = unit } ∷ []
 writes_by home parity unit sum Parity = record { place = parity; unit = sum } ∷ []
@@ -42,12 +42,12 @@ parity_by sum Parity = Some sum
 parity_by sum _ = None
 
 -- what the drives hold after a way's writes: each is made, the second Ok or refused; or the first was refused
-abbrev pub IsCarried : Cells → Cells → Place → Place → List ℕ → List ℕ → Way → Bool → Type 0
-IsCarried c new home parity unit sum Both true = (mid : Cells) × (kept : Bool) × DidWrite c mid home unit true × DidWrite mid new parity sum kept
-IsCarried c new home parity unit sum Both false = DidWrite c new home unit false
-IsCarried c new home parity unit sum Alone ok = DidWrite c new home unit ok
-IsCarried c new home parity unit sum Parity ok = DidWrite c new parity sum ok
-IsCarried c new home parity unit sum Missed ok = (ok ≡ false) × (new ≡ c)
+abbrev pub IsWrittenByWay : Cells → Cells → Place → Place → List ℕ → List ℕ → Way → Bool → Type 0
+IsWrittenByWay c new home parity unit sum Both true = (mid : Cells) × (kept : Bool) × DidWrite c mid home unit true × DidWrite mid new parity sum kept
+IsWrittenByWay c new home parity unit sum Both false = DidWrite c new home unit false
+IsWrittenByWay c new home parity unit sum Alone ok = DidWrite c new home unit ok
+IsWrittenByWay c new home parity unit sum Parity ok = DidWrite c new parity sum ok
+IsWrittenByWay c new home parity unit sum Missed ok = (ok ≡ false) × (new ≡ c)
 
 -- a member of a row was written by a draft: drafted from what the drives held after reads, and all its writes were made, but
 -- for losses
@@ -77,7 +77,7 @@ pub record Tried (groups : Groups) (c new : Cells) (target : Target) (unit : Lis
   pub sized : length sum ≡ length unit
   pub read : (x : Place) → FadesAt c mid x
   pub draft : IsDraftOf groups mid target unit sum way
-  pub carried : IsCarried mid new target.home target.parity unit sum way ok
+  pub carried : IsWrittenByWay mid new target.home target.parity unit sum way ok
 
 -- how a slot's write ends
 pub record Ends (groups : Groups) (c new : Cells) (target : Target) (unit : List ℕ) (ok : Bool) : Type 0 where

@@ -6,7 +6,7 @@ use Rattle.extent_groups.specs.declared.place.Place.{Place}
 use Rattle.extent_groups.specs.Groups.{Groups, members_of}
 use Rattle.extent_groups.specs.Geometry.{parity_of}
 use Rattle.extent_groups.specs.Cells.{Cells, held}
-use Rattle.extent_groups.specs.Units.{InStripe, plus, add, put, total, row_of, unit_at, places_of}
+use Rattle.extent_groups.specs.Units.{InStripe, plus, add, put, xor_total, row_of, unit_at, places_of}
 use Rattle.extent_groups.specs.Calls.{AreSized, HaveFronts, FadesAt, IsPlace}
 use Rattle.extent_groups.specs.Stores.{unit_bytes}
 
@@ -34,7 +34,7 @@ pub record IsLaid {D : Type 0} (units : D → List (List ℕ)) (groups : Groups)
 
 -- the first `count` bytes of the units at an offset of a group can be read: it has at most 8 members, their extents have that
 -- offset, and its places are those of drives whose units have at least `count` bytes
-pub record IsReadable {D : Type 0} (units : D → List (List ℕ)) (groups : Groups) (group offset count : ℕ) (drives : List D) : Type 0 where
+pub record IsReadableRow {D : Type 0} (units : D → List (List ℕ)) (groups : Groups) (group offset count : ℕ) (drives : List D) : Type 0 where
   pub few : length (members_of groups group) ≤ 8
   pub low : offset < extent_units groups.segments
   pub row : IsRow units drives (row_at groups group offset)
@@ -47,7 +47,7 @@ bare bytes row i p = put (put row i (Some (replicate bytes 0))) p (Some (replica
 -- the units of all members of the row but two were added to the sum, and every place holds what it held
 pub record Added (bytes : ℕ) (c new : Cells) (row : List Place) (i p : ℕ) (before after : List ℕ) : Type 0 where
   pub same : (x : Place) → held new x ≡ held c x
-  pub sum : add (Some before) (total bytes (length row) (bare bytes (row_of c row) i p)) ≡ Some after
+  pub sum : add (Some before) (xor_total bytes (length row) (bare bytes (row_of c row) i p)) ≡ Some after
 
 -- member k's unit was added to the sum, unless k is one of the two, and every place holds what it held
 pub record AddedOne (bytes : ℕ) (c new : Cells) (row : List Place) (i p k : ℕ) (before after : List ℕ) : Type 0 where
@@ -60,20 +60,20 @@ pub record Missed (c new : Cells) (row : List Place) (i p : ℕ) : Type 0 where
   pub missing : (k : ℕ) × (k < length row) × (k ≢ i) × (k ≢ p) × (row_of new row k ≡ None)
 
 -- the parity holds the exclusive or of its old unit, the old and the new data
-abbrev pub IsDifference : Cells → Cells → Place → Place → List ℕ → Type 0
-IsDifference c new home parity unit =
+abbrev pub IsParityDelta : Cells → Cells → Place → Place → List ℕ → Type 0
+IsParityDelta c new home parity unit =
     (d : List ℕ) × (q : List ℕ) × (held c home ≡ Some d) × (held c parity ≡ Some q) × (held new parity ≡ Some (plus (plus q d) unit))
 
 -- the unit is written, and the parity by difference, or the parity's drive is lost
 pub record Differs (c new : Cells) (home parity : Place) (unit : List ℕ) : Type 0 where
   pub here : held new home ≡ Some unit
-  pub there : (held new parity ≡ None) ⊎ IsDifference c new home parity unit
-  pub beside : (x : Place) → x ≢ home → x ≢ parity → FadesAt c new x
+  pub there : (held new parity ≡ None) ⊎ IsParityDelta c new home parity unit
+  pub nearby : (x : Place) → x ≢ home → x ≢ parity → FadesAt c new x
   pub elsewhere : (x : Place) → x.drive ≢ home.drive → x.drive ≢ parity.drive → held new x ≡ held c x
 
 -- the parity, member p, holds the exclusive or of the unit and all members but it and member i, which were read; other drives
 -- hold what they held
 pub record ParityWritten (bytes : ℕ) (c new : Cells) (row : List Place) (i p : ℕ) (unit : List ℕ) : Type 0 where
-  pub there : (rest : List ℕ) × (total bytes (length row) (bare bytes (row_of c row) i p) ≡ Some rest) × (row_of new row p ≡ Some (plus unit rest))
-  pub beside : (x : Place) → (slice_get row p ≡ Some x → ⊥) → FadesAt c new x
+  pub there : (rest : List ℕ) × (xor_total bytes (length row) (bare bytes (row_of c row) i p) ≡ Some rest) × (row_of new row p ≡ Some (plus unit rest))
+  pub nearby : (x : Place) → (slice_get row p ≡ Some x → ⊥) → FadesAt c new x
   pub elsewhere : (x y : Place) → slice_get row p ≡ Some y → x.drive ≢ y.drive → held new x ≡ held c x

@@ -5,8 +5,8 @@ ghost use Rattle.extent_groups.specs.Calls.{AreSized, IsPlace, KeepsDrives};
 ghost use Rattle.extent_groups.specs.Units.{Pair};
 ghost use Rattle.extent_groups.specs.Stores.{IsOwn};
 ghost use Rattle.parity_store.specs.declared.way.Way.{Way};
-ghost use Rattle.parity_store.specs.Targets.{IsTarget, site_to};
-ghost use Rattle.parity_store.specs.Drafts.{IsCarried, Tried, Ends};
+ghost use Rattle.parity_store.specs.Targets.{IsAccessible, site_to};
+ghost use Rattle.parity_store.specs.Drafts.{IsWrittenByWay, Tried, Ends};
 
 use crate::target::Target;
 use crate::way::{Way, find_way};
@@ -27,7 +27,7 @@ fn write_way<D: Drive>(
     requires parity { IsPlace D.units drives.old parity }
     requires size { AreSized D.units (length unit.now) drives.old }
     requires sum { length sum.now ≡ length unit.now }
-    ensures carried { IsCarried (cells D.units D.lost drives.old) (cells D.units D.lost drives.new) home parity unit.now sum.now way result }
+    ensures carried { IsWrittenByWay (cells D.units D.lost drives.old) (cells D.units D.lost drives.new) home parity unit.now sum.now way result }
     ensures touched { KeepsDrives D.units D.lost D.failures (IsOwn (Pair home parity)) drives.old drives.new }
 {
     match way {
@@ -55,7 +55,7 @@ fn write_once<D: Drive>(
     part: &mut [u8],
     sum: &mut [u8],
 ) -> (Way, bool)
-    requires target { IsTarget D.units groups.now target.now (length unit.now) drives.old }
+    requires target { IsAccessible D.units groups.now target.now (length unit.now) drives.old }
     requires part { length part.old ≡ length unit.now }
     requires sum { length sum.old ≡ length unit.now }
     ensures tried { Tried groups.now (cells D.units D.lost drives.old) (cells D.units D.lost drives.new) target.now unit.now result.0 result.1 }
@@ -76,7 +76,7 @@ fn write_again<D: Drive>(
     part: &mut [u8],
     sum: &mut [u8],
 ) -> bool
-    requires target { IsTarget D.units groups.now target.now (length unit.now) drives.old }
+    requires target { IsAccessible D.units groups.now target.now (length unit.now) drives.old }
     requires part { length part.old ≡ length unit.now }
     requires sum { length sum.old ≡ length unit.now }
     ensures tried { (way : Way)
@@ -96,7 +96,7 @@ pub(crate) fn write_stripe<D: Drive>(
     part: &mut [u8],
     sum: &mut [u8],
 ) -> bool
-    requires target { IsTarget D.units groups.now target.now (length unit.now) drives.old }
+    requires target { IsAccessible D.units groups.now target.now (length unit.now) drives.old }
     requires part { length part.old ≡ length unit.now }
     requires sum { length sum.old ≡ length unit.now }
     ensures ends { Ends groups.now (cells D.units D.lost drives.old) (cells D.units D.lost drives.new) target.now unit.now result }

@@ -18,7 +18,7 @@ ghost use Rattle.extent_groups.specs.Calls.{if_ok, NoPlace, SameBut, KeepsDrives
 ghost use Rattle.extent_groups.specs.Cursors.{IsParityAt};
 ghost use Rattle.extent_groups.specs.Groups.{group_at, class_in, slots_in};
 ghost use Rattle.extent_groups.specs.Stores.{unit_bytes, unit_of, header_of, IsBuffer, AreHeaders, AreSound, IsSlotOf};
-ghost use Rattle.extent_groups.specs.Stores.{AreDrives, Wrote, NamesGone, IsOwnOf, IsGroupOf, ReadLeaves};
+ghost use Rattle.extent_groups.specs.Stores.{AreDrives, WroteSlot, NamesGone, IsOwnOf, IsGroupOf, ReadLeaves};
 ghost use Rattle.extent_groups.specs.declared.place.Place.{Place};
 ghost use Rattle.extent_groups.specs.Planned.{WroteByPlan};
 
@@ -182,7 +182,7 @@ pub fn write<D: Drive>(
     requires scratch { length scratch.old ≡ 2 * unit_bytes groups.now }
     ensures ok { OnOk result (unit_of groups.now (cells D.units D.lost drives.new) slot ≡ Some unit.now) }
     ensures gone { IfErr result (NamesGone groups.now (cells D.units D.lost drives.new) slot) }
-    ensures wrote { Wrote groups.now (cells D.units D.lost drives.old) (cells D.units D.lost drives.new) slot unit.now }
+    ensures wrote { WroteSlot groups.now (cells D.units D.lost drives.old) (cells D.units D.lost drives.new) slot unit.now }
     ensures planned { OnOk result (WroteByPlan groups.now (cells D.units D.lost drives.old) (cells D.units D.lost drives.new) slot unit.now) }
     ensures unwritten { OnErr result ((x : Place) → FadesAt (cells D.units D.lost drives.old) (cells D.units D.lost drives.new) x) }
     ensures touched { KeepsDrives D.units D.lost D.failures (IsOwnOf groups.now slot) drives.old drives.new }

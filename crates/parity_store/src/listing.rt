@@ -6,7 +6,7 @@ ghost use Rattle.extent_groups.specs.declared.plan.PlanRefusal.TheVariants as re
 ghost use Rattle.extent_groups.specs.Calls.{NoPlace, SameBut, KeepsDrives};
 ghost use Rattle.extent_groups.specs.Cells.{cells};
 ghost use Rattle.extent_groups.specs.Missing.{missing_of, IsGone};
-ghost use Rattle.extent_groups.specs.Planned.{IsPlan, wanted_parity};
+ghost use Rattle.extent_groups.specs.Planned.{IsPlan, expected_parity};
 ghost use Rattle.extent_groups.specs.PlanLists.{listed, parity_listed};
 ghost use Rattle.extent_groups.specs.Units.{site_of};
 ghost use Rattle.extent_groups.specs.Stores.{unit_bytes, unit_of, AreSound, IsSlotOf, AreDrives, KeepsUnits, HasMemberOn};
@@ -97,9 +97,9 @@ pub fn plan<D: Drive>(
     requires slot { IsSlotOf Parity groups.now slot }
     requires drives { AreDrives D.units groups.now drives.old }
     requires unit { length unit.now ≡ unit_bytes groups.now }
-    ensures ok { IfOk result (λ plan. (wanted : Place → List ℕ)
-        × IsPlan groups.now (cells D.units D.lost drives.new) slot unit.now wanted (listed plan.writes.items)
-        × (parity_listed plan.parity ≡ wanted_parity (cells D.units D.lost drives.new) wanted (site_of groups.now slot))) }
+    ensures ok { IfOk result (λ plan. (expected : Place → List ℕ)
+        × IsPlan groups.now (cells D.units D.lost drives.new) slot unit.now expected (listed plan.writes.items)
+        × (parity_listed plan.parity ≡ expected_parity (cells D.units D.lost drives.new) expected (site_of groups.now slot))) }
     ensures there { OnOk result (IsGone groups.now (missing_of D.lost drives.new) slot → ⊥) }
     ensures err { IfErr result (λ e. ((e ≡ refusal.Memory) × (drives.new ≡ drives.old))
         ⊎ ((e ≡ refusal.Gone slot) × (unit_of groups.now (cells D.units D.lost drives.new) slot ≡ None))) }

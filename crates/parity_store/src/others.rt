@@ -5,7 +5,7 @@ ghost use Rattle.extent_groups.specs.Groups.{members_of};
 ghost use Rattle.extent_groups.specs.Cells.{cells, front_units};
 ghost use Rattle.extent_groups.specs.Calls.{HaveRoom, NoPlace, SameBut, KeepsDrives};
 ghost use Rattle.extent_groups.specs.Stores.{HasMemberOn};
-ghost use Rattle.parity_store.specs.Ways.{row_at, IsReadable, Added, AddedOne, Missed};
+ghost use Rattle.parity_store.specs.Ways.{row_at, IsReadableRow, Added, AddedOne, Missed};
 
 use crate::xor_into;
 use extent_groups::{GroupTable, read_front};
@@ -32,7 +32,7 @@ fn add_member<D: Drive>(
     scratch: &mut [u8],
 ) -> bool
     requires number { number < length (members_of groups.now others.group) }
-    requires readable { IsReadable D.units groups.now others.group others.offset (length sum.old) drives.old }
+    requires readable { IsReadableRow D.units groups.now others.group others.offset (length sum.old) drives.old }
     requires part { length part.old ≡ length sum.old }
     requires scratch { HaveRoom D.units (length sum.old) (length scratch.old) drives.old }
     ensures outcome { MatchBool result
@@ -70,7 +70,7 @@ pub(crate) fn add_others<D: Drive>(
     part: &mut [u8],
     scratch: &mut [u8],
 ) -> bool
-    requires readable { IsReadable D.units groups.now others.group others.offset (length sum.old) drives.old }
+    requires readable { IsReadableRow D.units groups.now others.group others.offset (length sum.old) drives.old }
     requires part { length part.old ≡ length sum.old }
     requires scratch { HaveRoom D.units (length sum.old) (length scratch.old) drives.old }
     ensures outcome { MatchBool result

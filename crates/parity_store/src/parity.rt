@@ -27,7 +27,7 @@ pub fn read_parity<D: Drive>(
     requires drives { AreDrives D.units groups.now drives.old }
     requires unit { length unit.old ≡ unit_bytes groups.now }
     requires scratch { length scratch.old ≡ 2 * unit_bytes groups.now }
-    ensures told { parity_unit groups.now (cells D.units D.lost drives.new) group offset ≡ if_ok result unit.new }
+    ensures reported { parity_unit groups.now (cells D.units D.lost drives.new) group offset ≡ if_ok result unit.new }
     ensures units { AreSound groups.now (cells D.units D.lost drives.old)
         → KeepsUnits groups.now (cells D.units D.lost drives.old) (cells D.units D.lost drives.new) }
     ensures sound { AreSound groups.now (cells D.units D.lost drives.old) → AreSound groups.now (cells D.units D.lost drives.new) }

@@ -4,7 +4,7 @@ ghost use Rattle.extent_groups.specs.Cells.{cells, front_units};
 ghost use Rattle.extent_groups.specs.Calls.{if_ok, HaveRoom, NoPlace, SameBut, KeepsDrives};
 ghost use Rattle.extent_groups.specs.Units.{InStripe, unit_at};
 ghost use Rattle.extent_groups.specs.Stores.{HasMemberOn, IsGroupOf};
-ghost use Rattle.parity_store.specs.Ways.{row_at, IsReadable};
+ghost use Rattle.parity_store.specs.Ways.{row_at, IsReadableRow};
 
 use crate::others::{Others, add_others};
 use extent_groups::{GroupTable, Member, Stripe, read_front};
@@ -35,7 +35,7 @@ pub(crate) fn read_stripe<D: Drive>(
 ) -> bool
     requires members { IsGroupOf groups.now group members.now }
     requires member { at.now.member < length (row_at groups.now group at.now.offset) }
-    requires readable { IsReadable D.units groups.now group at.now.offset (length front.old) drives.old }
+    requires readable { IsReadableRow D.units groups.now group at.now.offset (length front.old) drives.old }
     requires part { length part.old ≡ length front.old }
     requires scratch { HaveRoom D.units (length front.old) (length scratch.old) drives.old }
     ensures unit { unit_at (length front.old) (cells (front_units (length front.old) D.units) D.lost drives.new)

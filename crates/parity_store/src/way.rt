@@ -3,7 +3,7 @@ ghost use Rattle.std.specs.Prelude.{◌≡◌, ◌≢◌, ◌⊎◌, None, lengt
 ghost use Rattle.extent_groups.specs.Cells.{cells, held};
 ghost use Rattle.extent_groups.specs.Calls.{AreSized, IsPlace, NoPlace, SameBut, KeepsDrives};
 ghost use Rattle.extent_groups.specs.Stores.{HasMemberOn};
-ghost use Rattle.parity_store.specs.Targets.{IsTarget};
+ghost use Rattle.parity_store.specs.Targets.{IsAccessible};
 ghost use Rattle.parity_store.specs.Drafts.{IsRead, IsDraftOf};
 
 use crate::exclusive_or::xor_both_into;
@@ -41,7 +41,7 @@ fn read_two<D: Drive>(
     requires size { AreSized D.units (length unit.now) drives.old }
     requires part { length part.old ≡ length unit.now }
     requires sum { length sum.old ≡ length unit.now }
-    ensures told { IsRead (cells D.units D.lost drives.new) home parity unit.now sum.new result }
+    ensures reported { IsRead (cells D.units D.lost drives.new) home parity unit.now sum.new result }
     ensures touched { KeepsDrives D.units D.lost D.failures NoPlace drives.old drives.new }
     ensures elsewhere { SameBut (λ d. (d ≡ home.drive) ⊎ (d ≡ parity.drive)) drives.old drives.new }
 {
@@ -66,7 +66,7 @@ fn find_without<D: Drive>(
     part: &mut [u8],
     sum: &mut [u8],
 ) -> Way
-    requires target { IsTarget D.units groups.now target.now (length unit.now) drives.old }
+    requires target { IsAccessible D.units groups.now target.now (length unit.now) drives.old }
     requires lost { held (cells D.units D.lost drives.old) target.now.home ≡ None }
     requires part { length part.old ≡ length unit.now }
     requires sum { length sum.old ≡ length unit.now }
@@ -102,7 +102,7 @@ pub(crate) fn find_way<D: Drive>(
     part: &mut [u8],
     sum: &mut [u8],
 ) -> Way
-    requires target { IsTarget D.units groups.now target.now (length unit.now) drives.old }
+    requires target { IsAccessible D.units groups.now target.now (length unit.now) drives.old }
     requires part { length part.old ≡ length unit.now }
     requires sum { length sum.old ≡ length unit.now }
     ensures draft { IsDraftOf groups.now (cells D.units D.lost drives.new) target.now unit.now sum.new result }

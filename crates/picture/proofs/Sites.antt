@@ -18,7 +18,7 @@ use Rattle.extent_groups.proofs.Bounds.{slot_count_small}
 use Rattle.extent_groups.proofs.GeometryLaws.{copies_law, stripe_law}
 use Rattle.extent_groups.proofs.LayoutLaw.{lies, slot_of, one_address}
 use Rattle.extent_groups.proofs.Roles.{parity_is}
-use Rattle.picture.specs.Marks.{IsFirst, IsSecond, IsParity, HasAt, is_second_of, is_second_in}
+use Rattle.picture.specs.Marks.{IsFirstPlace, IsSecond, IsParity, HasAt, is_second_of, is_second_in}
 
 -- a slot's role gives an index of the group
 pub slot_low : (o : Option Group) (s m x i : ℕ) → m < length (members_in o) → IsRoleIn o s m x (Slot i) → i < slots_in s o
@@ -55,7 +55,7 @@ second_is s Mirrored ms m x i at two here low lies is =
     ]
 
 pub first_is : (s : ℕ) (class : Class) (ms : List Member) (m x i : ℕ) (at : Member) → slice_get ms m ≡ Some at
-    → LiesAt class (length ms) i m x → is_second_of class (length ms) i m ≡ false → IsFirst (site_in s class ms i) (place_of s x at)
+    → LiesAt class (length ms) i m x → is_second_of class (length ms) i m ≡ false → IsFirstPlace (site_in s class ms i) (place_of s x at)
 first_is s Parity ms m x i at here lies is =
     let row = slice_get-map (place_of s x) ms m ∙ ap (option_map (place_of s x)) here in
     ap (λ o. slice_get (map (place_of s o) ms) (stripe_of (length ms) i).member) lies.1 ∙ ap (λ k. slice_get (map (place_of s x) ms) k) lies.0 ∙ row
@@ -92,7 +92,7 @@ second_at t g m x i slot at are there role small number is =
     )
 
 pub first_at : (t : Groups) (g m x i slot : ℕ) (at : Member) → AreGroups t → slice_get (members_of t g) m ≡ Some at → IsRoleIn (group_at t g) t.segments m x (Slot i)
-    → i < 128 → slot ≡ 128 * g + i → is_second_in (group_at t g) i m ≡ false → HasAt t slot IsFirst (place_of t.segments x at) × (slot / 128 ≡ g)
+    → i < 128 → slot ≡ 128 * g + i → is_second_in (group_at t g) i m ≡ false → HasAt t slot IsFirstPlace (place_of t.segments x at) × (slot / 128 ≡ g)
 first_at t g m x i slot at are there role small number is =
     let a = is_in t g m at there in
     let r : IsRole a.group.class (length a.group.members) t.segments m x (Slot i) = subst (λ o. IsRoleIn o t.segments m x (Slot i)) a.made role in

@@ -13,6 +13,6 @@ pub record AreBlocksOf (keys : ℕ → ℕ) (blocks : List (Option ℕ)) : Type 
   pub each : (slot : ℕ) → slot < 65536 → IsBlockAt keys slot (block_in blocks slot)
 
 -- the block of one of the records whose place is the slot, none where that is no place of the first `bound` records
-abbrev pub IsNoted : List Record → ℕ → ℕ → Option ℕ → Type 0
-IsNoted records bound slot None = (k : ℕ) (r : Record) → k < bound → slice_get records k ≡ Some r → r.place ≢ slot
-IsNoted records bound slot (Some block) = (k : ℕ) × (r : Record) × (slice_get records k ≡ Some r) × (r.block ≡ block) × (r.place ≡ slot)
+abbrev pub IsMappedBlock : List Record → ℕ → ℕ → Option ℕ → Type 0
+IsMappedBlock records bound slot None = (k : ℕ) (r : Record) → k < bound → slice_get records k ≡ Some r → r.place ≢ slot
+IsMappedBlock records bound slot (Some block) = (k : ℕ) × (r : Record) × (slice_get records k ≡ Some r) × (r.block ≡ block) × (r.place ≡ slot)

@@ -5,7 +5,7 @@ use Rattle.extent_groups.specs.declared.class.Class.{Class}
 use Rattle.extent_groups.specs.declared.class.Class.TheVariants.{Mirrored, Parity}
 use Rattle.extent_groups.specs.declared.place.Place.{Place}
 use Rattle.extent_groups.specs.Geometry.{copies_of}
-use Rattle.extent_groups.specs.Groups.{Group, Groups, members_of, Stands}
+use Rattle.extent_groups.specs.Groups.{Group, Groups, members_of, HasMemberAt}
 use Rattle.extent_groups.specs.Layout.{IsOf}
 use Rattle.extent_groups.specs.Units.{Site, Pair, InStripe, site_of, place_of}
 use Rattle.picture.specs.Blocks.{block_in}
@@ -13,9 +13,9 @@ use Rattle.picture.specs.declared.mark.Mark.{Mark}
 use Rattle.picture.specs.declared.mark.Mark.TheVariants as mark
 
 -- the place is the slot's first: the first of its two copies, or its member's in its row
-abbrev pub IsFirst : Site → Place → Type 0
-IsFirst (Pair p q) x = x ≡ p
-IsFirst (InStripe row parity i) x = slice_get row i ≡ Some x
+abbrev pub IsFirstPlace : Site → Place → Type 0
+IsFirstPlace (Pair p q) x = x ≡ p
+IsFirstPlace (InStripe row parity i) x = slice_get row i ≡ Some x
 
 -- the place is the slot's second copy
 abbrev pub IsSecond : Site → Place → Type 0
@@ -35,7 +35,7 @@ HasAt groups slot IsPart x = (site : Site) × (site_of groups slot ≡ Some site
 abbrev pub IsMarkIn : Groups → List (Option ℕ) → ℕ → Place → Mark → Type 0
 IsMarkIn groups blocks group x mark.Free = ⊥
 IsMarkIn groups blocks group x (mark.Stray owner) = ⊥
-IsMarkIn groups blocks group x (mark.Unit slot block) = HasAt groups slot IsFirst x × (slot / 128 ≡ group) × (block ≡ block_in blocks slot)
+IsMarkIn groups blocks group x (mark.Unit slot block) = HasAt groups slot IsFirstPlace x × (slot / 128 ≡ group) × (block ≡ block_in blocks slot)
 IsMarkIn groups blocks group x (mark.SecondCopy slot block) = HasAt groups slot IsSecond x × (slot / 128 ≡ group) × (block ≡ block_in blocks slot)
 IsMarkIn groups blocks group x (mark.Parity owner) = (owner ≡ group) × ((slot : ℕ) × HasAt groups slot IsParity x × (slot / 128 ≡ group))
 IsMarkIn groups blocks group x (mark.Unused owner) = (owner ≡ group) × ((slot : ℕ) → HasAt groups slot IsOf x → ⊥)
@@ -44,14 +44,14 @@ IsMarkIn groups blocks group x (mark.Unused owner) = (owner ≡ group) × ((slot
 pub record IsMarkOf (groups : Groups) (owners : Owners) (blocks : List (Option ℕ)) (drive extent offset : ℕ) (mark : Mark) : Type 0 where
   pub group : ℕ
   pub owned : owner_of owners drive extent ≡ Some group
-  pub member : Stands (members_of groups group) drive extent
+  pub member : HasMemberAt (members_of groups group) drive extent
   pub is : IsMarkIn groups blocks group (place_of groups.segments offset (record { drive = drive; extent = extent })) mark
 
 -- what the unit at an offset of a drive's extent is
 abbrev pub IsMark : Groups → Owners → List (Option ℕ) → ℕ → ℕ → ℕ → Mark → Type 0
 IsMark groups owners blocks drive extent offset mark.Free = owner_of owners drive extent ≡ None
 IsMark groups owners blocks drive extent offset (mark.Stray group) =
-    (owner_of owners drive extent ≡ Some group) × (Stands (members_of groups group) drive extent → ⊥)
+    (owner_of owners drive extent ≡ Some group) × (HasMemberAt (members_of groups group) drive extent → ⊥)
 IsMark groups owners blocks drive extent offset m = IsMarkOf groups owners blocks drive extent offset m
 
 -- a member of an optional group has the second copy of an index

@@ -2,7 +2,7 @@
 ghost use Rattle.std.specs.Prelude.{◌≡◌, ℕ, ◌<◌, length, Some, None, IfOk, replicate, slice_set};
 ghost use Rattle.map_join.specs.Maps.{at};
 ghost use Rattle.map_join.specs.declared.records.Record.{Record};
-ghost use Rattle.picture.specs.Blocks.{AreBlocksOf, IsNoted, block_in};
+ghost use Rattle.picture.specs.Blocks.{AreBlocksOf, IsMappedBlock, block_in};
 
 use map_join::{BlockMap, Record};
 use std::alloc::{AllocError, Global};
@@ -33,7 +33,7 @@ fn note_all(records: &[Record], blocks: &mut Vec<Option<u32>>)
     requires long { length blocks.old.items ≡ 65536 }
     requires blank { (slot : ℕ) → block_in blocks.old.items slot ≡ None }
     ensures long { length blocks.new.items ≡ 65536 }
-    ensures noted { (slot : ℕ) → IsNoted records.now (length records.now) slot (block_in blocks.new.items slot) }
+    ensures noted { (slot : ℕ) → IsMappedBlock records.now (length records.now) slot (block_in blocks.new.items slot) }
 {
     for record in records {
         note(blocks, *record);

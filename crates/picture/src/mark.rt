@@ -3,7 +3,7 @@ ghost use Rattle.std.specs.Prelude.{◌≡◌, ◌<◌, ◌≤◌, ◌*◌, ◌+
 ghost use Rattle.extents.specs.Owners.{IsExtent};
 ghost use Rattle.extents.specs.Sizes.{extent_units};
 ghost use Rattle.extent_groups.specs.declared.class.Member.{Member};
-ghost use Rattle.extent_groups.specs.Groups.{group_at, members_of, slots_in, Stands};
+ghost use Rattle.extent_groups.specs.Groups.{group_at, members_of, slots_in, HasMemberAt};
 ghost use Rattle.extent_groups.specs.Roles.{IsRoleIn};
 ghost use Rattle.extent_groups.specs.Units.{place_of};
 ghost use Rattle.picture.specs.Blocks.{block_in};
@@ -32,7 +32,7 @@ pub enum Mark {
 // Which member of a group an extent is, if it is one.
 fn member_at(groups: &GroupTable, group: u16, drive: u8, extent: u16) -> Option<u8>
     ensures some { IfSome result (λ m. slice_get (members_of groups.now group) m ≡ Some (record { drive = drive; extent = extent })) }
-    ensures none { IfNone result (Stands (members_of groups.now group) drive extent → ⊥) }
+    ensures none { IfNone result (HasMemberAt (members_of groups.now group) drive extent → ⊥) }
 {
     let members = groups.members(group);
     for index in 0..members.len() {

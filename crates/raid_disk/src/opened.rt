@@ -135,10 +135,10 @@ fn open_needed(
 }
 
 // Tests the length of a drive's file.
-fn test_length(file: &File, drive: u8, wants: u64) -> Result<(), Trouble> {
+fn test_length(file: &File, drive: u8, needs: u64) -> Result<(), Trouble> {
     match file.metadata() {
-        Ok(data) if data.len() == wants => Ok(()),
-        Ok(data) => Err(Trouble::Length(drive, data.len(), wants)),
+        Ok(data) if data.len() == needs => Ok(()),
+        Ok(data) => Err(Trouble::Length(drive, data.len(), needs)),
         Err(error) => Err(unread(error, Name::Drive(drive))),
     }
 }

@@ -81,8 +81,8 @@ pub(crate) fn table_in(alloc: Global, text: &str) -> Result<Table, Trouble> {
     let Some((identity, plan)) = lines_in(text) else {
         return Err(Trouble::NoTable);
     };
-    let wanted = text_of(alloc, identity, &plan)?;
-    if text != wanted.as_str() {
+    let expected = text_of(alloc, identity, &plan)?;
+    if text != expected.as_str() {
         return Err(Trouble::NoTable);
     }
     Ok(Table {

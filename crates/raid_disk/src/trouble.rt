@@ -138,10 +138,10 @@ impl Trouble {
                     "raid_disk: {path} is there already: nothing was made; remove what an earlier attempt has left, or name another folder"
                 )
             }
-            Trouble::Length(drive, has, wants) => {
+            Trouble::Length(drive, has, needs) => {
                 let path = folder.path(rt.alloc(), Name::Drive(*drive))?;
                 eprintln!(rt;
-                    "raid_disk: {path} has {has} bytes, and a drive of this disk {wants}: without the file the drive is lost"
+                    "raid_disk: {path} has {has} bytes, and a drive of this disk {needs}: without the file the drive is lost"
                 )
             }
             Trouble::Read(name, error) => {

@@ -4,18 +4,18 @@ use Rattle.std.proofs.lemmas.Bool.{cases_lt}
 use Rattle.std.proofs.lemmas.Option.{none-some}
 use Rattle.raid_images.specs.declared.plan.Step.{Step}
 use Rattle.raid_images.specs.declared.plan.Step.TheVariants.{Write, Commit, Rename}
-use Rattle.raid_images.specs.Saving.{Disk, sum_at, with_file, after, after_all, AllAlong, IsAtHome, IsOneSave, IsSaved, writes_to, renames_to, steps_of}
+use Rattle.raid_images.specs.Saving.{Disk, sum_at, with_file, after_saving, after_all, AllAlong, IsAtHome, IsOneSave, IsSaved, writes_to, renames_to, steps_of}
 
 -- steps after others
 pub after_more : (sums : List (Option (List ℕ))) (steps more : List Step) (disk : Disk) → after_all sums (steps ++ more) disk ≡ after_all sums more (after_all sums steps disk)
 after_more sums [] more disk = refl
-after_more sums (step ∷ steps) more disk = after_more sums steps more (after sums step disk)
+after_more sums (step ∷ steps) more disk = after_more sums steps more (after_saving sums step disk)
 
 -- what holds along steps, and along those after them
 pub along_more : (P : Disk → Type 0) (sums : List (Option (List ℕ))) (steps more : List Step) (disk : Disk) → AllAlong P sums steps disk
     → AllAlong P sums more (after_all sums steps disk) → AllAlong P sums (steps ++ more) disk
 along_more P sums [] more disk along then = then
-along_more P sums (step ∷ steps) more disk along then = (along.0, along_more P sums steps more (after sums step disk) along.1 then)
+along_more P sums (step ∷ steps) more disk along then = (along.0, along_more P sums steps more (after_saving sums step disk) along.1 then)
 
 with_same : (files : ℕ → Option (List ℕ)) (drive : ℕ) (file : Option (List ℕ)) → with_file files drive file drive ≡ file
 with_same files drive file = search rules
@@ -35,7 +35,7 @@ record IsWriting (sums : List (Option (List ℕ))) (old : Disk) (n : ℕ) (disk 
   kept : (drive : ℕ) → disk.kept drive ≡ old.kept drive
   fresh : (drive : ℕ) → drive < n → disk.fresh drive ≡ sum_at sums drive
 
-writing_next : (sums : List (Option (List ℕ))) (old : Disk) (n : ℕ) (disk : Disk) → IsWriting sums old n disk → IsWriting sums old (suc n) (after sums (Write n) disk)
+writing_next : (sums : List (Option (List ℕ))) (old : Disk) (n : ℕ) (disk : Disk) → IsWriting sums old n disk → IsWriting sums old (suc n) (after_saving sums (Write n) disk)
 writing_next sums old n disk w = record {
   table = w.table;
   kept = w.kept;
@@ -66,7 +66,7 @@ record IsRenaming (sums : List (Option (List ℕ))) (n m : ℕ) (disk : Disk) : 
   done : (drive : ℕ) → drive < m → disk.kept drive ≡ sum_at sums drive
   waits : (drive : ℕ) → m ≤ drive → drive < n → disk.fresh drive ≡ sum_at sums drive
 
-renaming_next : (sums : List (Option (List ℕ))) (n m : ℕ) (disk : Disk) → m < n → IsRenaming sums n m disk → IsRenaming sums n (suc m) (after sums (Rename m) disk)
+renaming_next : (sums : List (Option (List ℕ))) (n m : ℕ) (disk : Disk) → m < n → IsRenaming sums n m disk → IsRenaming sums n (suc m) (after_saving sums (Rename m) disk)
 renaming_next sums n m disk less r = record {
   table = r.table;
   done = λ drive low. go drive low (cases_lt drive m);
@@ -93,7 +93,7 @@ renaming_whole sums older n m disk many r = record {
     go drive sum is low (inr le) = inr (r.waits drive le (omega (arith, low, many)) ∙ is)
 
 -- the table is put in place after all images are written
-committed : (sums : List (Option (List ℕ))) (old : Disk) (n : ℕ) (disk : Disk) → IsWriting sums old n disk → IsRenaming sums n 0 (after sums Commit disk)
+committed : (sums : List (Option (List ℕ))) (old : Disk) (n : ℕ) (disk : Disk) → IsWriting sums old n disk → IsRenaming sums n 0 (after_saving sums Commit disk)
 committed sums old n disk w = record {
   table = refl;
   done = λ drive low. absurd (omega (arith, low));

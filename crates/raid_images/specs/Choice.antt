@@ -4,7 +4,7 @@ use Rattle.raid_images.specs.declared.choice.Choice.{Choice}
 use Rattle.raid_images.specs.declared.choice.Choice.TheVariants.{Kept, Fresh, Neither}
 
 -- the file that has the wanted digest: that of the name comes first
-abbrev pub IsChoice : List ℕ → Option (List ℕ) → Option (List ℕ) → Choice → Type 0
-IsChoice wanted kept fresh Kept = kept ≡ Some wanted
-IsChoice wanted kept fresh Fresh = (kept ≡ Some wanted → ⊥) × (fresh ≡ Some wanted)
-IsChoice wanted kept fresh Neither = (kept ≡ Some wanted → ⊥) × (fresh ≡ Some wanted → ⊥)
+abbrev pub IsFileChoice : List ℕ → Option (List ℕ) → Option (List ℕ) → Choice → Type 0
+IsFileChoice expected kept fresh Kept = kept ≡ Some expected
+IsFileChoice expected kept fresh Fresh = (kept ≡ Some expected → ⊥) × (fresh ≡ Some expected)
+IsFileChoice expected kept fresh Neither = (kept ≡ Some expected → ⊥) × (fresh ≡ Some expected → ⊥)

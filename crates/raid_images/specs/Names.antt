@@ -28,5 +28,5 @@ pub record AreTwins (spots : List Spot) (lower higher : ℕ) : Type 0 where
   pub one : AreOne first second
 
 -- no two names are of one file
-abbrev pub HasNoTwins : List Spot → Type 0
-HasNoTwins spots = (lower higher : ℕ) → AreTwins spots lower higher → ⊥
+abbrev pub HasNoAliases : List Spot → Type 0
+HasNoAliases spots = (lower higher : ℕ) → AreTwins spots lower higher → ⊥

@@ -1,8 +1,8 @@
 -- When slots can be read.
 use Rattle.std.specs.Prelude.{◌≡◌, ◌*◌, length}
 use Rattle.extent_groups.specs.Stores.{unit_bytes}
-use Rattle.array_parts.specs.Fit.{IsFit}
-use Rattle.array_parts.specs.Memory.{held_units}
+use Rattle.unit_store.specs.Fit.{IsFit}
+use Rattle.unit_store.specs.Memory.{held_units}
 use Rattle.raid_images.specs.declared.slots.Reader.{Reader}
 
 -- the parts fit one another, and the buffer is as long as two units

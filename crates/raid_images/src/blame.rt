@@ -12,7 +12,7 @@ pub(crate) struct Sizes {
 
 /// What was expected in a word's place.
 #[derive(Clone, Copy)]
-pub(crate) enum Wanted {
+pub(crate) enum Intended {
     /// The first command of a script.
     Array,
     /// A command, since the array is made.
@@ -42,7 +42,7 @@ pub(crate) enum Wanted {
 pub(crate) struct Blame<'l> {
     pub(crate) number: usize,
     pub(crate) word: Option<&'l [u8]>,
-    pub(crate) wanted: Wanted,
+    pub(crate) expected: Intended,
 }
 
 // What a number of a command is called.
@@ -91,44 +91,44 @@ fn is_within(kind: Kind, at: usize, blocks: u64, number: u64) -> bool {
     is_step && number >= least && number <= most
 }
 
-impl Wanted {
+impl Intended {
     /// Appends what was expected.
     pub(crate) fn put_text(self, out: &mut Vec<u8>) -> Result<(), AllocError> {
         match self {
-            Wanted::Array => put(
+            Intended::Array => put(
                 out,
                 b"`array`, which makes the array that all other commands are for",
             ),
-            Wanted::NoArray => put(out, b"another command: the array is made already"),
-            Wanted::Verb => put(out, b"the name of a command"),
-            Wanted::Word => put(out, b"a word: there is a blank too many"),
-            Wanted::NoReturn => put(out, b"a line that ends without a carriage return"),
-            Wanted::Number(kind, at) => {
+            Intended::NoArray => put(out, b"another command: the array is made already"),
+            Intended::Verb => put(out, b"the name of a command"),
+            Intended::Word => put(out, b"a word: there is a blank too many"),
+            Intended::NoReturn => put(out, b"a line that ends without a carriage return"),
+            Intended::Number(kind, at) => {
                 put(out, name_of(kind, at))?;
                 put(
                     out,
                     b": a number of up to ten digits, without a leading zero",
                 )
             }
-            Wanted::Within(kind, at, blocks) => put_range(out, kind, at, blocks),
-            Wanted::Record => put(out, b"a record: 24 hex digits, its version above 0"),
-            Wanted::RecordWithin(blocks) => {
+            Intended::Within(kind, at, blocks) => put_range(out, kind, at, blocks),
+            Intended::Record => put(out, b"a record: 24 hex digits, its version above 0"),
+            Intended::RecordWithin(blocks) => {
                 put(out, b"a record of a block, 0 to ")?;
                 put_number(out, blocks.saturating_sub(1))
             }
-            Wanted::Payload(bytes) => {
+            Intended::Payload(bytes) => {
                 put(out, b"a payload: ")?;
                 put_number(out, bytes.saturating_mul(2))?;
                 put(out, b" hex digits")
             }
-            Wanted::Class => put(out, b"`m` or `p`, the class of a group"),
-            Wanted::Member => put(out, b"a member: a drive, a dot and an extent"),
-            Wanted::MemberWithin => put(
+            Intended::Class => put(out, b"`m` or `p`, the class of a group"),
+            Intended::Member => put(out, b"a member: a drive, a dot and an extent"),
+            Intended::MemberWithin => put(
                 out,
                 b"a member: a drive, 0 to 15, a dot and an extent, 0 to 511",
             ),
-            Wanted::MemberCount => put(out, b"three to eight members"),
-            Wanted::End => put(out, b"the end of the line"),
+            Intended::MemberCount => put(out, b"three to eight members"),
+            Intended::End => put(out, b"the end of the line"),
         }
     }
 }
@@ -149,19 +149,19 @@ fn word_at(line: &[u8], number: usize) -> Option<&[u8]> {
 }
 
 // Blames a word, by its number from 0.
-fn blame_at(line: &[u8], number: usize, wanted: Wanted) -> Blame<'_> {
+fn blame_at(line: &[u8], number: usize, expected: Intended) -> Blame<'_> {
     Blame {
         number: number.saturating_add(1),
         word: word_at(line, number),
-        wanted,
+        expected,
     }
 }
 
 // Blames a word in a place where a word of another form was expected: an empty one is a blank too many.
-fn blame_word(line: &[u8], number: usize, wanted: Wanted) -> Blame<'_> {
+fn blame_word(line: &[u8], number: usize, expected: Intended) -> Blame<'_> {
     match word_at(line, number) {
-        Some(b"") => blame_at(line, number, Wanted::Word),
-        _ => blame_at(line, number, wanted),
+        Some(b"") => blame_at(line, number, Intended::Word),
+        _ => blame_at(line, number, expected),
     }
 }
 
@@ -228,18 +228,18 @@ fn member_in(alloc: Global, word: &[u8]) -> Result<Option<bool>, AllocError> {
 // The first word of a group's class and members that isn't of its form.
 fn blame_members(alloc: Global, line: &[u8], from: usize) -> Result<Blame<'_>, AllocError> {
     if !matches!(word_at(line, from), Some(b"m" | b"p")) {
-        return Ok(blame_word(line, from, Wanted::Class));
+        return Ok(blame_word(line, from, Intended::Class));
     }
     for number in 1..=8usize {
         let at = from.saturating_add(number);
         let Some(word) = word_at(line, at) else {
-            return Ok(blame_at(line, at, Wanted::MemberCount));
+            return Ok(blame_at(line, at, Intended::MemberCount));
         };
         if member_in(alloc, word)?.is_none() {
-            return Ok(blame_word(line, at, Wanted::Member));
+            return Ok(blame_word(line, at, Intended::Member));
         }
     }
-    Ok(blame_at(line, from.saturating_add(9), Wanted::MemberCount))
+    Ok(blame_at(line, from.saturating_add(9), Intended::MemberCount))
 }
 
 // The word after a command's numbers that isn't of its form.
@@ -251,23 +251,23 @@ fn blame_tail<'l>(
     sizes: &Option<Sizes>,
 ) -> Result<Blame<'l>, AllocError> {
     let word = word_at(line, from);
-    let behind = from.saturating_add(1);
+    let following = from.saturating_add(1);
     match (tail, word) {
-        (Tail::Nothing, _) => Ok(blame_word(line, from, Wanted::End)),
+        (Tail::Nothing, _) => Ok(blame_word(line, from, Intended::End)),
         (Tail::Members, _) => blame_members(alloc, line, from),
         (Tail::Record, Some(word)) if block_in(alloc, word)?.is_some() => {
-            Ok(blame_word(line, behind, Wanted::End))
+            Ok(blame_word(line, following, Intended::End))
         }
-        (Tail::Record, _) => Ok(blame_word(line, from, Wanted::Record)),
+        (Tail::Record, _) => Ok(blame_word(line, from, Intended::Record)),
         (Tail::Payload, word) => {
             let bytes = match sizes {
                 Some(sizes) => sizes.payload,
                 None => 0,
             };
             if is_payload(word, bytes) {
-                return Ok(blame_word(line, behind, Wanted::End));
+                return Ok(blame_word(line, following, Intended::End));
             }
-            Ok(blame_word(line, from, Wanted::Payload(bytes)))
+            Ok(blame_word(line, from, Intended::Payload(bytes)))
         }
     }
 }
@@ -286,16 +286,16 @@ pub(crate) fn blame_form<'l>(
 ) -> Result<Blame<'l>, AllocError> {
     if line.ends_with(b"\r") {
         let last = line.iter().filter(|byte| **byte == b' ').count();
-        return Ok(blame_at(line, last, Wanted::NoReturn));
+        return Ok(blame_at(line, last, Intended::NoReturn));
     }
     let first = word_at(line, 0).unwrap_or(b"");
     let Some(verb) = verb_of(alloc, first)? else {
-        return Ok(blame_word(line, 0, Wanted::Verb));
+        return Ok(blame_word(line, 0, Intended::Verb));
     };
     match (sizes, verb) {
         (None, Verb::Array) => {}
-        (None, _) => return Ok(blame_at(line, 0, Wanted::Array)),
-        (Some(_), Verb::Array) => return Ok(blame_at(line, 0, Wanted::NoArray)),
+        (None, _) => return Ok(blame_at(line, 0, Intended::Array)),
+        (Some(_), Verb::Array) => return Ok(blame_at(line, 0, Intended::NoArray)),
         (Some(_), _) => {}
     }
     let row = verb.row();
@@ -306,7 +306,7 @@ pub(crate) fn blame_form<'l>(
             None => false,
         };
         if !is_number {
-            return Ok(blame_word(line, number, Wanted::Number(*kind, at)));
+            return Ok(blame_word(line, number, Intended::Number(*kind, at)));
         }
     }
     blame_tail(
@@ -324,10 +324,10 @@ fn blame_far_member(alloc: Global, line: &[u8], from: usize) -> Result<Blame<'_>
         let at = from.saturating_add(number);
         let Some(word) = word_at(line, at) else { break };
         if member_in(alloc, word)? != Some(true) {
-            return Ok(blame_at(line, at, Wanted::MemberWithin));
+            return Ok(blame_at(line, at, Intended::MemberWithin));
         }
     }
-    Ok(blame_at(line, from, Wanted::MemberWithin))
+    Ok(blame_at(line, from, Intended::MemberWithin))
 }
 
 /// The first word of a line whose number is out of its range. The line is one that was answered by `range`.
@@ -342,7 +342,7 @@ pub(crate) fn blame_range<'l>(
     };
     let first = word_at(line, 0).unwrap_or(b"");
     let Some(verb) = verb_of(alloc, first)? else {
-        return Ok(blame_at(line, 0, Wanted::Verb));
+        return Ok(blame_at(line, 0, Intended::Verb));
     };
     let row = verb.row();
     for (at, kind) in row.kinds.iter().enumerate() {
@@ -355,12 +355,12 @@ pub(crate) fn blame_range<'l>(
             None => false,
         };
         if !is_fine {
-            return Ok(blame_at(line, number, Wanted::Within(*kind, at, blocks)));
+            return Ok(blame_at(line, number, Intended::Within(*kind, at, blocks)));
         }
     }
     let from = row.kinds.len().saturating_add(1);
     match row.tail {
         Tail::Members => blame_far_member(alloc, line, from),
-        _ => Ok(blame_at(line, from, Wanted::RecordWithin(blocks))),
+        _ => Ok(blame_at(line, from, Intended::RecordWithin(blocks))),
     }
 }

@@ -1,6 +1,6 @@
 //! Which of two files is the image that a table names.
 ghost use Rattle.std.specs.Prelude.{◌≡◌, ◌↔◌, ℕ, Some, IsTrue, IfSome, IfNone, slice_get};
-ghost use Rattle.raid_images.specs.Choice.{IsChoice};
+ghost use Rattle.raid_images.specs.Choice.{IsFileChoice};
 
 use crate::digest::Sum;
 
@@ -16,13 +16,13 @@ pub(crate) enum Choice {
 }
 
 /// Which file has the image of this digest. The files are given by their digests, none where there is no file.
-pub(crate) fn choose(wanted: &Sum, kept: &Option<Sum>, fresh: &Option<Sum>) -> Choice
-    ensures { IsChoice wanted.now kept.now fresh.now result }
+pub(crate) fn choose(expected: &Sum, kept: &Option<Sum>, fresh: &Option<Sum>) -> Choice
+    ensures { IsFileChoice expected.now kept.now fresh.now result }
 {
-    if is_sum(kept, wanted) {
+    if is_sum(kept, expected) {
         return Choice::Kept;
     }
-    if is_sum(fresh, wanted) {
+    if is_sum(fresh, expected) {
         return Choice::Fresh;
     }
     Choice::Neither

@@ -7,10 +7,10 @@ use crate::store::{bytes_at, bytes_of};
 use crate::table::Table;
 use crate::trouble::{Name, Trouble};
 use crate::words::{Files, LOST};
-use array_parts::Parts;
 use extents::{Drive, HotSwap, MemDrive, Shape};
 use images::{ImageRefusal, load};
 use std::alloc::Global;
+use unit_store::Parts;
 
 /// An image that isn't the one that the table names.
 #[derive(Clone, Copy, Debug, PartialEq, Eq)]
@@ -44,8 +44,8 @@ fn drive_of(alloc: Global, shape: &Shape, image: &[u8], file: usize) -> Result<M
         Ok(drive) => Ok(drive),
         Err(ImageRefusal::Memory) => Err(Trouble::Memory),
         Err(ImageRefusal::Length) => {
-            let wants = (shape.drive_units() as usize).saturating_mul(shape.unit_bytes());
-            Err(Trouble::Length(file, image.len(), wants))
+            let needs = (shape.drive_units() as usize).saturating_mul(shape.unit_bytes());
+            Err(Trouble::Length(file, image.len(), needs))
         }
     }
 }
@@ -64,16 +64,16 @@ fn compared(
     files: Files<'_, '_>,
     file: usize,
     sums: &[Option<Sum>],
-    wanted: &Sum,
+    expected: &Sum,
 ) -> Result<(Vec<u8>, Option<Wrong>), Trouble> {
     let kept = bytes_at(rt, files, Name::Kept(file))?;
     let kept_sum = sum_of_some(&kept);
-    let fresh = if kept_sum == Some(*wanted) {
+    let fresh = if kept_sum == Some(*expected) {
         None
     } else {
         bytes_at(rt, files, Name::Fresh(file))?
     };
-    let choice = choose(wanted, &kept_sum, &sum_of_some(&fresh));
+    let choice = choose(expected, &kept_sum, &sum_of_some(&fresh));
     match (choice, kept, fresh) {
         (Choice::Kept, Some(bytes), _) => Ok((bytes, None)),
         (Choice::Fresh, _, Some(bytes)) => Ok((bytes, None)),
@@ -99,7 +99,7 @@ fn read_drive(
         return Ok((lost(rt.alloc(), shape)?, None));
     }
     let (image, wrong) = match sums.get(file.saturating_sub(1)) {
-        Some(Some(wanted)) => compared(rt, files, file, sums, wanted)?,
+        Some(Some(expected)) => compared(rt, files, file, sums, expected)?,
         Some(None) => return Err(Trouble::WasLost(file)),
         None => (bytes_of(rt, files, Name::Kept(file))?, None),
     };

@@ -121,7 +121,7 @@ fn put_words(out: &mut Vec<u8>, blame: &Blame<'_>) -> Result<(), AllocError> {
         put(out, b"`")?;
     }
     put(out, b": expected ")?;
-    blame.wanted.put_text(out)?;
+    blame.expected.put_text(out)?;
     if blame.word.is_none() {
         put(out, b", and the line ends")?;
     }

@@ -1,6 +1,6 @@
 //! Which names are of one file.
 ghost use Rattle.std.specs.Prelude.{◌↔◌, ◌<◌, ℕ, IsTrue, IfSome, IfNone, length};
-ghost use Rattle.raid_images.specs.Names.{AreOne, AreTwins, HasNoTwins, IsOneNode};
+ghost use Rattle.raid_images.specs.Names.{AreOne, AreTwins, HasNoAliases, IsOneNode};
 
 /// A file or a folder, by its device and its number there.
 #[derive(Clone, Copy, Debug, PartialEq, Eq)]
@@ -55,7 +55,7 @@ fn twin_of(spots: &[Spot], higher: usize) -> Option<usize>
 /// The numbers of two names that are of one file, the lower first.
 pub(crate) fn first_twins(spots: &[Spot]) -> Option<(usize, usize)>
     ensures some { IfSome result (λ found. AreTwins spots.now found.0 found.1) }
-    ensures none { IfNone result (HasNoTwins spots.now) }
+    ensures none { IfNone result (HasNoAliases spots.now) }
 {
     for higher in 0..spots.len() {
         if let Some(lower) = twin_of(spots, higher) {

@@ -1,18 +1,18 @@
 //! An array rebuilt from its drives.
 ghost use Rattle.std.specs.Prelude.{◌≡◌, None, IfOk, IsNone};
-ghost use Rattle.array_parts.specs.Fit.{IsFit};
-ghost use Rattle.array_parts.specs.Losses.{LosesOnly};
-ghost use Rattle.array_parts.specs.Memory.{held_units, held_lost, held_failures};
+ghost use Rattle.unit_store.specs.Fit.{IsFit};
+ghost use Rattle.unit_store.specs.Losses.{LosesOnly};
+ghost use Rattle.unit_store.specs.Memory.{held_units, held_lost, held_failures};
 ghost use Rattle.header_scan.specs.Restarts.{AreAllSound};
 ghost use Rattle.raid_images.specs.Recovered.{IsRecovered};
 
-use array_parts::Parts;
+use consistency_check::find_unsound;
 use extent_groups::{GROUPS, GroupTable, SLOTS};
 use extents::MemDrive;
 use header_scan::{ScanFault, restart};
-use soundness::find_unsound;
 use std::alloc::{AllocError, Global};
 use step_core::{Array, Plain};
+use unit_store::Parts;
 
 /// Why no array is rebuilt.
 #[derive(Debug, Drop)]

@@ -6,13 +6,13 @@ use crate::slots::{Reader, has_slot};
 use crate::tasks::{FINE, WRONG, put_map, say, say_compared};
 use crate::trouble::Trouble;
 use crate::words::Files;
-use array_parts::Parts;
 use extent_groups::{GROUPS, SLOTS};
 use extents::{Drive, MemDrive};
 use header_scan::ScanFault;
 use map_join::{BlockMap, Record};
 use script_exec::{put, put_fault, put_number};
 use std::alloc::{AllocError, Global};
+use unit_store::Parts;
 
 /// What was read so far.
 #[derive(Drop)]
@@ -80,9 +80,9 @@ fn read_group(
             continue;
         }
         match reader.read(slot) {
-            Ok(told) => {
+            Ok(reported) => {
                 read = read.saturating_add(1);
-                if let Some(record) = told {
+                if let Some(record) = reported {
                     note(alloc, found, record)?;
                 }
             }

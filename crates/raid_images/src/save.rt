@@ -8,11 +8,11 @@ use crate::store::{
 use crate::table::table_text;
 use crate::trouble::Trouble;
 use crate::words::Files;
-use array_parts::Parts;
 use extents::{Drive, MemDrive};
 use images::image_of;
 use script_io::{Bench, run_and_leave};
 use std::alloc::Global;
+use unit_store::Parts;
 
 // What a script leaves: its status, and the array, if it made one that is to be kept.
 #[derive(Drop)]

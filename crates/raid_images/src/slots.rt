@@ -1,14 +1,14 @@
 //! The slots of an array's parts, read one by one.
 ghost use Rattle.std.specs.Prelude.{◌≡◌, IsTrue, IfOk, IfSome};
-ghost use Rattle.array_parts.specs.Slots.{IsSlot};
+ghost use Rattle.unit_store.specs.Slots.{IsSlot};
 ghost use Rattle.raid_images.specs.Reading.{CanRead};
 
-use array_parts::Parts;
 use extent_groups::{GroupTable, SLOTS};
 use extents::{HEADER_BYTES, Header, MemDrive};
 use header_scan::ScanFault;
 use map_join::Record;
 use std::alloc::{AllocError, Global};
+use unit_store::Parts;
 
 /// Parts that fit one another, and a buffer to read their slots with.
 #[derive(Drop)]

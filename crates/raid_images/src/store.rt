@@ -205,13 +205,13 @@ fn finish_file(
     files: Files<'_, '_>,
     file: usize,
     sums: &[Option<Sum>],
-    wanted: &Sum,
+    expected: &Sum,
 ) -> Result<(), Trouble> {
     let Some(fresh) = sum_at(rt, files, Name::Fresh(file))? else {
         return Ok(());
     };
     let kept = sum_at(rt, files, Name::Kept(file))?;
-    match choose(wanted, &kept, &Some(fresh)) {
+    match choose(expected, &kept, &Some(fresh)) {
         Choice::Kept => Ok(()),
         Choice::Fresh => rename_file(rt, files, file),
         Choice::Neither if owner_of(sums, &fresh).is_some() => Err(Trouble::Order(file)),
@@ -236,8 +236,8 @@ pub(crate) fn finish(
     for (drive, sum) in sums.iter().enumerate() {
         let file = drive.saturating_add(1);
         if file < count {
-            if let Some(wanted) = sum {
-                finish_file(rt, files, file, &sums, wanted)?;
+            if let Some(expected) = sum {
+                finish_file(rt, files, file, &sums, expected)?;
             }
         }
     }

@@ -228,12 +228,12 @@ impl Table {
             return Err(Trouble::Sum);
         };
         let table = Table::of_lines(alloc, lines)?;
-        let wanted = if has_sum {
+        let expected = if has_sum {
             usize::from(table.drives)
         } else {
             0
         };
-        if table.sums.len() != wanted {
+        if table.sums.len() != expected {
             return Err(Trouble::Sum);
         }
         Ok(table)

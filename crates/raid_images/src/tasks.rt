@@ -4,7 +4,6 @@ use crate::recover::{Lacking, recover};
 use crate::trouble::Trouble;
 use crate::witness::{Witness, count_witnesses};
 use crate::words::Files;
-use array_parts::Parts;
 use extents::{Drive, MemDrive};
 use header_scan::ScanFault;
 use map_join::BlockMap;
@@ -13,6 +12,7 @@ use script_exec::{put, put_fault, put_listing, put_number};
 use std::alloc::{AllocError, Global};
 use std::io::{self, Write};
 use step_core::{Array, Plain, Refusal};
+use unit_store::Parts;
 
 /// The status where all is as it should be.
 pub(crate) const FINE: u8 = 0;

@@ -115,10 +115,10 @@ impl Trouble {
     // Says what is wrong with one file.
     fn report_file(&self, rt: &HostRuntime, files: Files<'_, '_>) -> io::Result<()> {
         match self {
-            Trouble::Length(file, has, wants) => {
+            Trouble::Length(file, has, needs) => {
                 let name = files.name(*file);
                 eprintln!(rt;
-                    "{name} has {has} bytes, and an image of this array {wants}: give `-` in its place to leave it out"
+                    "{name} has {has} bytes, and an image of this array {needs}: give `-` in its place to leave it out"
                 )
             }
             Trouble::WasLost(file) => {

@@ -8,7 +8,7 @@ use Rattle.rebalancer.specs.declared.balance.Choice.{Choice}
 use Rattle.rebalancer.specs.declared.balance.Pair.{Pair}
 use Rattle.rebalancer.specs.declared.groups.Carrier.{Carrier}
 use Rattle.rebalancer.specs.Balancing.{IsAllowed, PairBefore, IsBalanceShift}
-use Rattle.rebalancer.specs.Choosing.{Beats, IsChoice, IsBestOf}
+use Rattle.rebalancer.specs.Choosing.{Beats, IsLowestChoice, IsBestOf}
 
 -- no pair comes before itself
 pub never_before_itself : (o : Owners) (f t : ℕ) → PairBefore o f t f t → ⊥
@@ -39,12 +39,12 @@ best_without o g lost from to (Some c) low none so =
     next_pair (λ f t h. IsAllowed o g lost f t h → PairBefore o f t c.pair.from c.pair.to → ⊥) from to low so (λ h allowed _. none h allowed)
 
 -- and so does a pair that doesn't beat it
-pub best_behind : (o : Owners) (g : Groups) (lost : List Bool) (pair : Pair) (best : Option Choice) → pair.to < 16
+pub best_following : (o : Owners) (g : Groups) (lost : List Bool) (pair : Pair) (best : Option Choice) → pair.to < 16
     → (Beats o pair best → ⊥)
     → IsBestOf o g lost (16 * pair.from + pair.to) best → IsBestOf o g lost (16 * pair.from + pair.to + 1) best
-best_behind o g lost pair None low behind so = absurd (behind tt)
-best_behind o g lost pair (Some c) low behind so =
-    next_pair (λ f t h. IsAllowed o g lost f t h → PairBefore o f t c.pair.from c.pair.to → ⊥) pair.from pair.to low so (λ h _. behind)
+best_following o g lost pair None low following so = absurd (following tt)
+best_following o g lost pair (Some c) low following so =
+    next_pair (λ f t h. IsAllowed o g lost f t h → PairBefore o f t c.pair.from c.pair.to → ⊥) pair.from pair.to low so (λ h _. following)
 
 -- a pair that beats it is the best choice
 pub best_instead : (o : Owners) (g : Groups) (lost : List Bool) (pair : Pair) (carrier : Carrier) (best : Option Choice) → pair.to < 16
@@ -69,7 +69,7 @@ within_256 o g lost f t h sixteen allowed =
     (omega (arith, giver, taker, sixteen), omega (arith, giver, taker, sixteen))
 
 -- a choice of all pairs, with its drive's lowest free extent, is the shift that is wanted
-pub is_shift : (o : Owners) (g : Groups) (lost : List Bool) (c : Choice) (extent : ℕ) → length lost ≡ 16 → IsChoice o g lost c → IsBestOf o g lost 256 (Some c)
+pub is_shift : (o : Owners) (g : Groups) (lost : List Bool) (c : Choice) (extent : ℕ) → length lost ≡ 16 → IsLowestChoice o g lost c → IsBestOf o g lost 256 (Some c)
     → lowest_free_of o c.pair.to ≡ Some extent
     → IsBalanceShift o g lost c.pair.from (record { group = c.carrier.group; member = c.carrier.member; to = record { drive = c.pair.to; extent = extent } })
 is_shift o g lost c extent sixteen choice best free = record {

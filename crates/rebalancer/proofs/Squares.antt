@@ -6,7 +6,7 @@ use Rattle.std.proofs.lemmas.List.Sums.{sum_by-set}
 use Rattle.std.proofs.lemmas.List.Quantifiers.{position-Some}
 use Rattle.std.proofs.lemmas.Bool.{eqb-true, false≢true}
 use Rattle.std.proofs.lemmas.Option.{slice_get-get_or, get_or_from_slice_get}
-use Rattle.extents.specs.Owners.{Owners, row_of, with_owner, load_of, lowest_free_of}
+use Rattle.extents.specs.Owners.{Owners, owner_row, with_owner, load_of, lowest_free_of}
 use Rattle.extent_groups.specs.declared.class.Member.{Member}
 use Rattle.extent_groups.specs.Groups.{Groups, Agree, IsMove, members_of}
 use Rattle.extent_groups.proofs.Places.{get-set_other}
@@ -38,7 +38,7 @@ given row e g within free =
     omega (arith, set, none)
 
 -- the row of a drive that is there
-row_is : (o : Owners) (d : ℕ) → d < length o.rows → row_of o d ≡ get_or o.rows d []
+row_is : (o : Owners) (d : ℕ) → d < length o.rows → owner_row o d ≡ get_or o.rows d []
 row_is o d within = ap (λ r. unwrap_or r []) (slice_get-get_or o.rows d [] within)
 
 -- the sum of the squares, once a row is another one
@@ -50,23 +50,23 @@ squares_set o d row within =
 -- an owned extent of one drive is freed and a free one of another is given away: the sum falls by two where the loads were
 -- two apart
 shifted : (o : Owners) (d e x y g : ℕ) → d < length o.rows → x < length o.rows → x ≢ d
-    → e < length (row_of o d) → is_some (get_or (row_of o d) e None) ≡ true
-    → y < length (row_of o x) → is_some (get_or (row_of o x) y None) ≡ false
+    → e < length (owner_row o d) → is_some (get_or (owner_row o d) e None) ≡ true
+    → y < length (owner_row o x) → is_some (get_or (owner_row o x) y None) ≡ false
     → load_of o x + 2 ≤ load_of o d
     → sum_of_squares (with_owner (with_owner o d e None) x y (Some g)) + 2 ≤ sum_of_squares o
 shifted o d e x y g giver taker apart inside owned within free uneven =
     let one : Owners = with_owner o d e None in
     let there : x < length one.rows = rw length-set taker in
-    let same : row_of one x ≡ row_of o x = ap (λ r. unwrap_or r []) (get-set_other o.rows d x (slice_set (row_of o d) e None) apart) in
-    let less : count_by is_some (slice_set (row_of o d) e None) + 1 ≡ load_of o d = freed (row_of o d) e inside owned in
-    let inside_one : y < length (row_of one x) = rw same within in
-    let free_one : is_some (get_or (row_of one x) y None) ≡ false = rw same free in
+    let same : owner_row one x ≡ owner_row o x = ap (λ r. unwrap_or r []) (get-set_other o.rows d x (slice_set (owner_row o d) e None) apart) in
+    let less : count_by is_some (slice_set (owner_row o d) e None) + 1 ≡ load_of o d = freed (owner_row o d) e inside owned in
+    let inside_one : y < length (owner_row one x) = rw same within in
+    let free_one : is_some (get_or (owner_row one x) y None) ≡ false = rw same free in
     let uneven_one : load_of one x + 2 ≤ load_of o d = rw same uneven in
     falls_by_two (sum_of_squares o) (sum_of_squares one) (sum_of_squares (with_owner one x y (Some g))) (load_of o d) (load_of one x)
-    (count_by is_some (slice_set (row_of o d) e None)) (count_by is_some (slice_set (row_of one x) y (Some g)))
-    less (given (row_of one x) y g inside_one free_one) uneven_one
-    (squares_set o d (slice_set (row_of o d) e None) giver)
-    (squares_set one x (slice_set (row_of one x) y (Some g)) there)
+    (count_by is_some (slice_set (owner_row o d) e None)) (count_by is_some (slice_set (owner_row one x) y (Some g)))
+    less (given (owner_row one x) y g inside_one free_one) uneven_one
+    (squares_set o d (slice_set (owner_row o d) e None) giver)
+    (squares_set one x (slice_set (owner_row one x) y (Some g)) there)
 
 -- an extent that a group owns
 owned_at : (row : List (Option ℕ)) (e g : ℕ) → e < length row → unwrap_or (slice_get row e) None ≡ Some g → is_some (get_or row e None) ≡ true
@@ -94,10 +94,10 @@ evens o after groups from k g to agree at free there uneven move =
     let is : slice_get (members_of groups g) k ≡ Some was = slice_get-get_or (members_of groups g) k to found.0 in
     let on : was.drive ≡ from = member_at (members_of groups g) from k was at is in
     let owned = agree.owned g k was is in
-    let place = position-Some is_none (row_of o to.drive) to.extent None free in
+    let place = position-Some is_none (owner_row o to.drive) to.extent None free in
     let apart : to.drive ≢ was.drive = λ same. let alike : load_of o to.drive ≡ load_of o from = ap (load_of o) (same ∙ on) in omega (arith, alike, uneven) in
-    let inside : was.extent < length (row_of o was.drive) = omega (arith, agree.wide was.drive owned.0.within, owned.0.inside) in
+    let inside : was.extent < length (owner_row o was.drive) = omega (arith, agree.wide was.drive owned.0.within, owned.0.inside) in
     let uneven_was : load_of o to.drive + 2 ≤ load_of o was.drive = rw on uneven in
     subst (λ a. sum_of_squares a + 2 ≤ sum_of_squares o) (sym (move was is))
-    (shifted o was.drive was.extent to.drive to.extent g owned.0.within there apart inside (owned_at (row_of o was.drive) was.extent g inside owned.1)
-    place.0 (is_free (get_or (row_of o to.drive) to.extent None) place.1) uneven_was)
+    (shifted o was.drive was.extent to.drive to.extent g owned.0.within there apart inside (owned_at (owner_row o was.drive) was.extent g inside owned.1)
+    place.0 (is_free (get_or (owner_row o to.drive) to.extent None) place.1) uneven_was)

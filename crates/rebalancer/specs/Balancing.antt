@@ -4,13 +4,13 @@ use Rattle.std.specs.List.{sum_by}
 use Rattle.extents.specs.Owners.{Owners, load_of, lowest_free_of}
 use Rattle.extent_groups.specs.Groups.{Groups, IsMove}
 use Rattle.rebalancer.specs.declared.shift.Shift.{Shift}
-use Rattle.rebalancer.specs.Drives.{IsPresent, HasRoom}
+use Rattle.rebalancer.specs.Drives.{IsPresent, HasFreeExtent}
 use Rattle.rebalancer.specs.Carrying.{member_on, CanGive}
 
 -- the one drive may give an extent to the other: both are present, their loads at least two apart, and the other has room
 pub record MayGive (owners : Owners) (lost : List Bool) (from to : ℕ) : Type 0 where
   pub giver : IsPresent owners lost from
-  pub taker : HasRoom owners lost to
+  pub taker : HasFreeExtent owners lost to
   pub uneven : load_of owners to + 2 ≤ load_of owners from
 
 -- a group may move from the one drive to the other

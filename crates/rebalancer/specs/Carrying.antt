@@ -7,12 +7,12 @@ abbrev pub member_on : Groups → ℕ → ℕ → Option ℕ
 member_on groups g drive = position (λ m. m.drive == drive) (members_of groups g)
 
 -- the group has a member on the drive
-abbrev pub Carries : Groups → ℕ → ℕ → Type 0
-Carries groups drive g = IsSome (member_on groups g drive)
+abbrev pub CarriesGroup : Groups → ℕ → ℕ → Type 0
+CarriesGroup groups drive g = IsSome (member_on groups g drive)
 
 -- the group has a member on the one drive, and none on the other
 pub record CanGive (groups : Groups) (from to g : ℕ) : Type 0 where
-  pub on : Carries groups from g
+  pub on : CarriesGroup groups from g
   pub off : IsNone (member_on groups g to)
 
 -- the lowest number that has the property P

@@ -8,11 +8,11 @@ use Rattle.rebalancer.specs.Carrying.{member_on, CanGive}
 use Rattle.rebalancer.specs.Balancing.{IsAllowed, PairBefore}
 
 -- both drives of a pair are there
-abbrev pub AreDrives : Owners → Pair → Type 0
-AreDrives owners pair = (pair.from < length owners.rows) × (pair.to < length owners.rows)
+abbrev pub AreDrivesInRange : Owners → Pair → Type 0
+AreDrivesInRange owners pair = (pair.from < length owners.rows) × (pair.to < length owners.rows)
 
 -- an allowed choice, with the lowest group of its pair
-pub record IsChoice (owners : Owners) (groups : Groups) (lost : List Bool) (c : Choice) : Type 0 where
+pub record IsLowestChoice (owners : Owners) (groups : Groups) (lost : List Bool) (c : Choice) : Type 0 where
   pub allowed : IsAllowed owners groups lost c.pair.from c.pair.to c.carrier.group
   pub lowest : (h : ℕ) → CanGive groups c.pair.from c.pair.to h → c.carrier.group ≤ h
   pub member : member_on groups c.carrier.group c.pair.from ≡ Some c.carrier.member
@@ -20,7 +20,7 @@ pub record IsChoice (owners : Owners) (groups : Groups) (lost : List Bool) (c : 
 -- the choice so far, where there is one, is a choice
 abbrev pub MayBeChoice : Owners → Groups → List Bool → Option Choice → Type 0
 MayBeChoice owners groups lost None = Unit {0}
-MayBeChoice owners groups lost (Some c) = IsChoice owners groups lost c
+MayBeChoice owners groups lost (Some c) = IsLowestChoice owners groups lost c
 
 -- no allowed shift of the first pairs comes before the choice so far, and none is allowed where there is none
 abbrev pub IsBestOf : Owners → Groups → List Bool → ℕ → Option Choice → Type 0

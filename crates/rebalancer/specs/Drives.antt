@@ -8,6 +8,6 @@ pub record IsPresent (owners : Owners) (lost : List Bool) (drive : ℕ) : Type 0
   pub sound : slice_get lost drive ≡ Some false
 
 -- a drive that is present and has an extent that is free
-pub record HasRoom (owners : Owners) (lost : List Bool) (drive : ℕ) : Type 0 where
+pub record HasFreeExtent (owners : Owners) (lost : List Bool) (drive : ℕ) : Type 0 where
   pub present : IsPresent owners lost drive
   pub free : IsSome (lowest_free_of owners drive)

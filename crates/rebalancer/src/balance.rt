@@ -3,7 +3,7 @@ ghost use Rattle.std.specs.Prelude.{◌≡◌, ℕ, ◌↔◌, ◌+◌, ◌*◌,
 ghost use Rattle.extents.specs.Owners.{Owners};
 ghost use Rattle.extent_groups.specs.Groups.{Agree, IsMove};
 ghost use Rattle.rebalancer.specs.Balancing.{IsBalance, MayGive, PairBefore, Evens};
-ghost use Rattle.rebalancer.specs.Choosing.{AreDrives, Beats, MayBeChoice, IsBestOf};
+ghost use Rattle.rebalancer.specs.Choosing.{AreDrivesInRange, Beats, MayBeChoice, IsBestOf};
 
 use crate::Shift;
 use crate::drives::is_present;
@@ -102,8 +102,8 @@ fn may_give(extents: &ExtentTable, lost: &[bool; DRIVES], pair: Pair) -> bool
 
 // Whether the pair comes before that of the best choice so far, if there is one.
 fn beats(extents: &ExtentTable, pair: Pair, best: Option<Choice>) -> bool
-    requires there { AreDrives extents.now pair }
-    requires others { IfSome best (λ choice. AreDrives extents.now choice.pair) }
+    requires there { AreDrivesInRange extents.now pair }
+    requires others { IfSome best (λ choice. AreDrivesInRange extents.now choice.pair) }
     ensures { IsTrue result ↔ Beats extents.now pair best }
 {
     match best {
@@ -114,8 +114,8 @@ fn beats(extents: &ExtentTable, pair: Pair, best: Option<Choice>) -> bool
 
 // Whether the pair comes before the other.
 fn comes_before(extents: &ExtentTable, pair: Pair, other: Pair) -> bool
-    requires there { AreDrives extents.now pair }
-    requires others { AreDrives extents.now other }
+    requires there { AreDrivesInRange extents.now pair }
+    requires others { AreDrivesInRange extents.now other }
     ensures { IsTrue result ↔ PairBefore extents.now pair.from pair.to other.from other.to }
 {
     let (given, gives) = (extents.load(pair.from), extents.load(other.from));

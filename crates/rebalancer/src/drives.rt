@@ -1,6 +1,6 @@
 // Which drives an extent may come from or go to.
 ghost use Rattle.std.specs.Prelude.{◌↔◌, ◌<◌, IsTrue};
-ghost use Rattle.rebalancer.specs.Drives.{IsPresent, HasRoom};
+ghost use Rattle.rebalancer.specs.Drives.{IsPresent, HasFreeExtent};
 
 use extents::{DRIVES, ExtentTable};
 
@@ -15,7 +15,7 @@ pub(crate) fn is_present(extents: &ExtentTable, lost: &[bool; DRIVES], drive: u8
 /// Whether the drive is present and one of its extents is free.
 pub(crate) fn has_room(extents: &ExtentTable, lost: &[bool; DRIVES], drive: u8) -> bool
     requires { drive < 16 }
-    ensures { IsTrue result ↔ HasRoom extents.now lost.now drive }
+    ensures { IsTrue result ↔ HasFreeExtent extents.now lost.now drive }
 {
     is_present(extents, lost, drive) && extents.lowest_free(drive).is_some()
 }

@@ -1,7 +1,7 @@
 // Which group has an extent on a drive.
 ghost use Rattle.std.specs.Prelude.{◌≡◌, ℕ, ◌<◌, ◌==◌, length, position, IfSome, IfNone};
 ghost use Rattle.extent_groups.specs.Groups.{AreGroups};
-ghost use Rattle.rebalancer.specs.Carrying.{member_on, IsLowest, Carries, CanGive};
+ghost use Rattle.rebalancer.specs.Carrying.{member_on, IsLowest, CarriesGroup, CanGive};
 
 use extent_groups::{GROUPS, GroupTable, Member};
 
@@ -30,9 +30,9 @@ pub(crate) fn member_on(groups: &GroupTable, group: u16, drive: u8) -> Option<u8
 
 /// The lowest group with a member on the drive.
 pub(crate) fn first_on(groups: &GroupTable, drive: u8) -> Option<Carrier>
-    ensures some { IfSome result (λ c. IsLowest (λ g. Carries groups.now drive g) c.group) }
+    ensures some { IfSome result (λ c. IsLowest (λ g. CarriesGroup groups.now drive g) c.group) }
     ensures member { IfSome result (λ c. member_on groups.now c.group drive ≡ Some c.member) }
-    ensures none { IfNone result ((g : ℕ) → Carries groups.now drive g → ⊥) }
+    ensures none { IfNone result ((g : ℕ) → CarriesGroup groups.now drive g → ⊥) }
 {
     for group in 0..GROUPS as u16 {
         if let Some(member) = member_on(groups, group, drive) {

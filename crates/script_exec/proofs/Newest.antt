@@ -11,7 +11,7 @@ use Rattle.map_join.specs.Lists.{ListsBelow}
 use Rattle.map_join.specs.Live.{IsLiveCount, IsLiveIn}
 use Rattle.map_join.specs.Maps.{IsListOf}
 use Rattle.map_join.proofs.Rising.{below_none, below_skip, below_more, count_zero}
-use Rattle.flat_machine.proofs.Newest.{place_small, told_key}
+use Rattle.flat_machine.proofs.Newest.{place_small, reported_key}
 
 -- the block has a record
 abbrev pub HasRecord : (ℕ → ℕ) → ℕ → Type 0
@@ -24,13 +24,13 @@ blocks_of records = map (λ (r : Record). r.block) records
 -- the newest records of all blocks below a bound, for the loop
 pub record AreListed (M : ℕ → ℕ) (bound : ℕ) (records : List Record) : Type 0 where
   pub blocks : ListsBelow (HasRecord M) bound (blocks_of records)
-  pub told : (r : Record) → Contains records r → record_at r.block (M r.block) ≡ Some r
+  pub reported : (r : Record) → Contains records r → record_at r.block (M r.block) ≡ Some r
   pub each : (r : Record) → r.block < bound → record_at r.block (M r.block) ≡ Some r → Contains records r
 
 pub none_listed : (M : ℕ → ℕ) → AreListed M 0 []
 none_listed M = record {
   blocks = below_none (HasRecord M) 0 (λ n l has. omega (arith, l));
-  told = λ r c. absurd (omega (arith, c.1));
+  reported = λ r c. absurd (omega (arith, c.1));
   each = λ r l e. absurd (omega (arith, l));
 }
 
@@ -38,7 +38,7 @@ none_listed M = record {
 pub none_more : (M : ℕ → ℕ) (b : ℕ) (records : List Record) → record_at b (M b) ≡ None → AreListed M b records → AreListed M (b + 1) records
 none_more M b records none listed = record {
   blocks = below_skip (HasRecord M) b (b + 1) (blocks_of records) (omega arith) (λ n from to has. other n has.0 (omega (arith, from, to)) has.1) listed.blocks;
-  told = listed.told;
+  reported = listed.reported;
   each = λ r l e. below r l e (cases_lt r.block b);
 }
   where
@@ -53,12 +53,12 @@ none_more M b records none listed = record {
 pub one_more : (M : ℕ → ℕ) (b : ℕ) (records : List Record) (r : Record) → record_at b (M b) ≡ Some r → AreListed M b records → AreListed M (b + 1) (records ++ r ∷ [])
 one_more M b records r is listed = record {
   blocks = subst (ListsBelow (HasRecord M) (b + 1)) (sym pushed) (below_more (HasRecord M) b (blocks_of records) (r, is) listed.blocks);
-  told = λ q c. told q (Contains-push_cases records r q c);
+  reported = λ q c. reported q (Contains-push_cases records r q c);
   each = λ q l e. each q l e (cases_lt q.block b);
 }
   where
     block : b ≡ r.block
-    block = ap (λ (x : Record). x.block) (told_key b (M b) r is).1
+    block = ap (λ (x : Record). x.block) (reported_key b (M b) r is).1
 
     pushed : blocks_of (records ++ r ∷ []) ≡ blocks_of records ++ b ∷ []
     pushed = map-append (λ (x : Record). x.block) records (r ∷ []) ∙ ap (λ n. blocks_of records ++ n ∷ []) (sym block)
@@ -66,9 +66,9 @@ one_more M b records r is listed = record {
     here : record_at r.block (M r.block) ≡ Some r
     here = subst (λ n. record_at n (M n) ≡ Some r) block is
 
-    told : (q : Record) → Contains records q ⊎ (r ≡ q) → record_at q.block (M q.block) ≡ Some q
-    told q (inl c) = listed.told q c
-    told q (inr e) = subst (λ (x : Record). record_at x.block (M x.block) ≡ Some x) e here
+    reported : (q : Record) → Contains records q ⊎ (r ≡ q) → record_at q.block (M q.block) ≡ Some q
+    reported q (inl c) = listed.reported q c
+    reported q (inr e) = subst (λ (x : Record). record_at x.block (M x.block) ≡ Some x) e here
 
     each : (q : Record) → q.block < b + 1 → record_at q.block (M q.block) ≡ Some q → (q.block < b) ⊎ (b ≤ q.block) → Contains (records ++ r ∷ []) q
     each q l e (inl low) = Contains-append_left records (r ∷ []) q (listed.each q low e)
@@ -81,7 +81,7 @@ one_more M b records r is listed = record {
 pub all_listed : (M : ℕ → ℕ) (bound : ℕ) (records : List Record) → ((b : ℕ) → bound ≤ b → record_at b (M b) ≡ None) → AreListed M bound records → IsListOf M records
 all_listed M bound records none listed = record {
   rising = listed.blocks.rising;
-  each = λ r. (listed.told r, λ e. go r e (cases_lt r.block bound));
+  each = λ r. (listed.reported r, λ e. go r e (cases_lt r.block bound));
 }
   where
     go : (r : Record) → record_at r.block (M r.block) ≡ Some r → (r.block < bound) ⊎ (bound ≤ r.block) → Contains records r

@@ -8,8 +8,8 @@ use Rattle.extent_groups.specs.declared.class.Class.{Class}
 use Rattle.extent_groups.specs.declared.class.Class.TheVariants as class
 use Rattle.script_syntax.specs.Number.{IsWritable}
 use Rattle.script_syntax.specs.Order as o
-use Rattle.script_syntax.specs.Order.{Order, Behind, Nothing, Told, Content, Members, behind_of, kinds_of, ordered, values_of, verb_of}
-use Rattle.script_syntax.specs.Spelling.{member_word, IsBehind, IsClassWord, IsRecordWord, IsWritableMember, Spells}
+use Rattle.script_syntax.specs.Order.{Order, Following, Nothing, Reported, Content, Members, following_of, kinds_of, ordered, values_of, verb_of}
+use Rattle.script_syntax.specs.Spelling.{member_word, IsTrailing, IsClassWord, IsRecordWord, IsWritableMember, SpellsCommand}
 use Rattle.script_syntax.specs.Parts.{parts}
 use Rattle.script_syntax.specs.declared.command.Named.{Named}
 use Rattle.script_syntax.specs.declared.verb.Verb.{Verb}
@@ -18,43 +18,43 @@ use Rattle.script_syntax.proofs.Numbers.{rest_again}
 use Rattle.script_syntax.proofs.Spellings.{spelled_words}
 use Rattle.script_syntax.proofs.Table.{count_again, one_verb, tail_again}
 use Rattle.script_exec.specs.State.{State, IsInRange, block_count}
-use Rattle.script_exec.specs.Meaning.{Counts, IsSaid, Meaning, Skip, Do, Wrong, Means, is_skipped, most_bytes, most_lines}
+use Rattle.script_exec.specs.Meaning.{IsParsedLine, IsSaid, Meaning, Skip, Do, Wrong, Means, is_skipped, most_bytes, most_lines}
 use Rattle.script_exec.specs.declared.why.Why.TheVariants.{Many, Long, Form, Range}
 
 -- ---- a command of its parts
 
 -- what follows the numbers, where something does
-abbrev record_in : Behind → Record
-record_in (Told r) = r
+abbrev record_in : Following → Record
+record_in (Reported r) = r
 record_in _ = record { block = 0; version = 0; hop = 0; place = 0 }
 
-abbrev payload_in : Behind → List ℕ
+abbrev payload_in : Following → List ℕ
 payload_in (Content payload) = payload
 payload_in _ = []
 
-abbrev class_in : Behind → Class
+abbrev class_in : Following → Class
 class_in (Members level members) = level
 class_in _ = class.Mirrored
 
-abbrev members_in : Behind → List Named
+abbrev members_in : Following → List Named
 members_in (Members level members) = members
 members_in _ = []
 
 -- the command that these parts make
-abbrev made : Verb → List ℕ → Behind → Order
-made asked ns behind = ordered asked (λ i. slice_index ns i) (record_in behind) (payload_in behind) (class_in behind) (members_in behind)
+abbrev made : Verb → List ℕ → Following → Order
+made asked ns following = ordered asked (λ i. slice_index ns i) (record_in following) (payload_in following) (class_in following) (members_in following)
 
-made_again : (order : Order) → made (verb_of order) (values_of order) (behind_of order) ≡ order
+made_again : (order : Order) → made (verb_of order) (values_of order) (following_of order) ≡ order
 made_again (o.Array a b c d e) = refl
 made_again _ = refl
 
 -- commands of the same parts are one
-one_order : (a b : Order) → verb_of a ≡ verb_of b → values_of a ≡ values_of b → behind_of a ≡ behind_of b → a ≡ b
+one_order : (a b : Order) → verb_of a ≡ verb_of b → values_of a ≡ values_of b → following_of a ≡ following_of b → a ≡ b
 one_order a b verbs values behinds =
     sym (made_again a)
-    ∙ ap (λ asked. made asked (values_of a) (behind_of a)) verbs
-    ∙ ap (λ ns. made (verb_of b) ns (behind_of a)) values
-    ∙ ap (λ behind. made (verb_of b) (values_of b) behind) behinds
+    ∙ ap (λ asked. made asked (values_of a) (following_of a)) verbs
+    ∙ ap (λ ns. made (verb_of b) ns (following_of a)) values
+    ∙ ap (λ following. made (verb_of b) (values_of b) following) behinds
     ∙ made_again b
 
 -- ---- the parts of a spelled command
@@ -84,8 +84,8 @@ same_record r s blocks versions hops places =
 
 one_record : (r s : Record) (word : List ℕ) → IsRecordWord r word → IsRecordWord s word → r ≡ s
 one_record r s word one other =
-    let told = sym one.decoded ∙ other.decoded in
-    let same : one.bytes ≡ other.bytes = cc told in
+    let reported = sym one.decoded ∙ other.decoded in
+    let same : one.bytes ≡ other.bytes = cc reported in
     let here = one.spells in
     let there : RecordSpells one.bytes s = rw same other.spells in
     same_record r s (here.block ∙ sym there.block) (here.version ∙ sym there.version) (here.hop ∙ sym there.hop) (here.place ∙ sym there.place)
@@ -119,30 +119,30 @@ one_members (a ∷ ones) (b ∷ others) short too e =
     cc (one, more)
 
 -- what follows the numbers is of one kind, and then it is one thing
-one_behind : (a b : Behind) (ws : List (List ℕ)) → o.kind_behind a ≡ o.kind_behind b → IsBehind a ws → IsBehind b ws → a ≡ b
-one_behind Nothing Nothing ws kinds one other = refl
-one_behind Nothing (Told r) ws kinds one other = cc
-one_behind Nothing (Content payload) ws kinds one other = cc
-one_behind Nothing (Members level members) ws kinds one other = cc
-one_behind (Told r) Nothing ws kinds one other = cc
-one_behind (Told r) (Told s) ws kinds one other =
+one_following : (a b : Following) (ws : List (List ℕ)) → o.kind_following a ≡ o.kind_following b → IsTrailing a ws → IsTrailing b ws → a ≡ b
+one_following Nothing Nothing ws kinds one other = refl
+one_following Nothing (Reported r) ws kinds one other = cc
+one_following Nothing (Content payload) ws kinds one other = cc
+one_following Nothing (Members level members) ws kinds one other = cc
+one_following (Reported r) Nothing ws kinds one other = cc
+one_following (Reported r) (Reported s) ws kinds one other =
     let lists = sym one.spelled ∙ other.spelled in
     let same : one.word ≡ other.word = cc lists in
-    ap Told (one_record r s other.word (rw same at one.named) other.named)
-one_behind (Told r) (Content payload) ws kinds one other = cc
-one_behind (Told r) (Members level members) ws kinds one other = cc
-one_behind (Content payload) Nothing ws kinds one other = cc
-one_behind (Content payload) (Told s) ws kinds one other = cc
-one_behind (Content payload) (Content bytes) ws kinds one other =
+    ap Reported (one_record r s other.word (rw same at one.named) other.named)
+one_following (Reported r) (Content payload) ws kinds one other = cc
+one_following (Reported r) (Members level members) ws kinds one other = cc
+one_following (Content payload) Nothing ws kinds one other = cc
+one_following (Content payload) (Reported s) ws kinds one other = cc
+one_following (Content payload) (Content bytes) ws kinds one other =
     let lists = sym one.spelled ∙ other.spelled in
     let same : one.digits ≡ other.digits = cc lists in
-    let told = sym (rw same at one.decoded) ∙ other.decoded in
-    cc told
-one_behind (Content payload) (Members level members) ws kinds one other = cc
-one_behind (Members level members) Nothing ws kinds one other = cc
-one_behind (Members level members) (Told s) ws kinds one other = cc
-one_behind (Members level members) (Content bytes) ws kinds one other = cc
-one_behind (Members level members) (Members depth others) ws kinds one other =
+    let reported = sym (rw same at one.decoded) ∙ other.decoded in
+    cc reported
+one_following (Content payload) (Members level members) ws kinds one other = cc
+one_following (Members level members) Nothing ws kinds one other = cc
+one_following (Members level members) (Reported s) ws kinds one other = cc
+one_following (Members level members) (Content bytes) ws kinds one other = cc
+one_following (Members level members) (Members depth others) ws kinds one other =
     let lists = sym one.spelled ∙ other.spelled in
     let word : one.word ≡ other.word = cc lists in
     let rest : one.rest ≡ other.rest = cc lists in
@@ -153,18 +153,18 @@ one_behind (Members level members) (Members depth others) ws kinds one other =
 
 -- ---- one command, and one meaning
 
-pub spells_once : (line : List ℕ) (one other : Order) → Spells one line → Spells other line → one ≡ other
+pub spells_once : (line : List ℕ) (one other : Order) → SpellsCommand one line → SpellsCommand other line → one ≡ other
 spells_once line one other a b =
     let lists = sym (spelled_words one line a) ∙ spelled_words other line b in
     let verbs : verb_of one ≡ verb_of other = one_verb (verb_of one) (verb_of other) (cc lists) in
-    let behind : a.rest ≡ b.rest = cc lists in
-    let spelled = sym a.follows.spelled ∙ behind ∙ b.follows.spelled in
+    let following : a.rest ≡ b.rest = cc lists in
+    let spelled = sym a.follows.spelled ∙ following ∙ b.follows.spelled in
     let counts : length (values_of one) ≡ length (values_of other) = count_again one ∙ ap (λ asked. length (kinds_of asked)) verbs ∙ sym (count_again other) in
     let values : values_of one ≡ values_of other =
     one_numbers (values_of one) (values_of other) a.follows.rest b.follows.rest a.follows.writable b.follows.writable counts spelled in
     let rest : a.follows.rest ≡ b.follows.rest = rest_again (values_of one) (values_of other) a.follows.rest b.follows.rest counts spelled in
     let kinds = tail_again one ∙ ap o.tail_of verbs ∙ sym (tail_again other) in
-    one_order one other verbs values (one_behind (behind_of one) (behind_of other) b.follows.rest kinds (rw rest at a.follows.behind) b.follows.behind)
+    one_order one other verbs values (one_following (following_of one) (following_of other) b.follows.rest kinds (rw rest at a.follows.following) b.follows.following)
 
 -- of two commands that one line says, the one is in range where the other is
 range_once : (state : State) (line : List ℕ) (one other : Order) → IsSaid state line one → IsSaid state line other
@@ -174,13 +174,13 @@ range_once state line one other a b within beyond =
     beyond (rw same at within)
 
 -- a line that is skipped isn't read, and no line is too long or too late and read too
-skipped_or_read : (n : ℕ) (line : List ℕ) → is_skipped line ≡ true → Counts n line → ⊥
+skipped_or_read : (n : ℕ) (line : List ℕ) → is_skipped line ≡ true → IsParsedLine n line → ⊥
 skipped_or_read n line skipped counts = cc (skipped, counts.said)
 
-late_or_read : (n : ℕ) (line : List ℕ) → most_lines < n → Counts n line → ⊥
+late_or_read : (n : ℕ) (line : List ℕ) → most_lines < n → IsParsedLine n line → ⊥
 late_or_read n line late counts = omega (arith, late, counts.soon)
 
-long_or_read : (n : ℕ) (line : List ℕ) → most_bytes < length line → Counts n line → ⊥
+long_or_read : (n : ℕ) (line : List ℕ) → most_bytes < length line → IsParsedLine n line → ⊥
 long_or_read n line long counts = omega (arith, long, counts.short)
 
 pub means_once : (n : ℕ) (state : State) (line : List ℕ) (one other : Meaning) → Means n state line one → Means n state line other → one ≡ other

@@ -10,16 +10,16 @@ use Rattle.flat_machine.specs.Flat.{Flat, Payload, Trim, new_flat, put}
 use Rattle.flat_machine.specs.Steps.{FlatStep, FlatAnswer}
 use Rattle.flat_machine.specs.Steps as s
 use Rattle.flat_machine.specs.Cases.{Case}
-use Rattle.flat_machine.specs.Scans.{ScanAnswer, Told, NotTold, RestartAnswer, Restarted, NotRestarted, ScanCase, RestartCase}
+use Rattle.flat_machine.specs.Scans.{ScanAnswer, Reported, NotReported, RestartAnswer, Restarted, NotRestarted, ScanCase, RestartCase}
 use Rattle.header_scan.specs.declared.fault.ScanFault.TheVariants.{Gone}
 use Rattle.extent_groups.specs.declared.class.Member.{Member}
 use Rattle.std.specs.Prelude.{map}
-use Rattle.background.specs.Tiered.{Tiered, begun}
-use Rattle.background.specs.Steps.{TierStep, TierCase, CommitNoted}
-use Rattle.background.specs.Steps as tier
-use Rattle.background.specs.declared.outcome.Outcome.{Outcome}
-use Rattle.background.specs.declared.regrouped.Regrouped.{Regrouped}
-use Rattle.background.specs.Regrouping.{BalanceCase, RebuildCase}
+use Rattle.tiered_array.specs.Tiered.{Tiered, begun}
+use Rattle.tiered_array.specs.Steps.{TierStep, TierCase, CommitNoted}
+use Rattle.tiered_array.specs.Steps as tier
+use Rattle.tiered_array.specs.declared.outcome.Outcome.{Outcome}
+use Rattle.tiered_array.specs.declared.regrouped.Regrouped.{Regrouped}
+use Rattle.tiered_array.specs.Regrouping.{BalanceCase, RebuildCase}
 use Rattle.script_syntax.specs.Order.{Order}
 use Rattle.script_syntax.specs.Order as o
 use Rattle.script_exec.specs.State.{Position, State, nothing_taken}
@@ -39,7 +39,7 @@ pub record Steps (P : Position) (step : FlatStep) (text : List ℕ) (t : State) 
   pub state_is : t ≡ Some (with_flat P next)
 
 -- a commit; if it is of a write, the write is noted in the order of last writes
-pub record Commits (P : Position) (worker slot block : ℕ) (text : List ℕ) (t : State) : Type 0 where
+pub record AnswersCommit (P : Position) (worker slot block : ℕ) (text : List ℕ) (t : State) : Type 0 where
   pub answer : FlatAnswer
   pub next : Tiered
   pub case : CommitNoted P.tiers worker slot block answer next
@@ -93,7 +93,7 @@ pub record Merges (P : Position) (into from : ℕ) (text : List ℕ) (t : State)
   pub state_is : t ≡ Some (with_taken P into (P.taken into ++ P.taken from))
 
 -- the lowest block of which two lists of records have different newest ones
-pub record Compares (left right : List Record) (text : List ℕ) : Type 0 where
+pub record AnswersCompare (left right : List Record) (text : List ℕ) : Type 0 where
   pub left_keys : ℕ → ℕ
   pub right_keys : ℕ → ℕ
   pub left_map : IsMapOf left left_keys
@@ -103,16 +103,16 @@ pub record Compares (left right : List Record) (text : List ℕ) : Type 0 where
   pub text_is : text ≡ difference_text lowest
 
 -- the answer to a scan: the map's records in the blocks' order, or the slot whose unit is gone
-abbrev pub TellsScan : ScanAnswer → List ℕ → Type 0
-TellsScan (Told keys) text = (listed : List Record) × IsListOf keys listed × (text ≡ codes "scan " ++ listing listed)
-TellsScan (NotTold slot) text = text ≡ fault_text (Gone slot)
+abbrev pub ReportsScan : ScanAnswer → List ℕ → Type 0
+ReportsScan (Reported keys) text = (listed : List Record) × IsListOf keys listed × (text ≡ codes "scan " ++ listing listed)
+ReportsScan (NotReported slot) text = text ≡ fault_text (Gone slot)
 
 -- the headers are scanned, and the maps are as they were
 pub record Scans (P : Position) (text : List ℕ) (t : State) : Type 0 where
   pub answer : ScanAnswer
   pub next : Flat
   pub case : ScanCase P.tiers.flat answer next
-  pub told : TellsScan answer text
+  pub reported : ReportsScan answer text
   pub state_is : t ≡ Some (with_flat P next)
 
 -- the answer to a restart: how many blocks there are, or the slot whose unit is gone
@@ -121,9 +121,9 @@ restart_text (Restarted count) = codes "restarted " ++ decimal count
 restart_text (NotRestarted slot) = fault_text (Gone slot)
 
 -- a restart starts the order of last writes and the write log over; a failed one leaves them
-abbrev pub tiers_behind : Tiered → RestartAnswer → Flat → Tiered
-tiers_behind T (Restarted count) next = begun next
-tiers_behind T (NotRestarted slot) next = record T { flat = next }
+abbrev pub tiers_following : Tiered → RestartAnswer → Flat → Tiered
+tiers_following T (Restarted count) next = begun next
+tiers_following T (NotRestarted slot) next = record T { flat = next }
 
 -- the array is rebuilt from what its drives hold, and the maps are as they were
 pub record Restarts (P : Position) (text : List ℕ) (t : State) : Type 0 where
@@ -131,7 +131,7 @@ pub record Restarts (P : Position) (text : List ℕ) (t : State) : Type 0 where
   pub next : Flat
   pub case : RestartCase P.tiers.flat answer next
   pub text_is : text ≡ restart_text answer
-  pub state_is : t ≡ Some (record P { tiers = tiers_behind P.tiers answer next })
+  pub state_is : t ≡ Some (record P { tiers = tiers_following P.tiers answer next })
 
 -- groups of an array of these sizes, none of which is made
 pub record AreNoGroups (groups : Groups) (extents segments payload blocks : ℕ) : Type 0 where
@@ -163,14 +163,14 @@ Answers (Some P) (o.Claim worker slot) text t = Steps P (s.Claim worker slot) te
 Answers (Some P) (o.Release worker slot) text t = Steps P (s.Release worker slot) text t
 Answers (Some P) (o.Fill worker slot payload) text t = Steps P (s.Fill worker slot (Payload payload)) text t
 Answers (Some P) (o.Copy worker slot block) text t = Steps P (s.Copy worker slot block) text t
-Answers (Some P) (o.Commit worker slot block) text t = Commits P worker slot block text t
+Answers (Some P) (o.Commit worker slot block) text t = AnswersCommit P worker slot block text t
 Answers (Some P) (o.Discard worker slot) text t = Steps P (s.Discard worker slot) text t
 Answers (Some P) (o.Lose drive) text t = Steps P (s.Lose drive) text t
 Answers (Some P) (o.Read block) text t = Steps P (s.Read block) text t
 Answers (Some P) (o.At r) text t = Steps P (s.ReadAt r) text t
 Answers (Some P) (o.Take map r) text t = Takes P map r text t
 Answers (Some P) (o.Merge into from) text t = Merges P into from text t
-Answers (Some P) (o.Same left right) text t = Compares (P.taken left) (P.taken right) text × (t ≡ Some P)
+Answers (Some P) (o.Same left right) text t = AnswersCompare (P.taken left) (P.taken right) text × (t ≡ Some P)
 Answers (Some P) (o.Show map) text t = ShowsMap (P.taken map) text × (t ≡ Some P)
 Answers (Some P) o.Map text t = ShowsMap P.tiers.flat.emitted text × (t ≡ Some P)
 Answers (Some P) o.Log text t = ShowsLog P.tiers.flat text × (t ≡ Some P)

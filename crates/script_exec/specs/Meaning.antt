@@ -1,8 +1,8 @@
 -- What a line means: nothing, a command, or a fault.
 use Rattle.std.specs.Prelude.{◌≡◌, ℕ, ◌<◌, ◌≤◌, ◌==◌, Bool, true, false, List, [], ◌∷◌, ◌++◌, length, codes, decimal}
 use Rattle.script_syntax.specs.Order.{Order}
-use Rattle.script_syntax.specs.Spelling.{Spells}
-use Rattle.script_exec.specs.State.{State, IsDue, IsInRange, block_count}
+use Rattle.script_syntax.specs.Spelling.{SpellsCommand}
+use Rattle.script_exec.specs.State.{State, IsAdmissible, IsInRange, block_count}
 use Rattle.script_exec.specs.declared.why.Why.{Why}
 use Rattle.script_exec.specs.declared.why.Why.TheVariants.{Many, Long, Form, Range}
 
@@ -25,25 +25,25 @@ pub data Meaning : Type 0 where
   Wrong : Why → Meaning
 
 -- line n is read for its words: it isn't one too many, nor too long, nor skipped
-pub record Counts (n : ℕ) (line : List ℕ) : Type 0 where
+pub record IsParsedLine (n : ℕ) (line : List ℕ) : Type 0 where
   pub soon : n ≤ most_lines
   pub short : length line ≤ most_bytes
   pub said : is_skipped line ≡ false
 
 -- the line spells a command that is allowed in this state
 pub record IsSaid (state : State) (line : List ℕ) (order : Order) : Type 0 where
-  pub spells : Spells order line
-  pub due : IsDue state order
+  pub spells : SpellsCommand order line
+  pub due : IsAdmissible state order
 
 -- what line n is in a state; the faults come in this order: many, long, form, range
 abbrev pub Means : ℕ → State → List ℕ → Meaning → Type 0
 Means n state line Skip = (n ≤ most_lines) × (length line ≤ most_bytes) × (is_skipped line ≡ true)
-Means n state line (Do order) = Counts n line × IsSaid state line order × IsInRange (block_count state) order
+Means n state line (Do order) = IsParsedLine n line × IsSaid state line order × IsInRange (block_count state) order
 Means n state line (Wrong Many) = most_lines < n
 Means n state line (Wrong Long) = (n ≤ most_lines) × (most_bytes < length line)
-Means n state line (Wrong Form) = Counts n line × ((order : Order) → IsSaid state line order → ⊥)
+Means n state line (Wrong Form) = IsParsedLine n line × ((order : Order) → IsSaid state line order → ⊥)
 Means n state line (Wrong Range) =
-    Counts n line × ((order : Order) × IsSaid state line order × (IsInRange (block_count state) order → ⊥))
+    IsParsedLine n line × ((order : Order) × IsSaid state line order × (IsInRange (block_count state) order → ⊥))
 
 -- the name of a fault
 abbrev pub name_of : Why → List ℕ

@@ -2,10 +2,10 @@
 use Rattle.std.specs.Prelude.{◌≡◌, ℕ, List, Result, Ok, Err, Option, Some, None}
 use Rattle.script_exec.specs.declared.bench.Bench.{Bench}
 use Rattle.script_syntax.specs.Order.{Order}
-use Rattle.script_syntax.specs.Spelling.{Spells}
+use Rattle.script_syntax.specs.Spelling.{SpellsCommand}
 use Rattle.script_exec.specs.State.{State}
 use Rattle.script_exec.specs.Meaning.{IsSaid}
-use Rattle.script_exec.specs.Carrying.{IsAnswered, IsOut}
+use Rattle.script_exec.specs.Carrying.{IsExecuted, IsOut}
 use Rattle.script_exec.specs.declared.why.Failure.{Failure}
 use Rattle.script_exec.specs.declared.why.Failure.TheVariants as failure
 use Rattle.script_exec.specs.declared.why.Why.TheVariants as why
@@ -13,13 +13,13 @@ use Rattle.script_exec.specs.declared.why.Why.TheVariants as why
 -- the line's command was answered
 pub record IsReplied (state : State) (bench : Option Bench) (line old new : List ℕ) : Type 0 where
   pub order : Order
-  pub spells : Spells order line
-  pub answered : IsAnswered state bench order old new
+  pub spells : SpellsCommand order line
+  pub answered : IsExecuted state bench order old new
 
 -- a number of the line's command is out of its limits
 pub record IsBeyond (state : State) (line old new : List ℕ) : Type 0 where
   pub order : Order
-  pub spells : Spells order line
+  pub spells : SpellsCommand order line
   pub limits : IsOut state order old new
 
 -- the line spells no command that may come

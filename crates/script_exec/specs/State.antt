@@ -2,9 +2,9 @@
 use Rattle.std.specs.Prelude.{◌≡◌, ℕ, ◌<◌, ◌≤◌, List, [], Option, Some, None}
 use Rattle.std.specs.List.{All, AllByRecursion}
 use Rattle.map_join.specs.declared.records.Record.{Record}
-use Rattle.background.specs.Tiered.{Tiered}
+use Rattle.tiered_array.specs.Tiered.{Tiered}
 use Rattle.extents.specs.Sizes.{AreInRange}
-use Rattle.script_syntax.specs.Order.{Order, Number, Behind, Told, Members, behind_of, numbers_of, verb_of}
+use Rattle.script_syntax.specs.Order.{Order, Number, Following, Reported, Members, following_of, numbers_of, verb_of}
 use Rattle.script_syntax.specs.Order as o
 use Rattle.script_syntax.specs.Spelling.{IsSized}
 use Rattle.script_syntax.specs.declared.verb.Kind.{Kind}
@@ -31,9 +31,9 @@ block_count None = 0
 block_count (Some P) = P.tiers.flat.groups.blocks
 
 -- whether a command may come: the array once and first, every other one after it, and a payload of the array's length
-abbrev pub IsDue : State → Order → Type 0
-IsDue None order = verb_of order ≡ verb.Array
-IsDue (Some P) order = (verb_of order ≡ verb.Array → ⊥) × IsSized P.tiers.flat.groups.payload order
+abbrev pub IsAdmissible : State → Order → Type 0
+IsAdmissible None order = verb_of order ≡ verb.Array
+IsAdmissible (Some P) order = (verb_of order ≡ verb.Array → ⊥) × IsSized P.tiers.flat.groups.payload order
 
 -- the limit of each kind of number, with `count` blocks; sizes have theirs in `IsArrayInRange`
 abbrev pub IsKindInRange : ℕ → Kind → ℕ → Type 0
@@ -55,10 +55,10 @@ pub record IsMemberInRange (member : Named) : Type 0 where
   pub extent : IsKindInRange 0 kind.Extent member.extent
 
 -- what follows the numbers is within the limits: a record's block is one of the array's
-abbrev pub IsBehindInRange : ℕ → Behind → Type 0
-IsBehindInRange count (Told r) = IsKindInRange count kind.Block r.block
-IsBehindInRange count (Members level members) = All IsMemberInRange members
-IsBehindInRange count _ = Unit {0}
+abbrev pub IsFollowingInRange : ℕ → Following → Type 0
+IsFollowingInRange count (Reported r) = IsKindInRange count kind.Block r.block
+IsFollowingInRange count (Members level members) = All IsMemberInRange members
+IsFollowingInRange count _ = Unit {0}
 
 -- the number of drives and the sizes of an array within the limits
 pub record IsArrayInRange (drives extents segments payload blocks : ℕ) : Type 0 where
@@ -67,16 +67,16 @@ pub record IsArrayInRange (drives extents segments payload blocks : ℕ) : Type 
   pub limits : AreInRange extents segments payload blocks
 
 -- the numbers of `array` are within the limits of an array; other commands have no such rule
-abbrev pub IsFit : Order → Type 0
-IsFit (o.Array drives extents segments payload blocks) = IsArrayInRange drives extents segments payload blocks
-IsFit _ = Unit {0}
+abbrev pub IsInLimits : Order → Type 0
+IsInLimits (o.Array drives extents segments payload blocks) = IsArrayInRange drives extents segments payload blocks
+IsInLimits _ = Unit {0}
 
 -- each number of the command, and what follows them, is within the limits, with `count` blocks
 pub record IsWithin (count : ℕ) (order : Order) : Type 0 where
   pub numbers : AllByRecursion (IsNumberInRange count) (numbers_of order)
-  pub behind : IsBehindInRange count (behind_of order)
+  pub following : IsFollowingInRange count (following_of order)
 
 -- the command is within the limits
 pub record IsInRange (count : ℕ) (order : Order) : Type 0 where
   pub within : IsWithin count order
-  pub fit : IsFit order
+  pub fit : IsInLimits order

@@ -2,7 +2,7 @@
 use Rattle.std.specs.Prelude.{ℕ, List, [], ◌∷◌, ◌++◌, length, codes, decimal, Option, Some, None}
 use Rattle.hex.specs.Hex.{encode_lower}
 use Rattle.map_join.specs.declared.records.Record.{Record}
-use Rattle.map_join.specs.Record.{bytes_of}
+use Rattle.map_join.specs.Record.{record_bytes}
 use Rattle.flat_machine.specs.Flat.{Content, Payload, Trim}
 use Rattle.flat_machine.specs.Steps.{Version, Seen, FlatStep, FlatAnswer}
 use Rattle.flat_machine.specs.Steps as s
@@ -11,17 +11,17 @@ use Rattle.flat_machine.specs.declared.refusal.Refusal.{Refusal}
 use Rattle.flat_machine.specs.declared.refusal.Refusal.TheVariants as refusal
 use Rattle.extent_groups.specs.declared.class.Member.{Member}
 use Rattle.rebalancer.specs.declared.shift.Shift.{Shift}
-use Rattle.background.specs.declared.regrouped.Regrouped.{Regrouped}
-use Rattle.background.specs.declared.regrouped.Regrouped.TheVariants as regrouped
-use Rattle.background.specs.declared.outcome.Outcome.{Outcome}
-use Rattle.background.specs.declared.outcome.Outcome.TheVariants as outcome
+use Rattle.tiered_array.specs.declared.regrouped.Regrouped.{Regrouped}
+use Rattle.tiered_array.specs.declared.regrouped.Regrouped.TheVariants as regrouped
+use Rattle.tiered_array.specs.declared.outcome.Outcome.{Outcome}
+use Rattle.tiered_array.specs.declared.outcome.Outcome.TheVariants as outcome
 use Rattle.header_scan.specs.Numbers.{number_of as fault_number}
 use Rattle.header_scan.specs.declared.fault.ScanFault.{ScanFault}
 use Rattle.header_scan.specs.declared.fault.ScanFault.TheVariants as fault
 
 -- a record in hex digits
 abbrev pub record_text : Record → List ℕ
-record_text r = encode_lower (bytes_of r)
+record_text r = encode_lower (record_bytes r)
 
 -- a record, or the word for none
 abbrev pub record_or_none : Option Record → List ℕ
@@ -124,7 +124,7 @@ listing rs = decimal (length rs) ++ records_text rs
 abbrev pub fault_detail : ScanFault → List ℕ
 fault_detail fault.Memory = []
 fault_detail (fault.BadHeader slot) = codes " " ++ decimal slot
-fault_detail (fault.WrongSlot slot told) = codes " " ++ (decimal slot ++ (codes " " ++ decimal told))
+fault_detail (fault.WrongSlot slot reported) = codes " " ++ (decimal slot ++ (codes " " ++ decimal reported))
 fault_detail (fault.Twice block first second) =
     codes " " ++ (decimal block ++ (codes " " ++ (decimal first ++ (codes " " ++ decimal second))))
 fault_detail (fault.Gone slot) = codes " " ++ decimal slot

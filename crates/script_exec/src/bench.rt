@@ -3,9 +3,9 @@ ghost use Rattle.std.specs.Prelude.{◌≡◌};
 ghost use Rattle.script_exec.specs.State.{nothing_taken};
 ghost use Rattle.script_exec.specs.Carrying.{AreMapsOf};
 
-use background::Tiers;
 use map_join::BlockMap;
 use std::alloc::Global;
+use tiered_array::Tiers;
 
 /// The world of the array with what its plans keep, and next to it four block maps in which a script joins records.
 #[derive(Drop)]

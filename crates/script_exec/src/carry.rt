@@ -6,8 +6,8 @@ ghost use Rattle.script_exec.specs.Carrying.{Carries};
 ghost use Rattle.script_exec.specs.State.{IsMemberInRange, IsWithin};
 ghost use Rattle.script_exec.specs.Prefix.{IsPrefix};
 ghost use Rattle.script_syntax.specs.Order as o;
-ghost use Rattle.script_syntax.specs.Order.{order_of};
-ghost use Rattle.script_syntax.specs.Spelling.{IsWritten};
+ghost use Rattle.script_syntax.specs.Order.{command_order};
+ghost use Rattle.script_syntax.specs.Spelling.{IsVersioned};
 ghost use Rattle.std.specs.List.{All};
 
 use crate::bench::Bench;
@@ -24,7 +24,7 @@ use step_core::{Array, Class, Drive, Given, Hold};
 
 /// Whether the numbers of a command and what follows them are within the limits, with `blocks` blocks.
 pub fn is_in_range(command: &Command, blocks: u32) -> bool
-    ensures { (bytes : List ℕ) → IsTrue result ↔ IsWithin blocks (order_of «command».now bytes) }
+    ensures { (bytes : List ℕ) → IsTrue result ↔ IsWithin blocks (command_order «command».now bytes) }
 {
     let [first, second, third, ..] = command.numbers;
     match command.verb {
@@ -55,7 +55,8 @@ pub fn is_in_range(command: &Command, blocks: u32) -> bool
 }
 
 /// Carries out a command that is within the limits, and appends its answer. `payload` holds the payload of a fill or a
-/// write, and takes the payload of a block that is read. A restart is carried out by `restart`.
+/// write, and takes the payload of a block that is read. A restart is carried out by `restart`. Inlined, since one line calls it.
+#[inline(always)]
 pub fn carry_out(
     alloc: Global,
     bench: &mut Bench,
@@ -64,12 +65,12 @@ pub fn carry_out(
     out: &mut Vec<u8>,
 ) -> Result<(), AllocError>
     requires payload { length payload.old ≡ bench.old.tiers.world.array.parts.groups.payload }
-    requires written { IsWritten (order_of «command».now payload.old) }
+    requires written { IsVersioned (command_order «command».now payload.old) }
     requires later { «command».now.verb ≡ Verb.Array → ⊥ }
     requires stays { «command».now.verb ≡ Verb.Restart → ⊥ }
     requires blocks { bench.old.tiers.world.array.parts.groups.blocks < 2 ^ 32 }
-    requires range { IsWithin bench.old.tiers.world.array.parts.groups.blocks (order_of «command».now payload.old) }
-    ensures carried { OnOk result (Carries bench.old bench.new (order_of «command».now payload.old) out.old.items out.new.items) }
+    requires range { IsWithin bench.old.tiers.world.array.parts.groups.blocks (command_order «command».now payload.old) }
+    ensures carried { OnOk result (Carries bench.old bench.new (command_order «command».now payload.old) out.old.items out.new.items) }
     ensures kept { IsPrefix out.old.items out.new.items }
 {
     let [first, second, third, ..] = command.numbers;

@@ -134,7 +134,7 @@ pub fn show(
 
 // The answer to a record that was taken.
 fn put_took(out: &mut Vec<u8>, newest: &Record) -> Result<(), AllocError>
-    ensures told { OnOk result (out.new.items ≡ out.old.items ++ (codes "took " ++ record_text newest.now)) }
+    ensures reported { OnOk result (out.new.items ≡ out.old.items ++ (codes "took " ++ record_text newest.now)) }
     ensures kept { IsPrefix out.old.items out.new.items }
 {
     put(out, b"took ")?;

@@ -1,7 +1,7 @@
 //! A line that is read for its words, and the reply to it.
 ghost use Rattle.std.specs.Prelude.{◌≡◌, ◌≤◌, length, Some, None};
 ghost use Rattle.script_exec.specs.State.{State};
-ghost use Rattle.script_exec.specs.Carrying.{Stands, MakesBench};
+ghost use Rattle.script_exec.specs.Carrying.{MatchesState, MakesBench};
 ghost use Rattle.script_exec.specs.Replies.{Replies, Starts};
 ghost use Rattle.script_exec.specs.Prefix.{IsPrefix};
 ghost use Rattle.script_syntax.specs.Order as o;
@@ -12,10 +12,10 @@ use crate::limits::array_in_range;
 use crate::scans::restart;
 use crate::texts::put;
 use crate::why::{Failure, Why};
-use background::Tiers;
 use script_syntax::{Command, Verb, read_command};
 use std::alloc::Global;
 use step_core::World;
+use tiered_array::Tiers;
 
 /// Appends the answer to a line's command: the first one makes the array, and every later one is for the array or the maps.
 /// `payload` is a buffer for a payload that the line spells or that is read from a block.
@@ -27,7 +27,7 @@ pub fn reply(
     out: &mut Vec<u8>,
 ) -> Result<(), Failure>
     requires { 65536 ≤ length payload.old }
-    ensures replied { (state : State) → Stands bench.old state →
+    ensures replied { (state : State) → MatchesState bench.old state →
         Replies result state bench.new line.now out.old.items out.new.items }
     ensures kept { IsPrefix out.old.items out.new.items }
 {
@@ -61,7 +61,7 @@ fn start(
     out: &mut Vec<u8>,
 ) -> Result<(), Failure>
     requires { bench.old ≡ None }
-    ensures replied { (state : State) → Stands bench.old state →
+    ensures replied { (state : State) → MatchesState bench.old state →
         Replies result state bench.new line.now out.old.items out.new.items }
     ensures kept { IsPrefix out.old.items out.new.items }
 {

@@ -1,14 +1,14 @@
 //! Commands that read the headers of all slots. They leave the block maps as they are.
 ghost use Rattle.std.specs.Prelude.{IfOk, OnOk, Some};
 ghost use Rattle.script_exec.specs.State.{Position};
-ghost use Rattle.script_exec.specs.Carrying.{Carries, IsCarried, Stands};
+ghost use Rattle.script_exec.specs.Carrying.{Carries, IsCarried, MatchesState};
 ghost use Rattle.script_exec.specs.Prefix.{IsPrefix};
 ghost use Rattle.script_syntax.specs.Order as o;
 
 use crate::bench::Bench;
 use crate::texts::{put_fault, put_listing, put_numbered};
-use background::Tiers;
 use std::alloc::{AllocError, Global};
+use tiered_array::Tiers;
 
 /// Lists the map that the headers hold, or reports the first fault.
 pub fn scan(alloc: Global, bench: &mut Bench, out: &mut Vec<u8>) -> Result<(), AllocError>
@@ -33,20 +33,20 @@ pub fn restart(
     bench: &mut Option<Bench>,
     out: &mut Vec<u8>,
 ) -> Result<(), AllocError>
-    ensures carried { OnOk result ((P : Position) → Stands bench.old (Some P) →
+    ensures carried { OnOk result ((P : Position) → MatchesState bench.old (Some P) →
         IsCarried (Some P) bench.new o.Restart out.old.items out.new.items) }
     ensures kept { IsPrefix out.old.items out.new.items }
 {
     let Some(before) = bench.take() else {
         return Err(AllocError)
     };
-    let after = made_anew(alloc, before, out)?;
+    let after = made_afresh(alloc, before, out)?;
     *bench = Some(after);
     Ok(())
 }
 
 // The bench with its array rebuilt.
-fn made_anew(alloc: Global, bench: Bench, out: &mut Vec<u8>) -> Result<Bench, AllocError>
+fn made_afresh(alloc: Global, bench: Bench, out: &mut Vec<u8>) -> Result<Bench, AllocError>
     ensures carried { IfOk result (λ after. Carries bench after o.Restart out.old.items out.new.items) }
     ensures kept { IsPrefix out.old.items out.new.items }
 {

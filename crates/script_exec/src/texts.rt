@@ -1,13 +1,12 @@
 //! The texts of answers, appended to a buffer.
-ghost use Rattle.std.specs.Prelude.{◌≡◌, ◌≢◌, ◌%◌, ◌∷◌, ◌++◌, OnOk, codes, decimal, length, Some, None};
+ghost use Rattle.std.specs.Prelude.{◌≡◌, ◌≢◌, ◌≤◌, ◌∷◌, ◌++◌, [], OnOk, codes, decimal, length, Some, None};
 ghost use Rattle.hex.specs.Hex.{encode_lower};
-ghost use Rattle.step_core.specs.Told.{read_answer, flat_answer, seen_of};
+ghost use Rattle.step_core.specs.Reported.{read_answer, flat_answer, seen_of};
 ghost use Rattle.script_exec.specs.Text.{answer_text, data_text, detail, difference_text, fault_detail, fault_text, header_text};
 ghost use Rattle.script_exec.specs.Text.{outcome_text, regrouped_text, shift_text, seen_text, listing, record_text};
 ghost use Rattle.script_exec.specs.Prefix.{IsPrefix};
 ghost use Rattle.flat_machine.specs.Steps as s;
 
-use background::{Outcome, Regrouped};
 use header_scan::ScanFault;
 use hex_lanes::encode_hex;
 use itoa::Buffer;
@@ -15,12 +14,13 @@ use map_join::Record;
 use rebalancer::Shift;
 use std::alloc::AllocError;
 use step_core::{Answer, At, Refusal};
+use tiered_array::{Outcome, Regrouped};
 
 /// How many bytes are encoded in hex in one step.
 const STEP: usize = 8;
 
-/// The most bytes that are encoded step by step.
-const MOST_STEPPED: usize = 64;
+/// The most bytes that are encoded aside, and appended by one call.
+const MOST_SHORT: usize = 64;
 
 /// The bytes of a record.
 const RECORD_BYTES: usize = 12;
@@ -31,9 +31,12 @@ const STEPPED_BYTES: usize = 16;
 /// The digits of a record in hex.
 const RECORD_DIGITS: usize = 24;
 
+/// The bytes of the word before an emitted record, and a space.
+const EMITTED_WORD: usize = 7;
+
 /// Appends a text unchanged.
 pub fn put(out: &mut Vec<u8>, text: &[u8]) -> Result<(), AllocError>
-    ensures told { OnOk result (out.new.items ≡ out.old.items ++ text.now) }
+    ensures reported { OnOk result (out.new.items ≡ out.old.items ++ text.now) }
     ensures kept { IsPrefix out.old.items out.new.items }
 {
     out.extend_from_slice(text)
@@ -41,7 +44,7 @@ pub fn put(out: &mut Vec<u8>, text: &[u8]) -> Result<(), AllocError>
 
 /// Appends a number in decimal.
 pub fn put_number(out: &mut Vec<u8>, number: u64) -> Result<(), AllocError>
-    ensures told { OnOk result (out.new.items ≡ out.old.items ++ decimal number) }
+    ensures reported { OnOk result (out.new.items ≡ out.old.items ++ decimal number) }
     ensures kept { IsPrefix out.old.items out.new.items }
 {
     let mut buffer = Buffer::new();
@@ -50,10 +53,13 @@ pub fn put_number(out: &mut Vec<u8>, number: u64) -> Result<(), AllocError>
 
 /// Appends bytes in hex.
 pub fn put_hex(out: &mut Vec<u8>, bytes: &[u8]) -> Result<(), AllocError>
-    ensures told { OnOk result (out.new.items ≡ out.old.items ++ encode_lower bytes.now) }
+    ensures reported { OnOk result (out.new.items ≡ out.old.items ++ encode_lower bytes.now) }
     ensures kept { IsPrefix out.old.items out.new.items }
 {
-    if bytes.len() <= MOST_STEPPED && bytes.len() % STEP == 0 {
+    if bytes.len() == STEP {
+        return put_step(out, bytes);
+    }
+    if bytes.len() <= MOST_SHORT {
         return put_short_hex(out, bytes);
     }
     let start = out.len();
@@ -65,24 +71,11 @@ pub fn put_hex(out: &mut Vec<u8>, bytes: &[u8]) -> Result<(), AllocError>
     Ok(())
 }
 
-// Appends a few whole steps of bytes in hex, without filling the buffer with zeros first.
-fn put_short_hex(out: &mut Vec<u8>, bytes: &[u8]) -> Result<(), AllocError>
-    requires { length bytes.now % 8 ≡ 0 }
-    ensures told { OnOk result (out.new.items ≡ out.old.items ++ encode_lower bytes.now) }
-    ensures kept { IsPrefix out.old.items out.new.items }
-{
-    for step in 0..bytes.len() / STEP {
-        let at = STEP * step;
-        put_step(out, &bytes[at..at + STEP])?;
-    }
-    Ok(())
-}
-
 // Appends one step of bytes in hex.
 #[inline(always)]
 fn put_step(out: &mut Vec<u8>, bytes: &[u8]) -> Result<(), AllocError>
     requires { length bytes.now ≡ 8 }
-    ensures told { OnOk result (out.new.items ≡ out.old.items ++ encode_lower bytes.now) }
+    ensures reported { OnOk result (out.new.items ≡ out.old.items ++ encode_lower bytes.now) }
     ensures kept { IsPrefix out.old.items out.new.items }
 {
     let mut digits = [0; 2 * STEP];
@@ -90,9 +83,21 @@ fn put_step(out: &mut Vec<u8>, bytes: &[u8]) -> Result<(), AllocError>
     put(out, &digits)
 }
 
+// Appends a few bytes in hex, without filling the output with zeros first.
+fn put_short_hex(out: &mut Vec<u8>, bytes: &[u8]) -> Result<(), AllocError>
+    requires { length bytes.now ≤ 64 }
+    ensures reported { OnOk result (out.new.items ≡ out.old.items ++ encode_lower bytes.now) }
+    ensures kept { IsPrefix out.old.items out.new.items }
+{
+    let mut digits = [0; 2 * MOST_SHORT];
+    let digits = &mut digits[..2 * bytes.len()];
+    encode_hex(bytes, digits);
+    put(out, digits)
+}
+
 /// Appends a record in hex.
 pub fn put_record(out: &mut Vec<u8>, record: &Record) -> Result<(), AllocError>
-    ensures told { OnOk result (out.new.items ≡ out.old.items ++ record_text «record».now) }
+    ensures reported { OnOk result (out.new.items ≡ out.old.items ++ record_text «record».now) }
     ensures kept { IsPrefix out.old.items out.new.items }
 {
     // Two whole steps take less time than one and the digits of four single bytes.
@@ -106,7 +111,7 @@ pub fn put_record(out: &mut Vec<u8>, record: &Record) -> Result<(), AllocError>
 // Appends a space and a record in hex by one call, since listings have thousands of records.
 #[inline(always)]
 fn put_listed(out: &mut Vec<u8>, record: &Record) -> Result<(), AllocError>
-    ensures told { OnOk result (out.new.items ≡ out.old.items ++ (32 ∷ record_text «record».now)) }
+    ensures reported { OnOk result (out.new.items ≡ out.old.items ++ (32 ∷ record_text «record».now)) }
     ensures kept { IsPrefix out.old.items out.new.items }
 {
     let mut bytes = [0; STEPPED_BYTES];
@@ -118,7 +123,7 @@ fn put_listed(out: &mut Vec<u8>, record: &Record) -> Result<(), AllocError>
 
 /// Appends a word and a number in decimal.
 pub fn put_numbered(out: &mut Vec<u8>, word: &[u8], number: u64) -> Result<(), AllocError>
-    ensures told { OnOk result (out.new.items ≡ out.old.items ++ (word.now ++ decimal number)) }
+    ensures reported { OnOk result (out.new.items ≡ out.old.items ++ (word.now ++ decimal number)) }
     ensures kept { IsPrefix out.old.items out.new.items }
 {
     put(out, word)?;
@@ -127,12 +132,24 @@ pub fn put_numbered(out: &mut Vec<u8>, word: &[u8], number: u64) -> Result<(), A
 
 // Appends a version and its payload in hex.
 fn put_data(out: &mut Vec<u8>, version: u32, payload: &[u8]) -> Result<(), AllocError>
-    ensures told { OnOk result (out.new.items ≡ out.old.items ++ data_text version payload.now) }
+    ensures reported { OnOk result (out.new.items ≡ out.old.items ++ data_text version payload.now) }
     ensures kept { IsPrefix out.old.items out.new.items }
 {
-    put_numbered(out, b"data ", u64::from(version))?;
-    out.push(b' ')?;
+    put_version(out, version)?;
     put_hex(out, payload)
+}
+
+// Appends the word before a payload, a version and a space: by one call where the version has one digit, as most have.
+fn put_version(out: &mut Vec<u8>, version: u32) -> Result<(), AllocError>
+    ensures reported { OnOk result (out.new.items ≡ out.old.items ++ (codes "data " ++ (decimal version ++ (32 ∷ [])))) }
+    ensures kept { IsPrefix out.old.items out.new.items }
+{
+    if version < 10 {
+        let digit = b'0' + version as u8;
+        return put(out, &[b'd', b'a', b't', b'a', b' ', digit, b' ']);
+    }
+    put_numbered(out, b"data ", u64::from(version))?;
+    Ok(out.push(b' ')?)
 }
 
 /// Appends what a read of a block into a buffer returned.
@@ -141,7 +158,7 @@ pub fn put_found(
     found: Result<Option<u32>, Refusal>,
     payload: &[u8],
 ) -> Result<(), AllocError>
-    ensures told { OnOk result (out.new.items ≡ out.old.items ++ answer_text 0 (read_answer found payload.now)) }
+    ensures reported { OnOk result (out.new.items ≡ out.old.items ++ answer_text 0 (read_answer found payload.now)) }
     ensures kept { IsPrefix out.old.items out.new.items }
 {
     match found {
@@ -153,7 +170,7 @@ pub fn put_found(
 
 // Appends what was found at the place of a record of this version.
 fn put_seen(out: &mut Vec<u8>, version: u32, seen: &At) -> Result<(), AllocError>
-    ensures told { OnOk result (out.new.items ≡ out.old.items ++ seen_text version (seen_of seen.now)) }
+    ensures reported { OnOk result (out.new.items ≡ out.old.items ++ seen_text version (seen_of seen.now)) }
     ensures kept { IsPrefix out.old.items out.new.items }
 {
     match seen {
@@ -166,7 +183,7 @@ fn put_seen(out: &mut Vec<u8>, version: u32, seen: &At) -> Result<(), AllocError
 
 // Appends the header that was found at a record's place instead of the record's own.
 fn put_header(out: &mut Vec<u8>, header: &Record) -> Result<(), AllocError>
-    ensures told { OnOk result (out.new.items ≡ out.old.items ++ (codes "stale " ++ header_text header.now)) }
+    ensures reported { OnOk result (out.new.items ≡ out.old.items ++ (codes "stale " ++ header_text header.now)) }
     ensures kept { IsPrefix out.old.items out.new.items }
 {
     put_numbered(out, b"stale ", u64::from(header.block))?;
@@ -177,7 +194,7 @@ fn put_header(out: &mut Vec<u8>, header: &Record) -> Result<(), AllocError>
 
 /// Appends the answer to a step. `asked` is the version that is printed with the content found at a record's place.
 pub fn put_answer(out: &mut Vec<u8>, answer: &Answer, asked: u32) -> Result<(), AllocError>
-    ensures told { OnOk result (out.new.items ≡ out.old.items ++ answer_text asked (flat_answer answer.now)) }
+    ensures reported { OnOk result (out.new.items ≡ out.old.items ++ answer_text asked (flat_answer answer.now)) }
     ensures kept { IsPrefix out.old.items out.new.items }
 {
     match answer {
@@ -203,7 +220,7 @@ pub fn put_answer(out: &mut Vec<u8>, answer: &Answer, asked: u32) -> Result<(), 
 
 /// Appends the outcome of a step by a plan.
 pub fn put_outcome(out: &mut Vec<u8>, outcome: Outcome) -> Result<(), AllocError>
-    ensures told { OnOk result (out.new.items ≡ out.old.items ++ outcome_text outcome) }
+    ensures reported { OnOk result (out.new.items ≡ out.old.items ++ outcome_text outcome) }
     ensures kept { IsPrefix out.old.items out.new.items }
 {
     match outcome {
@@ -216,7 +233,7 @@ pub fn put_outcome(out: &mut Vec<u8>, outcome: Outcome) -> Result<(), AllocError
 
 /// Appends the outcome of a shift by a plan.
 pub fn put_regrouped(out: &mut Vec<u8>, outcome: Regrouped) -> Result<(), AllocError>
-    ensures told { OnOk result (out.new.items ≡ out.old.items ++ regrouped_text outcome) }
+    ensures reported { OnOk result (out.new.items ≡ out.old.items ++ regrouped_text outcome) }
     ensures kept { IsPrefix out.old.items out.new.items }
 {
     match outcome {
@@ -228,7 +245,7 @@ pub fn put_regrouped(out: &mut Vec<u8>, outcome: Regrouped) -> Result<(), AllocE
 
 // Appends a shift: the group, the number of its member, and the extent that the member was moved onto.
 fn put_shift(out: &mut Vec<u8>, shift: Shift) -> Result<(), AllocError>
-    ensures told { OnOk result (out.new.items ≡ out.old.items ++ shift_text shift) }
+    ensures reported { OnOk result (out.new.items ≡ out.old.items ++ shift_text shift) }
     ensures kept { IsPrefix out.old.items out.new.items }
 {
     put_numbered(out, b"moved ", u64::from(shift.group))?;
@@ -239,16 +256,20 @@ fn put_shift(out: &mut Vec<u8>, shift: Shift) -> Result<(), AllocError>
 
 // Appends a record that was emitted.
 fn put_emitted(out: &mut Vec<u8>, record: &Record) -> Result<(), AllocError>
-    ensures told { OnOk result (out.new.items ≡ out.old.items ++ answer_text 0 (s.Committed «record».now)) }
+    ensures reported { OnOk result (out.new.items ≡ out.old.items ++ answer_text 0 (s.Committed «record».now)) }
     ensures kept { IsPrefix out.old.items out.new.items }
 {
-    put(out, b"record ")?;
-    put_record(out, record)
+    // By one call: a commit's answer is the record alone.
+    let mut bytes = [0; STEPPED_BYTES];
+    bytes[..RECORD_BYTES].copy_from_slice(&record.to_bytes());
+    let mut text = *b"record                                 ";
+    encode_hex(&bytes, &mut text[EMITTED_WORD..]);
+    put(out, &text[..EMITTED_WORD + RECORD_DIGITS])
 }
 
 /// Appends a refusal: its number, and what it names.
 fn put_refusal(out: &mut Vec<u8>, refusal: &Refusal) -> Result<(), AllocError>
-    ensures told { OnOk result (out.new.items ≡ out.old.items ++ answer_text 0 (s.Refused refusal.now)) }
+    ensures reported { OnOk result (out.new.items ≡ out.old.items ++ answer_text 0 (s.Refused refusal.now)) }
     ensures kept { IsPrefix out.old.items out.new.items }
 {
     put_numbered(out, b"refused ", u64::from(refusal.number()))?;
@@ -257,7 +278,7 @@ fn put_refusal(out: &mut Vec<u8>, refusal: &Refusal) -> Result<(), AllocError>
 
 // Appends the record, the slot or the drive that a refusal names.
 fn put_detail(out: &mut Vec<u8>, refusal: &Refusal) -> Result<(), AllocError>
-    ensures told { OnOk result (out.new.items ≡ out.old.items ++ detail refusal.now) }
+    ensures reported { OnOk result (out.new.items ≡ out.old.items ++ detail refusal.now) }
     ensures kept { IsPrefix out.old.items out.new.items }
 {
     match refusal {
@@ -274,7 +295,7 @@ fn put_detail(out: &mut Vec<u8>, refusal: &Refusal) -> Result<(), AllocError>
 
 /// Appends a scan's fault: its number, and what it names. Out of memory has no text: it is an `AllocError`.
 pub fn put_fault(out: &mut Vec<u8>, fault: &ScanFault) -> Result<(), AllocError>
-    ensures told { OnOk result (out.new.items ≡ out.old.items ++ fault_text fault.now) }
+    ensures reported { OnOk result (out.new.items ≡ out.old.items ++ fault_text fault.now) }
     ensures memory { OnOk result (fault.now ≢ ScanFault.Memory) }
     ensures kept { IsPrefix out.old.items out.new.items }
 {
@@ -287,7 +308,7 @@ pub fn put_fault(out: &mut Vec<u8>, fault: &ScanFault) -> Result<(), AllocError>
 
 // Appends the slots and the block that a scan's fault names.
 fn put_fault_detail(out: &mut Vec<u8>, fault: &ScanFault) -> Result<(), AllocError>
-    ensures told { OnOk result (out.new.items ≡ out.old.items ++ fault_detail fault.now) }
+    ensures reported { OnOk result (out.new.items ≡ out.old.items ++ fault_detail fault.now) }
     ensures kept { IsPrefix out.old.items out.new.items }
 {
     match fault {
@@ -296,9 +317,9 @@ fn put_fault_detail(out: &mut Vec<u8>, fault: &ScanFault) -> Result<(), AllocErr
         | ScanFault::Gone(slot)
         | ScanFault::NoClaim(slot)
         | ScanFault::BadNote(slot) => { put_numbered(out, b" ", u64::from(*slot)) }
-        ScanFault::WrongSlot(slot, told) => {
+        ScanFault::WrongSlot(slot, reported) => {
             put_numbered(out, b" ", u64::from(*slot))?;
-            put_numbered(out, b" ", u64::from(*told))
+            put_numbered(out, b" ", u64::from(*reported))
         }
         ScanFault::Twice(block, first, second) => {
             put_numbered(out, b" ", u64::from(*block))?;
@@ -310,7 +331,7 @@ fn put_fault_detail(out: &mut Vec<u8>, fault: &ScanFault) -> Result<(), AllocErr
 
 /// Appends the lowest block of which two maps differ, or that they are the same.
 pub fn put_difference(out: &mut Vec<u8>, lowest: Option<u32>) -> Result<(), AllocError>
-    ensures told { OnOk result (out.new.items ≡ out.old.items ++ difference_text lowest) }
+    ensures reported { OnOk result (out.new.items ≡ out.old.items ++ difference_text lowest) }
     ensures kept { IsPrefix out.old.items out.new.items }
 {
     match lowest {
@@ -321,7 +342,7 @@ pub fn put_difference(out: &mut Vec<u8>, lowest: Option<u32>) -> Result<(), Allo
 
 /// Appends a word, the number of records, and the records in hex.
 pub fn put_listing(out: &mut Vec<u8>, word: &[u8], records: &[Record]) -> Result<(), AllocError>
-    ensures told { OnOk result (out.new.items ≡ out.old.items ++ (word.now ++ listing records.now)) }
+    ensures reported { OnOk result (out.new.items ≡ out.old.items ++ (word.now ++ listing records.now)) }
     ensures kept { IsPrefix out.old.items out.new.items }
 {
     put_numbered(out, word, records.len() as u64)?;

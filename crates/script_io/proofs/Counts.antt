@@ -7,9 +7,9 @@ use Rattle.script_io.specs.Feeding.{IsScript, most_left}
 use Rattle.script_io.specs.declared.script.Script.{Script}
 
 -- a line of the chunk was read
-pub line_read : (old mid new chunk rest part behind : ℕ) → mid + chunk ≤ old + rest → new + (part + 1) ≤ mid
-    → rest ≡ part + suc behind → new + chunk ≤ old + behind
-line_read old mid new chunk rest part behind along ended cut = omega (arith, along, ended, cut)
+pub line_read : (old mid new chunk rest part following : ℕ) → mid + chunk ≤ old + rest → new + (part + 1) ≤ mid
+    → rest ≡ part + suc following → new + chunk ≤ old + following
+line_read old mid new chunk rest part following along ended cut = omega (arith, along, ended, cut)
 
 -- the rest of the chunk was read
 pub rest_read : {E : Type 0} (r : Result (Unit {0}) E) (old mid new chunk rest : ℕ) → mid + chunk ≤ old + rest → OnOk r (new + rest ≤ mid)

@@ -5,9 +5,9 @@ use Rattle.std.specs.Io.KnownBytes.{Appends, Consumes, IsAtEnd}
 use Rattle.std.proofs.KnownBytes.{Appends-trans}
 use Rattle.script_io.specs.Opens.{AreLines}
 use Rattle.script_exec.specs.State.{State}
-use Rattle.script_exec.specs.Carrying.{Stands}
-use Rattle.script_io.specs.Says.{Says, Tells, lines_of}
-use Rattle.script_io.specs.Feeding.{IsCut, Leads, Left}
+use Rattle.script_exec.specs.Carrying.{MatchesState}
+use Rattle.script_io.specs.Says.{Says, IsTranscript, lines_of}
+use Rattle.script_io.specs.Feeding.{IsCut, Advances, Left}
 use Rattle.script_io.specs.Turns.{AllSaid, Concludes, GoesOn, IsAllSaid, IsFronted, IsPartSaid, IsPartWritten, PartSaid, SaysBy, TurnsTo, end_of}
 use Rattle.script_io.specs.declared.end.End.{End}
 use Rattle.script_io.specs.declared.end.End.TheVariants as end
@@ -15,22 +15,22 @@ use Rattle.script_io.specs.declared.halt.Halt.{Halt}
 use Rattle.script_io.specs.declared.halt.Halt.TheVariants as halt
 use Rattle.script_io.specs.declared.script.Script.{Script}
 use Rattle.script_io.proofs.Opens.{count_more, lines_more, text_join, text_more}
-use Rattle.script_io.proofs.Feeds.{cut_behind, cut_more, leads_left, leads_more}
+use Rattle.script_io.proofs.Feeds.{cut_following, cut_more, leads_left, leads_more}
 
 -- whole lines before a prefix of the rest
-ends_behind : (whole front rest : List ℕ) → AreLines whole → AreLines front ⊎ (rest ≡ []) → AreLines (whole ++ front) ⊎ (rest ≡ [])
-ends_behind whole front rest lines (inl more) = inl (lines_more whole front lines more)
-ends_behind whole front rest lines (inr none) = inr none
+ends_following : (whole front rest : List ℕ) → AreLines whole → AreLines front ⊎ (rest ≡ []) → AreLines (whole ++ front) ⊎ (rest ≡ [])
+ends_following whole front rest lines (inl more) = inl (lines_more whole front lines more)
+ends_following whole front rest lines (inr none) = inr none
 
-fronted_behind : (n : ℕ) (state : State) (text whole out : List ℕ) (m : ℕ) (next : State) (rest told : List ℕ) → AreLines whole
-    → Leads n state whole out m next → text ≡ whole ++ rest → IsFronted m next rest told → IsFronted n state text (out ++ told)
-fronted_behind n state text whole out m next rest told lines leads is f = record {
+fronted_following : (n : ℕ) (state : State) (text whole out : List ℕ) (m : ℕ) (next : State) (rest reported : List ℕ) → AreLines whole
+    → Advances n state whole out m next → text ≡ whole ++ rest → IsFronted m next rest reported → IsFronted n state text (out ++ reported)
+fronted_following n state text whole out m next rest reported lines leads is f = record {
   front = whole ++ f.front;
   rest = f.rest;
   text_is = text_join text whole rest f.front f.rest is f.text_is;
-  ends = ends_behind whole f.front f.rest lines f.ends;
+  ends = ends_following whole f.front f.rest lines f.ends;
   last = f.last;
-  told = leads f.front told f.last f.told;
+  reported = leads f.front reported f.last f.reported;
 }
 
 -- a reader that is at its end gave all
@@ -58,11 +58,11 @@ turn_closed (halt.WriteBroke broke) before after buffer old state new held now c
 pub turn_on : (result : Option Halt) (before after : Option (List ℕ)) (chunk : List ℕ) (old : Script) (state : State) (new : Script)
     (held now : Option (List ℕ)) → Consumes before after chunk → GoesOn result old state new chunk held now
     → TurnsTo result before after old state new held now
-turn_on None None after chunk old state new held now consumed on = (on.next, on.stands)
+turn_on None None after chunk old state new held now consumed on = (on.next, on.matches)
 turn_on None (Some xs) None chunk old state new held now consumed on = absurd consumed
 turn_on None (Some xs) (Some ys) chunk old state new held now consumed on = record {
   next = on.next;
-  stands = on.stands;
+  matches = on.matches;
   whole = on.whole;
   lines = on.lines;
   text_is = rw consumed (text_more old.line.items chunk on.whole new.line.items [] ys on.text_is);
@@ -79,7 +79,7 @@ turn_on (Some halt.Fault) (Some xs) None chunk old state new held now consumed o
 turn_on (Some halt.Fault) (Some xs) (Some ys) chunk old state new held now consumed on = record {
   out = on.bytes;
   wrote = on.wrote;
-  told = rw consumed (on.told ys);
+  reported = rw consumed (on.reported ys);
 }
 turn_on (Some halt.Memory) None after chunk old state new held now consumed on = tt
 turn_on (Some halt.Memory) (Some xs) None chunk old state new held now consumed on = absurd consumed
@@ -106,7 +106,7 @@ join_parts : (xs ys zs : List ℕ) (old : Script) (state : State) (mid new : Scr
     (a : IsPartSaid old state mid xs ys held wrote) → IsPartSaid mid a.next new ys zs wrote now → IsPartSaid old state new xs zs held now
 join_parts xs ys zs old state mid new held wrote now a b = record {
   next = b.next;
-  stands = b.stands;
+  matches = b.matches;
   whole = a.whole ++ b.whole;
   lines = lines_more a.whole b.whole a.lines b.lines;
   text_is = text_join (old.line.items ++ xs) a.whole (mid.line.items ++ ys) b.whole (new.line.items ++ zs) a.text_is b.text_is;
@@ -120,9 +120,9 @@ join_parts xs ys zs old state mid new held wrote now a b = record {
 }
 
 -- bytes that were written, and then a part of others, are a part of both together
-part_behind : (held wrote now : Option (List ℕ)) (first second : List ℕ) → Appends held wrote first → IsPartWritten wrote now second
+part_following : (held wrote now : Option (List ℕ)) (first second : List ℕ) → Appends held wrote first → IsPartWritten wrote now second
     → IsPartWritten held now (first ++ second)
-part_behind held wrote now first second appended part = record {
+part_following held wrote now first second appended part = record {
   written = first ++ part.written;
   unwritten = part.unwritten;
   bytes_is = ap (λ xs. first ++ xs) part.bytes_is ∙ sym (append_assoc first part.written part.unwritten);
@@ -136,9 +136,9 @@ join_said : (xs ys : List ℕ) (old : Script) (state : State) (mid : Script) (he
 join_said xs ys old state mid held wrote now last a b = record {
   out = a.bytes ++ b.out;
   wrote = Appends-trans held wrote now a.bytes b.out a.wrote b.wrote;
-  told =
+  reported =
       leads_left old.number state (old.line.items ++ xs) a.whole a.bytes mid.number a.next (mid.line.items ++ ys) b.out last
-      a.leads a.text_is b.told;
+      a.leads a.text_is b.reported;
 }
 
 join_all : (last : Halt) (xs ys : List ℕ) (old : Script) (state : State) (mid : Script) (held wrote now : Option (List ℕ))
@@ -149,14 +149,14 @@ join_all halt.Memory xs ys old state mid held wrote now a b = record {
   bytes = a.bytes ++ b.bytes;
   wrote = Appends-trans held wrote now a.bytes b.bytes a.wrote b.wrote;
   cut =
-      cut_behind old.number state (old.line.items ++ xs) a.whole a.bytes mid.number a.next (mid.line.items ++ ys) b.bytes
+      cut_following old.number state (old.line.items ++ xs) a.whole a.bytes mid.number a.next (mid.line.items ++ ys) b.bytes
       a.lines a.leads a.text_is b.cut;
 }
 join_all (halt.WriteBroke broke) xs ys old state mid held wrote now a b = record {
   bytes = a.bytes ++ b.bytes;
-  part = part_behind held wrote now a.bytes b.bytes a.wrote b.part;
+  part = part_following held wrote now a.bytes b.bytes a.wrote b.part;
   fronted =
-      fronted_behind old.number state (old.line.items ++ xs) a.whole a.bytes mid.number a.next (mid.line.items ++ ys) b.bytes
+      fronted_following old.number state (old.line.items ++ xs) a.whole a.bytes mid.number a.next (mid.line.items ++ ys) b.bytes
       a.lines a.leads a.text_is b.fronted;
 }
 join_all (halt.ReadBroke broke) xs ys old state mid held wrote now a b = absurd b
@@ -164,27 +164,27 @@ join_all (halt.ReadBroke broke) xs ys old state mid held wrote now a b = absurd 
 -- parts after a part
 parts_join : (before mid_in after : Option (List ℕ)) (old : Script) (state : State) (mid new : Script) (held wrote now : Option (List ℕ))
     → PartSaid before mid_in old state mid held wrote
-    → ((s : State) → Stands mid.bench s → PartSaid mid_in after mid s new wrote now) → PartSaid before after old state new held now
+    → ((s : State) → MatchesState mid.bench s → PartSaid mid_in after mid s new wrote now) → PartSaid before after old state new held now
 parts_join None None after old state mid new held wrote now a b = let c = b a.0 a.1 in (c.0, c.1)
 parts_join None (Some ys) None old state mid new held wrote now a b = absurd (b a.0 a.1)
-parts_join None (Some ys) (Some zs) old state mid new held wrote now a b = let c = b a.0 a.1 in (c.next, c.stands)
+parts_join None (Some ys) (Some zs) old state mid new held wrote now a b = let c = b a.0 a.1 in (c.next, c.matches)
 parts_join (Some xs) None after old state mid new held wrote now a b = absurd a
-parts_join (Some xs) (Some ys) None old state mid new held wrote now a b = absurd (b a.next a.stands)
+parts_join (Some xs) (Some ys) None old state mid new held wrote now a b = absurd (b a.next a.matches)
 parts_join (Some xs) (Some ys) (Some zs) old state mid new held wrote now a b =
-    join_parts xs ys zs old state mid new held wrote now a (b a.next a.stands)
+    join_parts xs ys zs old state mid new held wrote now a (b a.next a.matches)
 
 all_join : (last : Halt) (before mid_in : Option (List ℕ)) (old : Script) (state : State) (mid : Script) (held wrote now : Option (List ℕ))
     → PartSaid before mid_in old state mid held wrote
-    → ((s : State) → Stands mid.bench s → AllSaid last mid_in mid s wrote now) → AllSaid last before old state held now
+    → ((s : State) → MatchesState mid.bench s → AllSaid last mid_in mid s wrote now) → AllSaid last before old state held now
 all_join last None mid_in old state mid held wrote now a b = tt
 all_join last (Some xs) None old state mid held wrote now a b = absurd a
 all_join last (Some xs) (Some ys) old state mid held wrote now a b =
-    join_all last xs ys old state mid held wrote now a (b a.next a.stands)
+    join_all last xs ys old state mid held wrote now a (b a.next a.matches)
 
 -- a turn after turns
 pub turn_after : (result : Option Halt) (before mid_in after : Option (List ℕ)) (old : Script) (state : State) (mid new : Script)
     (held wrote now : Option (List ℕ)) → PartSaid before mid_in old state mid held wrote
-    → ((s : State) → Stands mid.bench s → TurnsTo result mid_in after mid s new wrote now) → TurnsTo result before after old state new held now
+    → ((s : State) → MatchesState mid.bench s → TurnsTo result mid_in after mid s new wrote now) → TurnsTo result before after old state new held now
 turn_after None before mid_in after old state mid new held wrote now a b = parts_join before mid_in after old state mid new held wrote now a b
 turn_after (Some (halt.ReadBroke broke)) before mid_in after old state mid new held wrote now a b =
     parts_join before mid_in after old state mid new held wrote now a b
@@ -198,8 +198,8 @@ turn_after (Some (halt.WriteBroke broke)) before mid_in after old state mid new 
 said_of : (script : List ℕ) (start : Script) (held now : Option (List ℕ)) (last : End) → start.number ≡ 1 → start.line.items ≡ []
     → IsAllSaid start None script held now last → (out : List ℕ) × Appends held now out × Says script out last
 said_of script start held now last number line said =
-    let told : Left start.number None start.line.items script said.out last = said.told in
-    (said.out, said.wrote, rw (number, line) at told)
+    let reported : Left start.number None start.line.items script said.out last = said.reported in
+    (said.out, said.wrote, rw (number, line) at reported)
 
 -- a text after no open line
 at_start : (line script text : List ℕ) → line ≡ [] → line ++ script ≡ text → script ≡ text
@@ -221,7 +221,7 @@ run_said halt.Memory (Some xs) after start new held now number line turned =
       lines = cut.lines;
       out = turned.bytes;
       wrote = turned.wrote;
-      says = let told : Tells start.number None (lines_of cut.whole) turned.bytes end.Whole = cut.told in rw number at told;
+      says = let reported : IsTranscript start.number None (lines_of cut.whole) turned.bytes end.Whole = cut.reported in rw number at reported;
     }
 run_said (halt.WriteBroke broke) (Some xs) after start new held now number line turned =
     let f = turned.fronted in record {
@@ -231,7 +231,7 @@ run_said (halt.WriteBroke broke) (Some xs) after start new held now number line 
       ends = f.ends;
       out = turned.bytes;
       last = f.last;
-      says = let told : Tells start.number None (lines_of f.front) turned.bytes f.last = f.told in rw number at told;
+      says = let reported : IsTranscript start.number None (lines_of f.front) turned.bytes f.last = f.reported in rw number at reported;
       part = turned.part;
     }
 run_said (halt.ReadBroke broke) (Some xs) None start new held now number line turned = absurd turned
@@ -248,7 +248,7 @@ run_said (halt.ReadBroke broke) (Some xs) (Some ys) start new held now number li
   out = turned.bytes;
   wrote = turned.wrote;
   says =
-      let told : Tells start.number None (lines_of (turned.whole ++ [])) (turned.bytes ++ []) end.Whole =
+      let reported : IsTranscript start.number None (lines_of (turned.whole ++ [])) (turned.bytes ++ []) end.Whole =
       turned.leads [] [] end.Whole (refl, refl) in
-      rw (number, append-nil turned.whole, append-nil turned.bytes) at told;
+      rw (number, append-nil turned.whole, append-nil turned.bytes) at reported;
 }

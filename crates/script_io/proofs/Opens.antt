@@ -3,7 +3,7 @@ use Rattle.std.proofs.Common.{◌≡◌, ℕ, ◌+◌, ◌<◌, ◌==◌, Bool, 
 use Rattle.std.specs.List.{AllByRecursion}
 use Rattle.std.proofs.lemmas.List.Elements.{recursion_from_All}
 use Rattle.script_io.specs.Says.{lines_of, onto_line}
-use Rattle.script_io.specs.Opens.{AreLines, IsOpen}
+use Rattle.script_io.specs.Opens.{AreLines, HasNoNewline}
 
 -- a byte ends no line
 abbrev pub Goes_on : ℕ → Type 0
@@ -34,7 +34,7 @@ front_of byte (next ∷ front) rest on none =
     }
 
 -- an open prefix that isn't empty begins the text's first line
-pub open_front : (front rest : List ℕ) → IsOpen front → 0 < length front → IsFront front (lines_of (front ++ rest))
+pub open_front : (front rest : List ℕ) → HasNoNewline front → 0 < length front → IsFront front (lines_of (front ++ rest))
 open_front [] rest none some = absurd (omega arith)
 open_front (byte ∷ front) rest none some =
     let each = recursion_from_All Goes_on (byte ∷ front) none in front_of byte front rest each.0 each.1
@@ -45,7 +45,7 @@ cut_rest [] rest none = refl
 cut_rest (byte ∷ front) rest none =
     first_byte byte (front ++ 10 ∷ rest) none.0 ∙ ap (onto_line byte) (cut_rest front rest none.1)
 
-pub cut_line : (front rest : List ℕ) → IsOpen front → lines_of (front ++ 10 ∷ rest) ≡ front ∷ lines_of rest
+pub cut_line : (front rest : List ℕ) → HasNoNewline front → lines_of (front ++ 10 ∷ rest) ≡ front ∷ lines_of rest
 cut_line front rest none = cut_rest front rest (recursion_from_All Goes_on front none)
 
 -- an open prefix with nothing after it is the last line
@@ -54,7 +54,7 @@ last_rest byte [] on none = first_byte byte [] on
 last_rest byte (next ∷ front) on none =
     first_byte byte (next ∷ front) on ∙ ap (onto_line byte) (last_rest next front none.0 none.1)
 
-pub last_line : (front : List ℕ) → IsOpen front → 0 < length front → lines_of (front ++ []) ≡ front ∷ []
+pub last_line : (front : List ℕ) → HasNoNewline front → 0 < length front → lines_of (front ++ []) ≡ front ∷ []
 last_line [] none some = absurd (omega arith)
 last_line (byte ∷ front) none some =
     let each = recursion_from_All Goes_on (byte ∷ front) none in

@@ -4,7 +4,7 @@ use Rattle.std.specs.Io.KnownBytes.{Appends, Keeps}
 use Rattle.std.proofs.KnownBytes.{Appends-trans}
 use Rattle.std.proofs.lemmas.List.{take_all}
 use Rattle.script_exec.specs.State.{State}
-use Rattle.script_io.specs.Says.{Tells, lines_of}
+use Rattle.script_io.specs.Says.{IsTranscript, lines_of}
 use Rattle.script_io.specs.Feeding.{Closes, Feeds, IsCut}
 use Rattle.script_io.specs.Turns.{IsBroken, IsBrokenOff, IsFronted, IsPartWritten}
 use Rattle.script_io.specs.declared.end.End.{End}
@@ -28,8 +28,8 @@ wrote_more held mid now bytes rest n before wrote = (
 )
 
 -- a slice from its n-th byte on
-pub behind : (rest : List ℕ) (n : ℕ) → take (length rest - n) (drop n rest) ≡ drop n rest
-behind rest n = take_all _ _ (omega (arith, length-drop n rest))
+pub following : (rest : List ℕ) (n : ℕ) → take (length rest - n) (drop n rest) ≡ drop n rest
+following rest n = take_all _ _ (omega (arith, length-drop n rest))
 
 -- a failed write took nothing
 pub wrote_none : (held mid now : Option (List ℕ)) (bytes rest : List ℕ) → IsWritten held mid bytes rest → Keeps mid now
@@ -53,8 +53,8 @@ part_written held now bytes rest written some = record {
 -- what was written are the bytes that were appended to nothing
 pub wrote_bytes : (held now : Option (List ℕ)) (wrote out old bytes : List ℕ) → Appends held now wrote → wrote ≡ out
     → out ≡ old ++ bytes → old ≡ [] → Appends held now bytes
-wrote_bytes held now wrote out old bytes appended told grown empty =
-    let same : wrote ≡ bytes = told ∙ grown ∙ ap (λ xs. xs ++ bytes) empty in
+wrote_bytes held now wrote out old bytes appended reported grown empty =
+    let same : wrote ≡ bytes = reported ∙ grown ∙ ap (λ xs. xs ++ bytes) empty in
     rw same at appended
 
 -- a part written of some bytes is a part written of equal bytes
@@ -76,62 +76,62 @@ fronted_cut n state line chunk out more cut = record {
   text_is = sym (append_assoc line chunk more) ∙ ap (λ xs. xs ++ more) cut.text_is ∙ append_assoc cut.whole cut.rest more;
   ends = inl cut.lines;
   last = end.Whole;
-  told = cut.told;
+  reported = cut.reported;
 }
 
 -- all that is read, as a prefix of it
-fronted_all : (n : ℕ) (state : State) (text out : List ℕ) (last : End) → Tells n state (lines_of text) out last → IsFronted n state text out
-fronted_all n state text out last told = record {
+fronted_all : (n : ℕ) (state : State) (text out : List ℕ) (last : End) → IsTranscript n state (lines_of text) out last → IsFronted n state text out
+fronted_all n state text out last reported = record {
   front = text;
   rest = [];
   text_is = sym (append-nil text);
   ends = inr refl;
   last = last;
-  told = told;
+  reported = reported;
 }
 
 -- the answers were the bytes that were appended to nothing
-told_bytes : (wrote out old bytes : List ℕ) → wrote ≡ out → out ≡ old ++ bytes → old ≡ [] → wrote ≡ bytes
-told_bytes wrote out old bytes told grown empty = told ∙ grown ∙ ap (λ xs. xs ++ bytes) empty
+reported_bytes : (wrote out old bytes : List ℕ) → wrote ≡ out → out ≡ old ++ bytes → old ≡ [] → wrote ≡ bytes
+reported_bytes wrote out old bytes reported grown empty = reported ∙ grown ∙ ap (λ xs. xs ++ bytes) empty
 
 -- a write that failed after a chunk
 pub broken_fed : (r : Result (Unit {0}) Stop) (old : Script) (state : State) (new : Script) (chunk : List ℕ) (held now : Option (List ℕ))
     (wrote : List ℕ) → Feeds r old state new chunk → wrote ≡ new.out.items → old.out.items ≡ [] → IsPartWritten held now wrote
     → IsBroken old state chunk held now
-broken_fed (Ok u) old state new chunk held now wrote fed told empty part =
+broken_fed (Ok u) old state new chunk held now wrote fed reported empty part =
     let cut = cut_along old.number state (old.line.items ++ chunk) fed.whole fed.bytes new.number fed.next (new.line.items ++ []) fed.lines
     fed.leads fed.text_is in record {
       bytes = fed.bytes;
-      part = part_of held now wrote fed.bytes part (told_bytes wrote new.out.items old.out.items fed.bytes told fed.out empty);
+      part = part_of held now wrote fed.bytes part (reported_bytes wrote new.out.items old.out.items fed.bytes reported fed.out empty);
       fronted = λ more. fronted_cut old.number state old.line.items chunk fed.bytes more cut;
     }
-broken_fed (Err stop.Memory) old state new chunk held now wrote fed told empty part = record {
+broken_fed (Err stop.Memory) old state new chunk held now wrote fed reported empty part = record {
   bytes = fed.bytes;
-  part = part_of held now wrote fed.bytes part (told_bytes wrote new.out.items old.out.items fed.bytes told fed.out empty);
+  part = part_of held now wrote fed.bytes part (reported_bytes wrote new.out.items old.out.items fed.bytes reported fed.out empty);
   fronted = λ more. fronted_cut old.number state old.line.items chunk fed.bytes more fed.cut;
 }
-broken_fed (Err stop.Fault) old state new chunk held now wrote fed told empty part = record {
+broken_fed (Err stop.Fault) old state new chunk held now wrote fed reported empty part = record {
   bytes = fed.bytes;
-  part = part_of held now wrote fed.bytes part (told_bytes wrote new.out.items old.out.items fed.bytes told fed.out empty);
-  fronted = λ more. fronted_all old.number state (old.line.items ++ (chunk ++ more)) fed.bytes end.Fault (fed.told more);
+  part = part_of held now wrote fed.bytes part (reported_bytes wrote new.out.items old.out.items fed.bytes reported fed.out empty);
+  fronted = λ more. fronted_all old.number state (old.line.items ++ (chunk ++ more)) fed.bytes end.Fault (fed.reported more);
 }
 
 -- a write that failed after the input's end
 pub broken_closed : (r : Result (Unit {0}) Stop) (old : Script) (state : State) (new : Script) (held now : Option (List ℕ))
     (wrote : List ℕ) → Closes r old state new → wrote ≡ new.out.items → old.out.items ≡ [] → IsPartWritten held now wrote
     → IsBrokenOff old state [] held now
-broken_closed (Ok u) old state new held now wrote closed told empty part = record {
+broken_closed (Ok u) old state new held now wrote closed reported empty part = record {
   bytes = closed.bytes;
-  part = part_of held now wrote closed.bytes part (told_bytes wrote new.out.items old.out.items closed.bytes told closed.out empty);
-  fronted = fronted_all old.number state (old.line.items ++ []) closed.bytes end.Whole closed.told;
+  part = part_of held now wrote closed.bytes part (reported_bytes wrote new.out.items old.out.items closed.bytes reported closed.out empty);
+  fronted = fronted_all old.number state (old.line.items ++ []) closed.bytes end.Whole closed.reported;
 }
-broken_closed (Err stop.Memory) old state new held now wrote closed told empty part = record {
+broken_closed (Err stop.Memory) old state new held now wrote closed reported empty part = record {
   bytes = closed.bytes;
-  part = part_of held now wrote closed.bytes part (told_bytes wrote new.out.items old.out.items closed.bytes told closed.out empty);
+  part = part_of held now wrote closed.bytes part (reported_bytes wrote new.out.items old.out.items closed.bytes reported closed.out empty);
   fronted = fronted_cut old.number state old.line.items [] closed.bytes [] closed.cut;
 }
-broken_closed (Err stop.Fault) old state new held now wrote closed told empty part = record {
+broken_closed (Err stop.Fault) old state new held now wrote closed reported empty part = record {
   bytes = closed.bytes;
-  part = part_of held now wrote closed.bytes part (told_bytes wrote new.out.items old.out.items closed.bytes told closed.out empty);
-  fronted = fronted_all old.number state (old.line.items ++ []) closed.bytes end.Fault closed.told;
+  part = part_of held now wrote closed.bytes part (reported_bytes wrote new.out.items old.out.items closed.bytes reported closed.out empty);
+  fronted = fronted_all old.number state (old.line.items ++ []) closed.bytes end.Fault closed.reported;
 }

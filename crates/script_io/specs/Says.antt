@@ -14,10 +14,10 @@ Goes n state (Do order) rest out last =
 Goes n state (Wrong why) rest out last = (out ≡ fault_line n why) × (last ≡ end.Fault)
 
 -- the answers to lines from the n-th on, and the end
-abbrev pub Tells : ℕ → State → List (List ℕ) → List ℕ → End → Type 0
-Tells n state [] out last = (out ≡ []) × (last ≡ end.Whole)
-Tells n state (line ∷ lines) out last =
-    (meaning : Meaning) × Means n state line meaning × Goes n state meaning (λ t more. Tells (n + 1) t lines more last) out last
+abbrev pub IsTranscript : ℕ → State → List (List ℕ) → List ℕ → End → Type 0
+IsTranscript n state [] out last = (out ≡ []) × (last ≡ end.Whole)
+IsTranscript n state (line ∷ lines) out last =
+    (meaning : Meaning) × Means n state line meaning × Goes n state meaning (λ t more. IsTranscript (n + 1) t lines more last) out last
 
 -- the lines of a text: each ends with a line feed (10), and after the last one there is a line only where bytes are left
 abbrev pub onto_line : ℕ → List (List ℕ) → List (List ℕ)
@@ -30,4 +30,4 @@ lines_of (byte ∷ bytes) = if byte == 10 then [] ∷ lines_of bytes else onto_l
 
 -- a script's answers, and how it ends
 abbrev pub Says : List ℕ → List ℕ → End → Type 0
-Says script out last = Tells 1 None (lines_of script) out last
+Says script out last = IsTranscript 1 None (lines_of script) out last

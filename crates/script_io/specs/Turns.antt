@@ -1,12 +1,12 @@
 -- Turns of a script: one read, the answers to the lines that ended in it, and one write.
 use Rattle.std.specs.Prelude.{◌≡◌, ℕ, ◌+◌, ◌<◌, ◌≤◌, List, [], ◌++◌, length, Option, Some, None, ◌⊎◌}
 use Rattle.std.specs.Io.KnownBytes.{Appends}
-use Rattle.script_io.specs.Opens.{AreLines, IsOpen}
+use Rattle.script_io.specs.Opens.{AreLines, HasNoNewline}
 use Rattle.script_exec.specs.State.{State}
-use Rattle.script_exec.specs.Carrying.{Stands}
+use Rattle.script_exec.specs.Carrying.{MatchesState}
 use Rattle.script_exec.specs.Meaning.{most_bytes, most_lines}
-use Rattle.script_io.specs.Says.{Says, Tells, lines_of}
-use Rattle.script_io.specs.Feeding.{IsCut, Leads, Left}
+use Rattle.script_io.specs.Says.{Says, IsTranscript, lines_of}
+use Rattle.script_io.specs.Feeding.{IsCut, Advances, Left}
 use Rattle.script_io.specs.declared.end.End.{End}
 use Rattle.script_io.specs.declared.end.End.TheVariants as end
 use Rattle.script_io.specs.declared.halt.Halt.{Halt}
@@ -32,23 +32,23 @@ pub record IsPartWritten (held now : Option (List ℕ)) (bytes : List ℕ) : Typ
 -- of the input all but the rest was read: the answers to its whole lines are written, and after them a line is open
 pub record IsPartSaid (old : Script) (state : State) (new : Script) (input rest : List ℕ) (held now : Option (List ℕ)) : Type 0 where
   pub next : State
-  pub stands : Stands new.bench next
+  pub matches : MatchesState new.bench next
   pub whole : List ℕ
   pub lines : AreLines whole
   pub text_is : old.line.items ++ input ≡ whole ++ (new.line.items ++ rest)
   pub counted : new.number ≡ old.number + length (lines_of whole)
-  pub open_line : IsOpen new.line.items
+  pub open_line : HasNoNewline new.line.items
   pub short : length new.line.items ≤ most_bytes
   pub soon : 1 ≤ length new.line.items → new.number ≤ most_lines
   pub bytes : List ℕ
   pub wrote : Appends held now bytes
-  pub leads : Leads old.number state whole bytes new.number next
+  pub leads : Advances old.number state whole bytes new.number next
 
 -- a chunk with a fault was answered and written
-pub record IsEnded (old : Script) (state : State) (chunk : List ℕ) (held now : Option (List ℕ)) : Type 0 where
+pub record IsFaultSaid (old : Script) (state : State) (chunk : List ℕ) (held now : Option (List ℕ)) : Type 0 where
   pub bytes : List ℕ
   pub wrote : Appends held now bytes
-  pub told : (more : List ℕ) → Left old.number state old.line.items (chunk ++ more) bytes end.Fault
+  pub reported : (more : List ℕ) → Left old.number state old.line.items (chunk ++ more) bytes end.Fault
 
 -- out of memory: the answers to a prefix of the input, of whole lines, are written
 pub record IsCutSaid (old : Script) (state : State) (input : List ℕ) (held now : Option (List ℕ)) : Type 0 where
@@ -63,7 +63,7 @@ pub record IsFronted (n : ℕ) (state : State) (text out : List ℕ) : Type 0 wh
   pub text_is : text ≡ front ++ rest
   pub ends : AreLines front ⊎ (rest ≡ [])
   pub last : End
-  pub told : Tells n state (lines_of front) out last
+  pub reported : IsTranscript n state (lines_of front) out last
 
 -- a write failed: a prefix of the answers is written, with any bytes after the chunk
 pub record IsBroken (old : Script) (state : State) (chunk : List ℕ) (held now : Option (List ℕ)) : Type 0 where
@@ -74,7 +74,7 @@ pub record IsBroken (old : Script) (state : State) (chunk : List ℕ) (held now 
 -- what was done with a chunk, by what halted the script, if anything did
 abbrev pub GoesOn : Option Halt → Script → State → Script → List ℕ → Option (List ℕ) → Option (List ℕ) → Type 0
 GoesOn None old state new chunk held now = IsPartSaid old state new chunk [] held now
-GoesOn (Some halt.Fault) old state new chunk held now = IsEnded old state chunk held now
+GoesOn (Some halt.Fault) old state new chunk held now = IsFaultSaid old state chunk held now
 GoesOn (Some halt.Memory) old state new chunk held now = IsCutSaid old state chunk held now
 GoesOn (Some (halt.WriteBroke broke)) old state new chunk held now = IsBroken old state chunk held now
 GoesOn (Some halt.Whole) old state new chunk held now = ⊥
@@ -84,7 +84,7 @@ GoesOn (Some (halt.ReadBroke broke)) old state new chunk held now = ⊥
 pub record IsAllSaid (old : Script) (state : State) (input : List ℕ) (held now : Option (List ℕ)) (last : End) : Type 0 where
   pub out : List ℕ
   pub wrote : Appends held now out
-  pub told : Left old.number state old.line.items input out last
+  pub reported : Left old.number state old.line.items input out last
 
 -- a write failed: a prefix of the input's answers is written
 pub record IsBrokenOff (old : Script) (state : State) (input : List ℕ) (held now : Option (List ℕ)) : Type 0 where
@@ -102,7 +102,7 @@ Concludes (halt.ReadBroke broke) old state input held now = ⊥
 
 -- what was done with a part of the input, by whether the reader's bytes are known
 abbrev pub PartSaid : Option (List ℕ) → Option (List ℕ) → Script → State → Script → Option (List ℕ) → Option (List ℕ) → Type 0
-PartSaid None rest old state new held now = (next : State) × Stands new.bench next
+PartSaid None rest old state new held now = (next : State) × MatchesState new.bench next
 PartSaid (Some input) None old state new held now = ⊥
 PartSaid (Some input) (Some rest) old state new held now = IsPartSaid old state new input rest held now
 
@@ -141,7 +141,7 @@ pub record IsSaidSoFar (script : List ℕ) (left held now : Option (List ℕ)) :
   pub script_is : script ≡ whole ++ (line ++ rest)
   pub left_is : left ≡ Some rest
   pub lines : AreLines whole
-  pub open_line : IsOpen line
+  pub open_line : HasNoNewline line
   pub short : length line ≤ most_bytes
   pub soon : 1 ≤ length line → length (lines_of whole) + 1 ≤ most_lines
   pub out : List ℕ

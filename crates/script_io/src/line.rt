@@ -2,9 +2,9 @@
 ghost use Rattle.std.specs.Prelude.{◌≡◌, ◌≤◌, ◌++◌, ◌∷◌, [], OnOk, length};
 ghost use Rattle.script_exec.specs.State.{State};
 ghost use Rattle.script_exec.specs.Meaning.{is_skipped as is_passed, fault_line, name_of};
-ghost use Rattle.script_exec.specs.Carrying.{Stands};
+ghost use Rattle.script_exec.specs.Carrying.{MatchesState};
 ghost use Rattle.script_exec.specs.Prefix.{IsPrefix};
-ghost use Rattle.script_io.specs.Feeding.{TellsFault, LineComes};
+ghost use Rattle.script_io.specs.Feeding.{ReportsFault, LineComes};
 
 use crate::stop::Stop;
 use script_exec::{Bench, Failure, Why, put, put_number, reply};
@@ -28,7 +28,7 @@ pub fn answer_line(
     requires { 65536 ≤ length payload.old }
     ensures soon { OnOk result (number ≤ 1000000) }
     ensures short { OnOk result (length line.now ≤ 131200) }
-    ensures told { (state : State) → Stands bench.old state →
+    ensures reported { (state : State) → MatchesState bench.old state →
         LineComes result number state bench.new line.now out.old.items out.new.items }
     ensures kept { IsPrefix out.old.items out.new.items }
 {
@@ -51,7 +51,7 @@ pub fn answer_line(
 /// Appends the line that reports a fault of line `number`. Kept out of line, since no line but the last one has a fault.
 #[inline(never)]
 pub fn wrong(out: &mut Vec<u8>, number: u64, why: Why) -> Result<(), Stop>
-    ensures told { TellsFault result number why out.old.items out.new.items }
+    ensures reported { ReportsFault result number why out.old.items out.new.items }
     ensures kept { IsPrefix out.old.items out.new.items }
 {
     put_fault(out, number, why)?;
@@ -60,7 +60,7 @@ pub fn wrong(out: &mut Vec<u8>, number: u64, why: Why) -> Result<(), Stop>
 
 // The line that reports a fault.
 fn put_fault(out: &mut Vec<u8>, number: u64, why: Why) -> Result<(), AllocError>
-    ensures told { OnOk result (out.new.items ≡ out.old.items ++ fault_line number why) }
+    ensures reported { OnOk result (out.new.items ≡ out.old.items ++ fault_line number why) }
     ensures kept { IsPrefix out.old.items out.new.items }
 {
     put(out, b"fault ")?;
@@ -84,7 +84,7 @@ fn name_of(why: Why) -> &'static [u8]
 
 // The end of an answer.
 fn end_line(out: &mut Vec<u8>) -> Result<(), AllocError>
-    ensures told { OnOk result (out.new.items ≡ out.old.items ++ 10 ∷ []) }
+    ensures reported { OnOk result (out.new.items ≡ out.old.items ++ 10 ∷ []) }
     ensures kept { IsPrefix out.old.items out.new.items }
 {
     Ok(out.push(b'\n')?)

@@ -1,7 +1,7 @@
 //! A script from a reader to a writer.
 ghost use Rattle.std.specs.Prelude.{◌≡◌, ◌+◌, ◌<◌, ◌≤◌, [], length, Some, IfSome, IsNone, IfOk};
 ghost use Rattle.script_exec.specs.State.{State};
-ghost use Rattle.script_exec.specs.Carrying.{Stands};
+ghost use Rattle.script_exec.specs.Carrying.{MatchesState};
 ghost use Rattle.script_io.specs.Feeding.{IsScript, most_left};
 ghost use Rattle.script_io.specs.Turns.{Concludes, GoesOn, SaysBy, TurnsTo};
 
@@ -61,7 +61,7 @@ fn turns<R: Read, W: Write>(
     requires room { 0 < length chunk.old }
     requires good { IsScript script.old }
     requires written { script.old.out.items ≡ [] }
-    ensures { (state : State) → Stands script.old.bench state →
+    ensures { (state : State) → MatchesState script.old.bench state →
         TurnsTo (Some result) (R.remaining reader.old) (R.remaining reader.new) script.old state script.new
         (W.contents writer.old) (W.contents writer.new) }
 {
@@ -85,7 +85,7 @@ fn go_on<W: Write>(alloc: Global, writer: &mut W, script: &mut Script, chunk: &[
     ensures stays { IsNone result → IsScript script.new }
     ensures written { IsNone result → script.new.out.items ≡ [] }
     ensures fewer { IsNone result → most_left script.new + length chunk.now ≤ most_left script.old }
-    ensures said { (state : State) → Stands script.old.bench state →
+    ensures said { (state : State) → MatchesState script.old.bench state →
         GoesOn result script.old state script.new chunk.now (W.contents writer.old) (W.contents writer.new) }
 {
     let fed = script.feed(alloc, chunk);
@@ -107,7 +107,7 @@ fn go_on<W: Write>(alloc: Global, writer: &mut W, script: &mut Script, chunk: &[
 fn close<W: Write>(alloc: Global, writer: &mut W, script: &mut Script) -> Halt
     requires good { IsScript script.old }
     requires written { script.old.out.items ≡ [] }
-    ensures { (state : State) → Stands script.old.bench state →
+    ensures { (state : State) → MatchesState script.old.bench state →
         Concludes result script.old state [] (W.contents writer.old) (W.contents writer.new) }
 {
     let finished = script.finish(alloc);

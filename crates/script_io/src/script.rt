@@ -1,8 +1,8 @@
 //! A script that is fed in pieces.
 ghost use Rattle.std.specs.Prelude.{◌≡◌, ◌+◌, ◌≤◌, [], length, OnOk, None};
-ghost use Rattle.script_io.specs.Opens.{IsOpen};
+ghost use Rattle.script_io.specs.Opens.{HasNoNewline};
 ghost use Rattle.script_exec.specs.State.{State};
-ghost use Rattle.script_exec.specs.Carrying.{Stands};
+ghost use Rattle.script_exec.specs.Carrying.{MatchesState};
 
 use crate::line::{MOST_BYTES, MOST_LINES, answer_line, wrong};
 use crate::split::split_line;
@@ -49,17 +49,17 @@ impl Script {
         requires { IsScript self.old }
         ensures keeps { OnOk result (IsScript self.new) }
         ensures fewer { OnOk result (most_left self.new + length chunk.now ≤ most_left self.old) }
-        ensures fed { (state : State) → Stands self.old.bench state → Feeds result self.old state self.new chunk.now }
+        ensures fed { (state : State) → MatchesState self.old.bench state → Feeds result self.old state self.new chunk.now }
     {
         let mut rest = chunk;
-        while let Some((part, behind)) = split_line(rest) {
+        while let Some((part, following)) = split_line(rest) {
             if !self.line.is_empty() {
                 self.take_in(part)?;
                 self.answer_open(alloc)?;
             } else {
                 self.answer(alloc, part)?;
             }
-            rest = behind;
+            rest = following;
         }
         self.take_in(rest)
     }
@@ -67,7 +67,7 @@ impl Script {
     /// Answers the line that is open at the end of the input, if there is one.
     pub fn finish(&mut self, alloc: Global) -> Result<(), Stop>
         requires { IsScript self.old }
-        ensures { (state : State) → Stands self.old.bench state → Closes result self.old state self.new }
+        ensures { (state : State) → MatchesState self.old.bench state → Closes result self.old state self.new }
     {
         if self.line.is_empty() {
             return Ok(());
@@ -78,25 +78,25 @@ impl Script {
     // Appends bytes to the open line, or reports that it is too long or one too many.
     fn take_in(&mut self, part: &[u8]) -> Result<(), Stop>
         requires good { IsScript self.old }
-        requires part { IsOpen part.now }
+        requires part { HasNoNewline part.now }
         ensures keeps { OnOk result (IsScript self.new) }
         ensures fewer { OnOk result (most_left self.new + length part.now ≤ most_left self.old) }
-        ensures fed { (state : State) → Stands self.old.bench state → Feeds result self.old state self.new part.now }
+        ensures fed { (state : State) → MatchesState self.old.bench state → Feeds result self.old state self.new part.now }
     {
         if part.is_empty() {
             return Ok(());
         }
         if self.number > MOST_LINES {
-            return self.tell_fault(Why::Many);
+            return self.report_fault(Why::Many);
         }
         if part.len() > MOST_BYTES - self.line.len() {
-            return self.tell_fault(Why::Long);
+            return self.report_fault(Why::Long);
         }
         Ok(self.line.extend_from_slice(part)?)
     }
 
     // Reports a fault of the open line. If out of memory, no part of the report is kept.
-    fn tell_fault(&mut self, why: Why) -> Result<(), Stop>
+    fn report_fault(&mut self, why: Why) -> Result<(), Stop>
         ensures { Faults result why self.old self.new }
     {
         let before = self.out.len();
@@ -105,7 +105,7 @@ impl Script {
                 self.out.truncate(before);
                 Err(Stop::Memory)
             }
-            told => told,
+            reported => reported,
         }
     }
 
@@ -114,7 +114,7 @@ impl Script {
         requires { IsScript self.old }
         ensures keeps { OnOk result (IsScript self.new) }
         ensures fewer { OnOk result (most_left self.new + 1 ≤ most_left self.old) }
-        ensures told { (state : State) → Stands self.old.bench state →
+        ensures reported { (state : State) → MatchesState self.old.bench state →
             Answered result self.old state self.old.line.items self.new }
     {
         let line = replace(&mut self.line, Vec::new(alloc));
@@ -131,11 +131,11 @@ impl Script {
         ensures keeps { OnOk result (IsScript self.new) }
         ensures none { self.new.line.items ≡ [] }
         ensures fewer { OnOk result (most_left self.new + (length line.now + 1) ≤ most_left self.old) }
-        ensures told { (state : State) → Stands self.old.bench state →
+        ensures reported { (state : State) → MatchesState self.old.bench state →
             Answered result self.old state line.now self.new }
     {
         let whole = self.out.len();
-        let told = answer_line(
+        let reported = answer_line(
             alloc,
             self.number,
             &mut self.bench,
@@ -143,7 +143,7 @@ impl Script {
             line,
             &mut self.out,
         );
-        match told {
+        match reported {
             Ok(()) => {
                 self.number += 1;
                 Ok(())

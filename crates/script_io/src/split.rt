@@ -2,7 +2,7 @@
 ghost use Rattle.std.specs.Prelude.{◌≡◌, ◌==◌, ◌∷◌, ◌++◌, IfSome, IfNone, not};
 ghost use Rattle.std.specs.List.{prefix_len};
 ghost use Rattle.memchr.specs.Find.{IsFirstByte, is_byte};
-ghost use Rattle.script_io.specs.Opens.{IsOpen};
+ghost use Rattle.script_io.specs.Opens.{HasNoNewline};
 
 use memchr::memchr;
 use std::simd::prelude::*;
@@ -15,8 +15,8 @@ const LOOK: usize = 32;
 
 /// The bytes before the first line's end, and those after it.
 pub fn split_line(text: &[u8]) -> Option<(&[u8], &[u8])>
-    ensures some { IfSome result (λ parts. IsOpen parts.0.now × (text.now ≡ parts.0.now ++ 10 ∷ parts.1.now)) }
-    ensures none { IfNone result (IsOpen text.now) }
+    ensures some { IfSome result (λ parts. HasNoNewline parts.0.now × (text.now ≡ parts.0.now ++ 10 ∷ parts.1.now)) }
+    ensures none { IfNone result (HasNoNewline text.now) }
 {
     match line_end(text) {
         Some(at) => Some((&text[..at], &text[at + 1..])),

@@ -14,21 +14,21 @@ use Rattle.flat_machine.specs.Flat.{Flat, Payload, Trim, Fresh, Waiting, new_fla
 use Rattle.flat_machine.specs.Steps.{FlatStep, FlatAnswer, Committed}
 use Rattle.flat_machine.specs.Steps as s
 use Rattle.flat_machine.specs.Cases.{Case}
-use Rattle.flat_machine.specs.History.{IsStep}
-use Rattle.flat_machine.specs.Scans.{ScanAnswer, Told, NotTold, ScanCase, RestartAnswer, Restarted, NotRestarted, RestartCase}
+use Rattle.flat_machine.specs.History.{IsValidStep}
+use Rattle.flat_machine.specs.Scans.{ScanAnswer, Reported, NotReported, ScanCase, RestartAnswer, Restarted, NotRestarted, RestartCase}
 use Rattle.flat_machine.proofs.Newest.{same_map}
 use Rattle.flat_machine.proofs.Keeps.{new_history}
-use Rattle.background.specs.Tiered.{Tiered, begun}
-use Rattle.background.specs.Steps.{TierStep, TierCase, order_behind}
-use Rattle.background.specs.Steps as tier
-use Rattle.background.specs.declared.regrouped.Regrouped.{Regrouped}
-use Rattle.background.specs.Regrouping.{BalanceCase, RebuildCase}
+use Rattle.tiered_array.specs.Tiered.{Tiered, begun}
+use Rattle.tiered_array.specs.Steps.{TierStep, TierCase, order_following}
+use Rattle.tiered_array.specs.Steps as tier
+use Rattle.tiered_array.specs.declared.regrouped.Regrouped.{Regrouped}
+use Rattle.tiered_array.specs.Regrouping.{BalanceCase, RebuildCase}
 use Rattle.script_syntax.specs.Order.{Order}
 use Rattle.script_syntax.specs.Order as o
 use Rattle.header_scan.specs.declared.fault.ScanFault.TheVariants.{Gone}
-use Rattle.script_exec.specs.State.{Position, State, IsDue, IsInRange, IsArrayInRange, block_count, nothing_taken}
+use Rattle.script_exec.specs.State.{Position, State, IsAdmissible, IsInRange, IsArrayInRange, block_count, nothing_taken}
 use Rattle.script_exec.specs.Text.{answer_text, asked_version, outcome_text, regrouped_text, difference_text, fault_text, listing, record_text}
-use Rattle.script_exec.specs.Answers.{Answers, AreNoGroups, Begins, Commits, Compares, Merges, Regroups, Restarts, Scans, ShowsMap, Steps, Takes, TellsScan, TierSteps, members_named, restart_text, tiers_behind, with_flat, with_taken}
+use Rattle.script_exec.specs.Answers.{Answers, AreNoGroups, Begins, AnswersCommit, AnswersCompare, Merges, Regroups, Restarts, Scans, ShowsMap, Steps, Takes, ReportsScan, TierSteps, members_named, restart_text, tiers_following, with_flat, with_taken}
 use Rattle.script_laws.specs.Once.{Settles}
 use Rattle.script_laws.specs.Steady.{IsReached}
 use Rattle.script_laws.specs.Bench.{AreDistinct, IsOneBench, IsTiered}
@@ -116,8 +116,8 @@ merges_settle : (P : Position) (into from : ℕ) → IsOneBench (Some P) → Set
 merges_settle P into from is = settles_by (Merges P into from) (Ends (codes "merged") (Some (with_taken P into (P.taken into ++ P.taken from))))
     (λ text t c. (c.text_is, c.state_is)) (ends is)
 
-compares_settle : (P : Position) (left right : List Record) → IsOneBench (Some P) → Settles IsOneBench (λ text t. Compares left right text × (t ≡ Some P))
-compares_settle P left right is = settles_by (λ text t. Compares left right text × (t ≡ Some P))
+compares_settle : (P : Position) (left right : List Record) → IsOneBench (Some P) → Settles IsOneBench (λ text t. AnswersCompare left right text × (t ≡ Some P))
+compares_settle P left right is = settles_by (λ text t. AnswersCompare left right text × (t ≡ Some P))
     (Picks (IsMapOf left) (λ M. Picks (IsMapOf right) (λ N. Picks (IsDifference M N) (λ lowest. Ends (difference_text lowest) (Some P)))))
     (λ text t c. (c.0.left_keys, c.0.left_map, (c.0.right_keys, c.0.right_map, (c.0.lowest, c.0.differs, (c.0.text_is, c.1)))))
     (picks (same_map left) (λ M one. picks (same_map right) (λ N other.
@@ -126,7 +126,7 @@ compares_settle P left right is = settles_by (λ text t. Compares left right tex
 -- ---- steps of the array
 
 -- the order after a commit has each block once
-order_distinct : (order : List ℕ) (b : ℕ) (a : FlatAnswer) (waiting : Option Waiting) → AreDistinct order → AreDistinct (order_behind order b a waiting)
+order_distinct : (order : List ℕ) (b : ℕ) (a : FlatAnswer) (waiting : Option Waiting) → AreDistinct order → AreDistinct (order_following order b a waiting)
 order_distinct order b (Committed r) (Some (Fresh x)) apart = distinct_written order b apart
 order_distinct order b _ _ apart = apart
 
@@ -141,14 +141,14 @@ module _ (P : Position) (is : IsOneBench (Some P)) where
   tiers_bench : (T : Tiered) → IsTiered sizes T → IsOneBench (Some (record P { tiers = T }))
   tiers_bench T tiered = rebased sizes T tiered
 
-  steps_settle : (step : FlatStep) → IsStep sizes step → Settles IsOneBench (Steps P step)
+  steps_settle : (step : FlatStep) → IsValidStep sizes step → Settles IsOneBench (Steps P step)
   steps_settle step fits = settles_by (Steps P step)
       (Then (Case P.tiers.flat step) (λ a G. Ends (answer_text (asked_version step) a) (Some (with_flat P G))))
       (λ text t c. (c.answer, c.next, c.case, (c.text_is, c.state_is)))
       (then (step_settles sizes P.tiers.flat step is.reached fits) (λ a G reached. ends (flat_bench G reached)))
 
-  commits_settle : (w slot b : ℕ) → b < sizes.blocks → Settles IsOneBench (Commits P w slot b)
-  commits_settle w slot b below = settles_by (Commits P w slot b)
+  commits_settle : (w slot b : ℕ) → b < sizes.blocks → Settles IsOneBench (AnswersCommit P w slot b)
+  commits_settle w slot b below = settles_by (AnswersCommit P w slot b)
       (Then (Case P.tiers.flat (s.Commit w slot b)) (λ a G. Ends (answer_text (asked_version (s.Commit w slot b)) a) (Some (record P { tiers = noted a G }))))
       (λ text t c. (
         c.answer,
@@ -165,7 +165,7 @@ module _ (P : Position) (is : IsOneBench (Some P)) where
       ends (tiers_bench (noted a G) (record { reached = reached; distinct = order_distinct P.tiers.order b a (P.tiers.flat.tickets slot) is.distinct }))))
     where
       noted : FlatAnswer → Flat → Tiered
-      noted a G = record { flat = G; order = order_behind P.tiers.order b a (P.tiers.flat.tickets slot); end = P.tiers.end }
+      noted a G = record { flat = G; order = order_following P.tiers.order b a (P.tiers.flat.tickets slot); end = P.tiers.end }
 
   tiers_settle : (step : TierStep) → TierFits sizes step → Settles IsOneBench (TierSteps P step)
   tiers_settle step fits = settles_by (TierSteps P step)
@@ -181,28 +181,28 @@ module _ (P : Position) (is : IsOneBench (Some P)) where
 
   -- the text of a scan, and the state
   abbrev scan_text_tree : ScanAnswer → Flat → Replies
-  scan_text_tree (Told keys) G = Picks (IsListOf keys) (λ listed. Ends (codes "scan " ++ listing listed) (Some (with_flat P G)))
-  scan_text_tree (NotTold slot) G = Ends (fault_text (Gone slot)) (Some (with_flat P G))
+  scan_text_tree (Reported keys) G = Picks (IsListOf keys) (λ listed. Ends (codes "scan " ++ listing listed) (Some (with_flat P G)))
+  scan_text_tree (NotReported slot) G = Ends (fault_text (Gone slot)) (Some (with_flat P G))
 
   scans_settle : Settles IsOneBench (Scans P)
-  scans_settle = settles_by (Scans P) (Then (ScanCase P.tiers.flat) scan_text_tree) (λ text t c. (c.answer, c.next, c.case, by_text c.answer c.next text t c.told c.state_is))
-      (then (scan_reached sizes P.tiers.flat is.reached) (λ a G reached. tells a G reached))
+  scans_settle = settles_by (Scans P) (Then (ScanCase P.tiers.flat) scan_text_tree) (λ text t c. (c.answer, c.next, c.case, by_text c.answer c.next text t c.reported c.state_is))
+      (then (scan_reached sizes P.tiers.flat is.reached) (λ a G reached. reports a G reached))
     where
-      by_text : (a : ScanAnswer) (G : Flat) (text : List ℕ) (t : State) → TellsScan a text → t ≡ Some (with_flat P G) → scan_text_tree a G text t
-      by_text (Told keys) G text t c state = (c.0, c.1, (c.2, state))
-      by_text (NotTold slot) G text t c state = (c, state)
+      by_text : (a : ScanAnswer) (G : Flat) (text : List ℕ) (t : State) → ReportsScan a text → t ≡ Some (with_flat P G) → scan_text_tree a G text t
+      by_text (Reported keys) G text t c state = (c.0, c.1, (c.2, state))
+      by_text (NotReported slot) G text t c state = (c, state)
 
-      tells : (a : ScanAnswer) (G : Flat) → IsReached sizes G → Settles IsOneBench (scan_text_tree a G)
-      tells (Told keys) G reached = picks (list_once keys) (λ listed list. ends (flat_bench G reached))
-      tells (NotTold slot) G reached = ends (flat_bench G reached)
+      reports : (a : ScanAnswer) (G : Flat) → IsReached sizes G → Settles IsOneBench (scan_text_tree a G)
+      reports (Reported keys) G reached = picks (list_once keys) (λ listed list. ends (flat_bench G reached))
+      reports (NotReported slot) G reached = ends (flat_bench G reached)
 
   restarts_settle : Settles IsOneBench (Restarts P)
   restarts_settle = settles_by (Restarts P)
-      (Then (RestartCase P.tiers.flat) (λ a G. Ends (restart_text a) (Some (record P { tiers = tiers_behind P.tiers a G }))))
+      (Then (RestartCase P.tiers.flat) (λ a G. Ends (restart_text a) (Some (record P { tiers = tiers_following P.tiers a G }))))
       (λ text t c. (c.answer, c.next, c.case, (c.text_is, c.state_is)))
       (then (restart_settles sizes P.tiers.flat is.reached) (λ a G reached. ends (again a G reached)))
     where
-      again : (a : RestartAnswer) (G : Flat) → IsReached sizes G → IsOneBench (Some (record P { tiers = tiers_behind P.tiers a G }))
+      again : (a : RestartAnswer) (G : Flat) → IsReached sizes G → IsOneBench (Some (record P { tiers = tiers_following P.tiers a G }))
       again (Restarted count) G reached = tiers_bench (begun G) (record { reached = reached; distinct = distinct_by_number G.groups.blocks })
       again (NotRestarted slot) G reached = flat_bench G reached
 
@@ -217,7 +217,7 @@ low_slot : (n : ℕ) → n ≤ 65535 → n < 65536
 low_slot n most = omega arith
 
 -- a command that may come, within the limits, has one answer, and leaves one state
-pub answers_settle : (state : State) (order : Order) → IsOneBench state → IsDue state order → IsInRange (block_count state) order → Settles IsOneBench (Answers state order)
+pub answers_settle : (state : State) (order : Order) → IsOneBench state → IsAdmissible state order → IsInRange (block_count state) order → Settles IsOneBench (Answers state order)
 answers_settle None (o.Array drives extents segments payload blocks) is due range = begins_settle extents segments payload blocks drives range.fit
 answers_settle None _ is due range = nothing_given _ (λ text t none. none)
 answers_settle (Some P) (o.Array drives extents segments payload blocks) is due range = nothing_given _ (λ text t none. none)

@@ -3,12 +3,12 @@ use Rattle.std.proofs.Common.{◌≡◌, ◌⊎◌, inl, inr, ℕ, ◌<◌, ◌�
 use Rattle.std.proofs.lemmas.Option.{same_Some}
 use Rattle.map_join.specs.declared.records.Record.{Record}
 use Rattle.map_join.specs.Record.{record_at, record_of}
-use Rattle.map_join.specs.Live.{LiesAt}
+use Rattle.map_join.specs.Live.{MapsTo}
 use Rattle.extent_groups.specs.Groups.{Groups}
 use Rattle.flat_machine.specs.Flat.{Flat, Block, for_block}
 use Rattle.flat_machine.specs.History.{IsHistory}
-use Rattle.flat_machine.proofs.Newest.{told_key}
-use Rattle.migrator.specs.First.{IsLowest, IsFirst, IsFirstAppend, IsFreeBehind, IsFreeFresh}
+use Rattle.flat_machine.proofs.Newest.{reported_key}
+use Rattle.migrator.specs.First.{IsLowest, IsFirst, IsFirstAppend, IsFreeFollowing, IsFreeFresh}
 use Rattle.migrator.specs.Slots.{End}
 use Rattle.cleaner.specs.declared.moves.Move.{Move}
 use Rattle.cleaner.specs.Counts as counts
@@ -35,7 +35,7 @@ append_once end groups keys free None (Some n) a (inl b) = absurd (a n (inl b.ho
 append_once end groups keys free None (Some n) a (inr b) = absurd (a n (inr b.1.holds.0) b.1.holds.1)
 append_once end groups keys free (Some m) None (inl a) b = absurd (b m (inl a.holds.0) a.holds.1)
 append_once end groups keys free (Some m) None (inr a) b = absurd (b m (inr a.1.holds.0) a.1.holds.1)
-append_once end groups keys free (Some m) (Some n) (inl a) (inl b) = ap (λ (k : ℕ). Some k) (lowest_once (IsFreeBehind end groups keys free) m n a b)
+append_once end groups keys free (Some m) (Some n) (inl a) (inl b) = ap (λ (k : ℕ). Some k) (lowest_once (IsFreeFollowing end groups keys free) m n a b)
 append_once end groups keys free (Some m) (Some n) (inl a) (inr b) = absurd (b.0 m a.holds)
 append_once end groups keys free (Some m) (Some n) (inr a) (inl b) = absurd (a.0 n b.holds)
 append_once end groups keys free (Some m) (Some n) (inr a) (inr b) = ap (λ (k : ℕ). Some k) (lowest_once (IsFreeFresh end groups keys free) m n a.1 b.1)
@@ -64,24 +64,24 @@ most_once offers g h l k a b = by (a.best h k b.offered) (b.best g l a.offered)
 
 -- a block that has a record in the map has a key, and is one of the array's
 pub key_there : (b key : ℕ) (r : Record) → record_at b key ≡ Some r → 0 < key
-key_there b key r at = let large = (told_key b key r at).0 in omega arith
+key_there b key r at = let large = (reported_key b key r at).0 in omega arith
 
 pub block_there : (F : Flat) (keys : ℕ → ℕ) (b : ℕ) (r : Record) → IsHistory F keys → record_at b (keys b) ≡ Some r → b < F.groups.blocks
 block_there F keys b r is at =
-    let told = is.map.told b (key_there b (keys b) r at) in
-    let low = is.blocks told.0 told.1 in
-    let same = told.2 in
+    let reported = is.map.reported b (key_there b (keys b) r at) in
+    let low = is.blocks reported.0 reported.1 in
+    let same = reported.2 in
     omega (arith, low, same)
 
 -- no two blocks lie at one slot
-lies_once : (F : Flat) (keys : ℕ → ℕ) (s b c : ℕ) → IsHistory F keys → LiesAt keys b s → LiesAt keys c s → b ≡ c
+lies_once : (F : Flat) (keys : ℕ → ℕ) (s b c : ℕ) → IsHistory F keys → MapsTo keys b s → MapsTo keys c s → b ≡ c
 lies_once F keys s b c is x y =
     let same : Block b ≡ Block c = (is.holders s).once (Block b) (Block c) (for_block b) (for_block c) (held b x) (held c y) in
     cc
   where
-    held : (d : ℕ) → LiesAt keys d s → F.held s (Block d) ≡ true
+    held : (d : ℕ) → MapsTo keys d s → F.held s (Block d) ≡ true
     held d lies =
-        let key = told_key d (keys d) lies.0 lies.1 in
+        let key = reported_key d (keys d) lies.0 lies.1 in
         let place : (record_of d (keys d)).place ≡ s = ap (λ (r : Record). r.place) key.1 ∙ lies.2 in
         subst (λ n. F.held n (Block d) ≡ true) place ((is.written d).1 (key_there d (keys d) lies.0 lies.1)).2.place
 
@@ -115,7 +115,7 @@ module _ (F : Flat) (keys : ℕ → ℕ) (is : IsHistory F keys) (write : Option
       hole = lowest_count (counts.IsHoleOf F.groups keys u) x.to y.to (subst (λ g. counts.IsLowest (counts.IsHoleOf F.groups keys g) x.to) into.0 a.hole) b.hole
 
       block : x.block ≡ y.block
-      block = lies_once F keys y.from x.block y.block is (subst (LiesAt keys x.block) slot a.block) b.block
+      block = lies_once F keys y.from x.block y.block is (subst (MapsTo keys x.block) slot a.block) b.block
 
   pub plug_once : (p q : Option Move) → IsPlugPlan F.groups keys write p → IsPlugPlan F.groups keys write q → p ≡ q
   plug_once None None a b = refl
@@ -133,7 +133,7 @@ module _ (F : Flat) (keys : ℕ → ℕ) (is : IsHistory F keys) (write : Option
       slot = lowest_count (counts.IsLiveOf F.groups keys h) x.from y.from (subst (λ g. counts.IsLowest (counts.IsLiveOf F.groups keys g) x.from) out a.slot) b.slot
 
       block : x.block ≡ y.block
-      block = lies_once F keys y.from x.block y.block is (subst (LiesAt keys x.block) slot a.block) b.block
+      block = lies_once F keys y.from x.block y.block is (subst (MapsTo keys x.block) slot a.block) b.block
 
   pub clean_once : (append : Option ℕ) (p q : Option Move) → IsCleanPlan F.groups keys write append p → IsCleanPlan F.groups keys write append q → p ≡ q
   clean_once append None None a b = refl

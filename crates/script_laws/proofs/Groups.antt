@@ -4,17 +4,17 @@ use Rattle.std.specs.Prelude.{slice_get}
 use Rattle.std.proofs.lemmas.Option.{same_Some}
 use Rattle.map_join.specs.Maps.{IsMapOf}
 use Rattle.extents.specs.Failures.{Failures, no_failures}
-use Rattle.extent_groups.specs.Groups.{Groups, group_at, members_of, Stands}
+use Rattle.extent_groups.specs.Groups.{Groups, group_at, members_of, HasMemberAt}
 use Rattle.extent_groups.specs.Stores.{HasMemberOn}
 use Rattle.extent_groups.specs.declared.class.Class.{Class}
 use Rattle.extent_groups.specs.declared.class.Member.{Member}
 use Rattle.flat_machine.specs.declared.refusal.Refusal.TheVariants.{NoGroup, Gone, SlotsHeld, DriveLost, ExtentTaken, SameDrive, Full, BadMember}
-use Rattle.flat_machine.specs.Groups.{class_below, AreMembers, AreApart, AreUnowned, ArePresent, IsFirstLost, IsLowestFree, IsFull}
-use Rattle.flat_machine.specs.Moves.{IsTarget, IsIn, HasClaim, IsFirstStray, unmade, IsBeyondOf, IsFirstGone, moved_to, with_new_drive}
+use Rattle.flat_machine.specs.Groups.{class_below, AreMembers, AreApart, AreUnowned, ArePresent, IsFirstLost, IsLowestFree, IsTableFull}
+use Rattle.flat_machine.specs.Moves.{IsMoveTarget, IsIn, HasClaim, IsFirstStray, unmade, IsBeyondOf, IsFirstGone, moved_to, with_new_drive}
 use Rattle.flat_machine.specs.Flat.{Flat, put}
 use Rattle.flat_machine.specs.Steps.{FlatAnswer, MadeGroup, UnmadeGroup, MovedExtent, AddedDrive, LostDrive, Refused}
 use Rattle.flat_machine.specs.Cases.{IsGoneIn, Leaves, UnmakeCase, MakeCase, MakePasses, made, MoveCase, WasOrGotLost, AddCase, LoseCase, most_drives}
-use Rattle.flat_machine.specs.Scans.{ScanAnswer, Told, NotTold, ScanCase, FindsGone}
+use Rattle.flat_machine.specs.Scans.{ScanAnswer, Reported, NotReported, ScanCase, FindsGone}
 use Rattle.flat_machine.proofs.Newest.{same_map}
 use Rattle.script_laws.specs.Once.{Settles}
 use Rattle.script_laws.specs.Steady.{AreSteady, IsSteady}
@@ -96,7 +96,7 @@ module _ (z : Groups) (F : Flat) (calm : IsSteady z F) where
       (Asks (AreApart members)
       (Asks (AreUnowned F.groups members)
       (Asks (ArePresent F.lost members)
-      (Asks (IsFull F.groups) (Ends (Refused Full) F) (Picks (IsLowestFree F.groups) (λ g. Ends (MadeGroup g) (made F class members g))))
+      (Asks (IsTableFull F.groups) (Ends (Refused Full) F) (Picks (IsLowestFree F.groups) (λ g. Ends (MadeGroup g) (made F class members g))))
       (Picks (IsFirstLost F.lost members) (λ d. Ends (Refused (DriveLost d)) F)))
       (Ends (Refused ExtentTaken) F))
       (Ends (Refused SameDrive) F))
@@ -151,7 +151,7 @@ module _ (z : Groups) (F : Flat) (calm : IsSteady z F) where
       Asks (slice_get (members_of F.groups g) k ≡ None) (Ends (Refused NoGroup) F)
       (Asks ((to.drive < F.drives) × (to.extent < F.groups.extents))
       (Asks (HasMemberOn F.groups g to.drive) (Ends (Refused SameDrive) F)
-      (Asks ((h : ℕ) × Stands (members_of F.groups h) to.drive to.extent) (Ends (Refused ExtentTaken) F) (moves_tree g k to)))
+      (Asks ((h : ℕ) × HasMemberAt (members_of F.groups h) to.drive to.extent) (Ends (Refused ExtentTaken) F) (moves_tree g k to)))
       (Ends (Refused BadMember) F))
 
   pub move_settles : (g k : ℕ) (to : Member) → Settles (IsSteady z) (MoveCase F g k to)
@@ -159,7 +159,7 @@ module _ (z : Groups) (F : Flat) (calm : IsSteady z F) where
       (asks (ends calm) (asks (asks (ends calm) (asks (ends calm) (asks (ends calm)
       (asks (picks (one_gone F.groups F.lost g) (λ s is. ends calm)) (ends (changed calm refl refl refl)))))) (ends calm)))
     where
-      may : (a : FlatAnswer) (G : Flat) → (slice_get (members_of F.groups g) k ≢ None) → IsTarget F.groups F.drives g m → moves_tree g k m a G → move_tree g k m a G
+      may : (a : FlatAnswer) (G : Flat) → (slice_get (members_of F.groups g) k ≢ None) → IsMoveTarget F.groups F.drives g m → moves_tree g k m a G → move_tree g k m a G
       may a G there is rest = inr (there, inl ((is.drive, is.extent), inr (is.apart, inr ((λ taken. is.unowned taken.0 taken.1), rest))))
 
       to : (a : FlatAnswer) (G : Flat) → MoveCase F g k m a G → move_tree g k m a G
@@ -207,7 +207,7 @@ module _ (z : Groups) (F : Flat) (calm : IsSteady z F) where
 
   -- scan: the map where no slot is gone, else the lowest that is
   abbrev scan_tree : ScanAnswer → Flat → Type 0
-  scan_tree = Asks ((s : ℕ) → IsGoneIn F s → ⊥) (Picks (IsMapOf F.emitted) (λ keys. Ends (Told keys) F)) (Picks (IsLowestGone F) (λ s. Ends (NotTold s) F))
+  scan_tree = Asks ((s : ℕ) → IsGoneIn F s → ⊥) (Picks (IsMapOf F.emitted) (λ keys. Ends (Reported keys) F)) (Picks (IsLowestGone F) (λ s. Ends (NotReported s) F))
 
   pub found_gone : (G : Flat) (s : ℕ) → FindsGone F G s → IsLowestGone F s
   found_gone G s c = record { gone = gone_was F G s steady c.leaves c.gone; lowest = c.lowest }
@@ -217,5 +217,5 @@ module _ (z : Groups) (F : Flat) (calm : IsSteady z F) where
       (asks (picks (same_map F.emitted) (λ keys map. ends is)) (picks (lowest_once F) (λ s low. ends is)))
     where
       to : (a : ScanAnswer) (G : Flat) → ScanCase F a G → scan_tree a G
-      to (Told keys) G c = inl (c.0, (keys, c.1, (refl, quiet F G steady c.2)))
-      to (NotTold s) G c = let low = found_gone G s c in inr ((λ none. none s low.gone), (s, low, (refl, quiet F G steady c.leaves)))
+      to (Reported keys) G c = inl (c.0, (keys, c.1, (refl, quiet F G steady c.2)))
+      to (NotReported s) G c = let low = found_gone G s c in inr ((λ none. none s low.gone), (s, low, (refl, quiet F G steady c.leaves)))

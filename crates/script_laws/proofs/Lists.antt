@@ -16,10 +16,10 @@ none_there : (r : Record) → Contains [] r → ⊥
 none_there r has = let h = has.1 in omega arith
 
 pub some_map : (records : List Record) → (M : ℕ → ℕ) × IsMapOf records M
-some_map [] = ((λ _. 0), record { told = λ b some. absurd (omega arith); most = λ r has. absurd (none_there r has) })
+some_map [] = ((λ _. 0), record { reported = λ b some. absurd (omega arith); most = λ r has. absurd (none_there r has) })
 some_map (r ∷ records) =
     let rest = some_map records in
-    let none : IsMapOf [] (λ _. 0) = record { told = λ b some. absurd (omega arith); most = λ q has. absurd (none_there q has) } in
+    let none : IsMapOf [] (λ _. 0) = record { reported = λ b some. absurd (omega arith); most = λ q has. absurd (none_there q has) } in
     let one : IsMapOf (r ∷ []) (join (λ _. 0) (only r)) = took [] r (λ _. 0) _ (λ b. refl) none in
     (join (join (λ _. 0) (only r)) rest.0, together (r ∷ []) records _ rest.0 _ (λ b. refl) one rest.1)
 

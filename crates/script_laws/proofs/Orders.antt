@@ -5,7 +5,7 @@ use Rattle.std.proofs.lemmas.Bool.{cases_eq}
 use Rattle.std.proofs.lemmas.Option.{same_Some, none-some}
 use Rattle.std.proofs.lemmas.List.Elements.{Contains-push_cases, All-contains, All-contains_itself, All-filter, filter_passes}
 use Rattle.migrator.specs.Ages.{by_number, written, IsOlder, IsOldest}
-use Rattle.migrator.proofs.Oldest.{contains_behind, contains_head, contains_cases}
+use Rattle.migrator.proofs.Oldest.{contains_following, contains_head, contains_cases}
 use Rattle.flat_machine.proofs.Pairs.{equal}
 use Rattle.script_laws.specs.Bench.{AreDistinct}
 
@@ -15,7 +15,7 @@ use Rattle.script_laws.specs.Bench.{AreDistinct}
 read_there : (xs : List ℕ) (i b : ℕ) → slice_get xs i ≡ Some b → Contains xs b
 read_there [] i b at = absurd (none-some b at)
 read_there (x ∷ xs) zero b at = subst (Contains (x ∷ xs)) (same_Some x b at) (contains_head x xs)
-read_there (x ∷ xs) (suc i) b at = contains_behind x b xs (read_there xs i b at)
+read_there (x ∷ xs) (suc i) b at = contains_following x b xs (read_there xs i b at)
 
 -- a number is at one place of a distinct list
 place_once : (xs : List ℕ) (i j b : ℕ) → AreDistinct xs → slice_get xs i ≡ Some b → slice_get xs j ≡ Some b → i ≡ j
@@ -64,7 +64,7 @@ distinct_push (x ∷ xs) b apart not_there = (
     | inl there ↦ apart.0 there
     | inr same ↦ not_there (subst (Contains (x ∷ xs)) (sym same) (contains_head x xs))
   ],
-  distinct_push xs b apart.1 (λ there. not_there (contains_behind x b xs there)),
+  distinct_push xs b apart.1 (λ there. not_there (contains_following x b xs there)),
 )
 
 -- a write keeps the order distinct

@@ -6,10 +6,10 @@ use Rattle.flat_machine.specs.Flat.{Flat, IsSized, IsNewest}
 use Rattle.flat_machine.specs.Steps.{FlatAnswer, Claimed, Taken, Released, Filled, Copied, Committed, Discarded}
 use Rattle.flat_machine.specs.Steps as step
 use Rattle.flat_machine.specs.Cases.{Case, Runs}
-use Rattle.flat_machine.specs.History.{IsStep}
-use Rattle.background.specs.Placing.{Put, Fresh, Again, PlaceCase, put_step, put_answer, back_steps, back_answers}
-use Rattle.background.specs.declared.outcome.Outcome.{Outcome}
-use Rattle.background.specs.declared.outcome.Outcome.TheVariants.{Placed, Refused, NoRoom, Nothing}
+use Rattle.flat_machine.specs.History.{IsValidStep}
+use Rattle.tiered_array.specs.Placing.{Put, Fresh, Again, PlaceCase, put_step, put_answer, back_steps, back_answers}
+use Rattle.tiered_array.specs.declared.outcome.Outcome.{Outcome}
+use Rattle.tiered_array.specs.declared.outcome.Outcome.TheVariants.{Placed, Refused, NoRoom, Nothing}
 use Rattle.script_laws.specs.Once.{Settles}
 use Rattle.script_laws.specs.Steady.{IsReached}
 use Rattle.script_laws.proofs.Trees.{Ends, Picks, Then, ends, picks, then, settles_by}
@@ -26,7 +26,7 @@ PutFits z (Fresh x) = IsSized z.payload x
 PutFits z Again = Unit {0}
 
 -- the fill or copy has numbers in range
-put_fits : (z : Groups) (w s b : ℕ) (what : Put) → s < 65536 → b < z.blocks → PutFits z what → IsStep z (put_step what w s b)
+put_fits : (z : Groups) (w s b : ℕ) (what : Put) → s < 65536 → b < z.blocks → PutFits z what → IsValidStep z (put_step what w s b)
 put_fits z w s b (Fresh x) low below sized = (low, sized)
 put_fits z w s b Again low below sized = (low, below)
 

@@ -8,20 +8,20 @@ use Rattle.extent_groups.specs.declared.class.Class.{Class}
 use Rattle.extent_groups.specs.declared.class.Class.TheVariants.{Mirrored, Parity}
 use Rattle.extent_groups.specs.Groups.{Groups, class_in}
 use Rattle.extent_groups.specs.Stores.{IsSlotOf}
-use Rattle.flat_machine.specs.Flat.{Flat, Content, IsSized, IsFree}
+use Rattle.flat_machine.specs.Flat.{Flat, Content, IsSized, IsUnheld}
 use Rattle.flat_machine.specs.History.{IsHistory}
 use Rattle.flat_machine.proofs.Newest.{same_map}
 use Rattle.flat_machine.proofs.Unmakes.{number_within}
 use Rattle.migrator.specs.Ages.{IsOldest}
-use Rattle.migrator.specs.Slots.{IsMirrored, class_at}
+use Rattle.migrator.specs.Slots.{IsMirrored, class_of_record}
 use Rattle.migrator.specs.First.{IsFirst, IsFirstAppend}
 use Rattle.cleaner.specs.declared.moves.Move.{Move}
 use Rattle.cleaner.specs.Plans.{IsPlugPlan, IsCleanPlan}
-use Rattle.background.specs.Tiered.{Tiered}
-use Rattle.background.specs.Placing.{Fresh, Again, PlaceCase}
-use Rattle.background.specs.Steps.{TierStep, Write, Demote, Plug, Clean, TierCase, WriteCase, DemoteCase, PlugCase, CleanCase, WritesAt, AppendsAt, MovesTo, GoesDown, Demotes, WritesIn, WritesBehind, Writes, Plugs, Cleans, Stays, IsFreeMirror, order_after}
-use Rattle.background.specs.declared.outcome.Outcome.{Outcome}
-use Rattle.background.specs.declared.outcome.Outcome.TheVariants.{Placed, NoRoom, Nothing}
+use Rattle.tiered_array.specs.Tiered.{Tiered}
+use Rattle.tiered_array.specs.Placing.{Fresh, Again, PlaceCase}
+use Rattle.tiered_array.specs.Steps.{TierStep, Write, Demote, Plug, Clean, TierCase, WriteCase, DemoteCase, PlugCase, CleanCase, WritesAt, AppendsAt, MovesTo, GoesDown, Demotes, WritesIn, WritesFollowing, Writes, Plugs, Cleans, Stays, IsFreeMirror, order_after}
+use Rattle.tiered_array.specs.declared.outcome.Outcome.{Outcome}
+use Rattle.tiered_array.specs.declared.outcome.Outcome.TheVariants.{Placed, NoRoom, Nothing}
 use Rattle.script_laws.specs.Once.{Settles}
 use Rattle.script_laws.specs.Steady.{IsReached}
 use Rattle.script_laws.specs.Bench.{AreDistinct, IsTiered}
@@ -57,7 +57,7 @@ distinct_after xs b (Placed r) apart = distinct_written xs b apart
 distinct_after xs b _ apart = apart
 
 -- a block that lies in a mirrored group has a record
-mirrored_record : (groups : Groups) (o : Option Record) → class_at groups o ≡ Some Mirrored → (r : Record) × (o ≡ Some r)
+mirrored_record : (groups : Groups) (o : Option Record) → class_of_record groups o ≡ Some Mirrored → (r : Record) × (o ≡ Some r)
 mirrored_record groups None is = absurd (none-some Mirrored is)
 mirrored_record groups (Some r) is = (r, refl)
 
@@ -80,7 +80,7 @@ module _ (z : Groups) (T : Tiered) (is : IsTiered z T) (w : ℕ) where
 
   -- nothing is done, a block is appended to the log, or a block goes into a slot
   stays_settle : (o : Outcome) → Settles (IsTiered z) (Stays T o)
-  stays_settle o = settles_by (Stays T o) (Ends o T) (λ p U c. (c.told, c.same)) (ends is)
+  stays_settle o = settles_by (Stays T o) (Ends o T) (λ p U c. (c.reported, c.same)) (ends is)
 
   appends_settle : (b s : ℕ) → s < 65536 → b < z.blocks → Settles (IsTiered z) (AppendsAt T w b s)
   appends_settle b s low below = notes_settle z (PlaceCase T.flat w s b Again) _ (place_settles z T.flat w s b is.reached low below Again tt)
@@ -91,17 +91,17 @@ module _ (z : Groups) (T : Tiered) (is : IsTiered z T) (w : ℕ) where
       (λ o G reached. record { reached = reached; distinct = is.distinct })
 
   -- demote: the oldest block goes to the first free slot of the log
-  down_settles : (keys : ℕ → ℕ) (b : ℕ) (slot : Option ℕ) → b < z.blocks → IsFirstAppend T.end T.flat.groups keys (IsFree T.flat) slot
+  down_settles : (keys : ℕ → ℕ) (b : ℕ) (slot : Option ℕ) → b < z.blocks → IsFirstAppend T.end T.flat.groups keys (IsUnheld T.flat) slot
       → Settles (IsTiered z) (GoesDown T w b slot)
   down_settles keys b None below first = stays_settle NoRoom
-  down_settles keys b (Some s) below first = appends_settle b s (append_within keys (IsFree T.flat) s first) below
+  down_settles keys b (Some s) below first = appends_settle b s (append_within keys (IsUnheld T.flat) s first) below
 
   demotes_settle : (keys : ℕ → ℕ) (chosen : Option ℕ) → IsMapOf T.flat.emitted keys → IsOldest T.order (IsMirrored T.flat.groups keys) chosen
       → Settles (IsTiered z) (Demotes T keys w chosen)
   demotes_settle keys None map oldest = stays_settle Nothing
   demotes_settle keys (Some b) map oldest =
       let r = mirrored_record T.flat.groups (record_at b (keys b)) oldest.passes in
-      picks (append_once T.end T.flat.groups keys (IsFree T.flat))
+      picks (append_once T.end T.flat.groups keys (IsUnheld T.flat))
       (λ slot first. down_settles keys b slot (block_low keys b r.0 map r.1) first)
 
   pub demote_settles : Settles (IsTiered z) (DemoteCase T w)
@@ -154,15 +154,15 @@ module _ (z : Groups) (T : Tiered) (is : IsTiered z T) (w : ℕ) where
 
 module _ (z : Groups) (w b : ℕ) (x : Content) (below : b < z.blocks) (sized : IsSized z.payload x) where
   -- with no free slot, a block goes down first
-  behind_settles : (T : Tiered) → IsTiered z T → Settles (IsTiered z) (WritesBehind T w b x)
-  behind_settles T is = settles_by (WritesBehind T w b x)
+  following_settles : (T : Tiered) → IsTiered z T → Settles (IsTiered z) (WritesFollowing T w b x)
+  following_settles T is = settles_by (WritesFollowing T w b x)
       (Then (DemoteCase T w) (λ o M. Picks (IsFirst (IsFreeMirror M.flat)) (WritesIn M w b x)))
       (λ o U c. (c.demoted, c.between, c.down, (c.slot, c.first, c.done)))
       (then (demote_settles z T is w) (λ o M now.
       picks (first_once (IsFreeMirror M.flat)) (λ slot first. writes_in z M now w b x slot below sized first)))
 
   writes_settle : (T : Tiered) → IsTiered z T → (slot : Option ℕ) → IsFirst (IsFreeMirror T.flat) slot → Settles (IsTiered z) (Writes T w b x slot)
-  writes_settle T is None first = behind_settles T is
+  writes_settle T is None first = following_settles T is
   writes_settle T is (Some s) first = writes_at z T is w b s x (slot_within z T is w Mirrored s first.holds.0) below sized
 
   write_settles : (T : Tiered) → IsTiered z T → Settles (IsTiered z) (WriteCase T w b x)

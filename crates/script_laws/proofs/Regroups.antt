@@ -10,9 +10,9 @@ use Rattle.flat_machine.specs.Cases.{Case}
 use Rattle.rebalancer.specs.declared.shift.Shift.{Shift}
 use Rattle.rebalancer.specs.Balancing.{IsBalance}
 use Rattle.rebalancer.specs.Rebuilding.{IsRebuild}
-use Rattle.background.specs.declared.regrouped.Regrouped.{Regrouped}
-use Rattle.background.specs.declared.regrouped.Regrouped.TheVariants.{Moved, Refused, Nothing}
-use Rattle.background.specs.Regrouping.{AreOwners, AreLost, IsBalanceOf, IsRebuildOf, ShiftCase, BalanceCase, RebuildCase}
+use Rattle.tiered_array.specs.declared.regrouped.Regrouped.{Regrouped}
+use Rattle.tiered_array.specs.declared.regrouped.Regrouped.TheVariants.{Moved, Refused, Nothing}
+use Rattle.tiered_array.specs.Regrouping.{AreOwners, AreLost, IsBalanceOf, IsRebuildOf, ShiftCase, BalanceCase, RebuildCase}
 use Rattle.script_laws.specs.Once.{Settles}
 use Rattle.script_laws.specs.Steady.{IsReached}
 use Rattle.script_laws.proofs.Trees.{Ends, Asks, Picks, Then, ends, asks, picks, then, settles_by}

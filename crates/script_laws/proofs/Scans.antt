@@ -9,7 +9,7 @@ use Rattle.flat_machine.specs.History.{IsHistory}
 use Rattle.flat_machine.specs.Restarted.{restarted}
 use Rattle.flat_machine.specs.Scans.{ScanCase, RestartAnswer, Restarted, NotRestarted, RestartCase}
 use Rattle.flat_machine.proofs.Newest.{same_map}
-use Rattle.flat_machine.proofs.Restarts.{history_tells, restarted_history}
+use Rattle.flat_machine.proofs.Restarts.{history_reports, restarted_history}
 use Rattle.script_laws.specs.Once.{Settles}
 use Rattle.script_laws.specs.Steady.{AreSteady, IsReached}
 use Rattle.script_laws.proofs.Trees.{Ends, Asks, Picks, ends, asks, picks, settles_by}
@@ -26,7 +26,7 @@ module _ (z : Groups) (F : Flat) (is : IsReached z F) where
   restarted_reached keys records map list = record {
     calm = record { steady = is.calm.steady; blocks = is.calm.blocks; payload = is.calm.payload };
     keys = keys;
-    history = restarted_history F keys records history.limits.sizes history.limits.least history.limits.most history.groups (history_tells F keys history) list;
+    history = restarted_history F keys records history.limits.sizes history.limits.least history.limits.most history.groups (history_reports F keys history) list;
   }
     where
       history : IsHistory F keys

@@ -2,10 +2,10 @@
 use Rattle.std.proofs.Common.{◌≡◌, ◌⊎◌, inl, inr, ℕ, ◌<◌, ◌≤◌, Bool, true, List, [], length, get_or, slice_index_or, unwrap_or, refl, sym, ap, ◌∙◌, subst, arith, Option, Some, None}
 use Rattle.std.proofs.lemmas.List.{ext_get_or}
 use Rattle.std.proofs.lemmas.Option.{same_Some, slice_get-get_or}
-use Rattle.extents.specs.Owners.{Owners, row_of, owner_of, load_of, lowest_free_of}
+use Rattle.extents.specs.Owners.{Owners, owner_row, owner_of, load_of, lowest_free_of}
 use Rattle.extent_groups.specs.Groups.{Groups, Agree}
 use Rattle.rebalancer.specs.declared.shift.Shift.{Shift}
-use Rattle.rebalancer.specs.Carrying.{member_on, Carries, CanGive, IsLowest}
+use Rattle.rebalancer.specs.Carrying.{member_on, CarriesGroup, CanGive, IsLowest}
 use Rattle.rebalancer.specs.Balancing.{PairBefore, IsBalanceShift, IsBalance}
 use Rattle.rebalancer.specs.Rebuilding.{IsBestTarget, IsRebuildShift, IsRebuild}
 use Rattle.script_laws.proofs.Quiet.{order_of}
@@ -19,21 +19,21 @@ module _ (groups : Groups) (o p : Owners) (one : Agree groups o) (other : Agree 
     where
       by : (x y : Option ℕ) → owner_of o d e ≡ x → owner_of p d e ≡ y → owner_of o d e ≡ owner_of p d e
       by None None a b = a ∙ sym b
-      by None (Some h) a b = let at = other.stands h d e b in (one.owned h at.0 _ at.1).1 ∙ sym b
-      by (Some g) y a b = let at = one.stands g d e a in a ∙ sym (other.owned g at.0 _ at.1).1
+      by None (Some h) a b = let at = other.matches h d e b in (one.owned h at.0 _ at.1).1 ∙ sym b
+      by (Some g) y a b = let at = one.matches g d e a in a ∙ sym (other.owned g at.0 _ at.1).1
 
   -- a row is read by its owners
-  row_at : (q : Owners) (d : ℕ) → d < length q.rows → row_of q d ≡ get_or q.rows d []
+  row_at : (q : Owners) (d : ℕ) → d < length q.rows → owner_row q d ≡ get_or q.rows d []
   row_at q d low = ap (λ r. unwrap_or r []) (slice_get-get_or q.rows d [] low)
 
-  owner_at : (q : Owners) (d e : ℕ) → e < length (row_of q d) → owner_of q d e ≡ get_or (row_of q d) e None
-  owner_at q d e low = ap (λ r. unwrap_or r None) (slice_get-get_or (row_of q d) e None low)
+  owner_at : (q : Owners) (d e : ℕ) → e < length (owner_row q d) → owner_of q d e ≡ get_or (owner_row q d) e None
+  owner_at q d e low = ap (λ r. unwrap_or r None) (slice_get-get_or (owner_row q d) e None low)
 
   pub owners_once : length o.rows ≡ length p.rows → o.extents ≡ p.extents → o ≡ p
   owners_once many wide = λ i. record { extents = wide i; rows = rows i }
     where
-      row_once : (d : ℕ) → d < length o.rows → d < length p.rows → row_of o d ≡ row_of p d
-      row_once d low too = ext_get_or None (row_of o d) (row_of p d) (one.wide d low ∙ wide ∙ sym (other.wide d too))
+      row_once : (d : ℕ) → d < length o.rows → d < length p.rows → owner_row o d ≡ owner_row p d
+      row_once d low too = ext_get_or None (owner_row o d) (owner_row p d) (one.wide d low ∙ wide ∙ sym (other.wide d too))
           (λ e within. sym (owner_at o d e within) ∙ owner_once d e
           ∙ owner_at p d e (let long = one.wide d low in let as_long = other.wide d too in omega arith))
 
@@ -123,7 +123,7 @@ module _ (o : Owners) (groups : Groups) (lost : List Bool) where
   rebuild_shift drive s r a b = same_shift s r group member to (same_extent o s r to a.extent b.extent)
     where
       group : s.group ≡ r.group
-      group = lowest_once (λ g. Carries groups drive g) s.group r.group a.lowest b.lowest
+      group = lowest_once (λ g. CarriesGroup groups drive g) s.group r.group a.lowest b.lowest
 
       member : s.member ≡ r.member
       member = same_Some s.member r.member (sym a.member ∙ ap (λ n. member_on groups n drive) group ∙ b.member)

@@ -7,9 +7,9 @@ use Rattle.extent_groups.specs.Groups.{Groups}
 use Rattle.extent_groups.specs.declared.class.Class.{Class}
 use Rattle.extent_groups.specs.declared.class.Class.TheVariants.{Mirrored, Parity}
 use Rattle.flat_machine.specs.declared.refusal.Refusal.TheVariants.{NoGroup, WrongClass, InUse, NoTicket, Outrun, VersionSpent, HopsSpent, Unwritten, Gone, Ahead, LogFull}
-use Rattle.flat_machine.specs.Flat.{Flat, Write, Holder, Worker, Ticket, Content, Waiting, Fresh, Moved, Stored, class_of, last_write, IsNewest, IsKept, IsFree, with_pair, without_pair}
+use Rattle.flat_machine.specs.Flat.{Flat, Write, Holder, Worker, Ticket, Content, Waiting, Fresh, Moved, Stored, class_of, last_write, IsNewest, IsArrayHeld, IsUnheld, with_pair, without_pair}
 use Rattle.flat_machine.specs.Steps.{FlatAnswer, Claimed, Taken, Released, NotHeld, Filled, Copied, Committed, Discarded, Found, FoundAt, Refused, Seen, Data, Stale}
-use Rattle.flat_machine.specs.Cases.{ClaimCase, ReleaseCase, FillCase, CopyCase, DiscardCase, ReadCase, ReadAtCase, IsGoneIn, IsSeen, IsAhead, ticketed, discarded, found_of, last_hop, CommitCase, CommitWith, IsFor, HasStamp, next_version, committed, last_version, longest_log}
+use Rattle.flat_machine.specs.Cases.{ClaimCase, ReleaseCase, FillCase, CopyCase, DiscardCase, ReadCase, ReadAtCase, IsGoneIn, IsSeen, IsAhead, ticketed, discarded, found_of, last_hop, CommitCase, CommitWith, IsFor, HasCopiedStamp, next_version, committed, last_version, longest_log}
 use Rattle.script_laws.specs.Once.{Settles}
 use Rattle.script_laws.specs.Steady.{AreSteady, IsSteady}
 use Rattle.script_laws.proofs.Trees.{Ends, Asks, Picks, ends, asks, picks, settles_by}
@@ -42,7 +42,7 @@ module _ (z : Groups) (F : Flat) (calm : IsSteady z F) (all : AreRecords F) wher
 
   -- claim: taken unless nobody holds the slot
   abbrev claim_tree : ℕ → ℕ → Steps
-  claim_tree w s = Asks (IsFree F s) (Ends (Claimed s) (record F { held = with_pair F.held s (Worker w) })) (Ends (Taken s) F)
+  claim_tree w s = Asks (IsUnheld F s) (Ends (Claimed s) (record F { held = with_pair F.held s (Worker w) })) (Ends (Taken s) F)
 
   pub claim_settles : (w s : ℕ) → Settles (IsSteady z) (ClaimCase F w s)
   claim_settles w s = settles_by (ClaimCase F w s) (claim_tree w s) to (asks (ends (changed calm refl refl refl)) (ends calm))
@@ -86,7 +86,7 @@ module _ (z : Groups) (F : Flat) (calm : IsSteady z F) (all : AreRecords F) wher
       Asks (Holds s (Worker w))
       (Asks (class_of F s ≡ None) (Ends (Refused NoGroup) F)
       (Asks (class_of F s ≡ Some Parity) (Ends (Refused WrongClass) F)
-      (Asks (IsKept F s) (Ends (Refused InUse) F)
+      (Asks (IsArrayHeld F s) (Ends (Refused InUse) F)
       (Asks (IsGoneIn F s) (Ends (Refused (Gone s)) F) (Ends (Filled s) (ticketed F w s (Fresh x)))))))
       (Ends (NotHeld s) F)
 
@@ -126,7 +126,7 @@ module _ (z : Groups) (F : Flat) (calm : IsSteady z F) (all : AreRecords F) wher
   copy_tree w s b =
       Asks (Holds s (Worker w))
       (Asks (class_of F s ≡ None) (Ends (Refused NoGroup) F)
-      (Asks (IsKept F s) (Ends (Refused InUse) F)
+      (Asks (IsArrayHeld F s) (Ends (Refused InUse) F)
       (Picks (IsNewest F.emitted b) (copied_tree w s b))))
       (Ends (NotHeld s) F)
 
@@ -195,7 +195,7 @@ module _ (z : Groups) (F : Flat) (calm : IsSteady z F) (all : AreRecords F) wher
       (Ends (Refused LogFull) F))
       (Ends (Refused VersionSpent) F)
   committed_tree w s b found (Some (Moved c v h x)) =
-      Asks (HasStamp found v h)
+      Asks (HasCopiedStamp found v h)
       (Asks (length F.emitted < longest_log)
       (Asks (IsGoneIn F s) (Ends (Refused (Gone s)) F)
       (Ends (Committed (record { block = b; version = v; hop = h + 1; place = s }))

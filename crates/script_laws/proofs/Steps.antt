@@ -4,7 +4,7 @@ use Rattle.extent_groups.specs.Groups.{Groups}
 use Rattle.flat_machine.specs.Flat.{Flat, Content, IsSized}
 use Rattle.flat_machine.specs.Steps.{FlatStep, Claim, Release, Fill, Copy, Commit, Discard, Read, ReadAt, Make, Unmake, MoveExtent, AddDrive, Lose}
 use Rattle.flat_machine.specs.Cases.{Case}
-use Rattle.flat_machine.specs.History.{IsStep}
+use Rattle.flat_machine.specs.History.{IsValidStep}
 use Rattle.flat_machine.proofs.Keeps.{step_keeps}
 use Rattle.script_laws.specs.Once.{Settles}
 use Rattle.script_laws.specs.Steady.{IsSteady, IsReached}
@@ -34,7 +34,7 @@ sized_as : (x : Content) (m n : ℕ) → m ≡ n → IsSized n x → IsSized m x
 sized_as x m n same is = subst (λ k. IsSized k x) (sym same) is
 
 -- the numbers of a step fit a state of the same sizes
-pub fits_as : (z : Groups) (F : Flat) (step : FlatStep) → IsSteady z F → IsStep z step → IsStep F.groups step
+pub fits_as : (z : Groups) (F : Flat) (step : FlatStep) → IsSteady z F → IsValidStep z step → IsValidStep F.groups step
 fits_as z F (Claim w s) calm fits = fits
 fits_as z F (Release w s) calm fits = fits
 fits_as z F (Fill w s x) calm fits = (fits.0, sized_as x F.groups.payload z.payload calm.payload fits.1)
@@ -50,7 +50,7 @@ fits_as z F AddDrive calm fits = fits
 fits_as z F (Lose d) calm fits = fits
 
 -- a step with numbers in range has one answer, and leaves one reached state
-pub step_settles : (z : Groups) (F : Flat) (step : FlatStep) → IsReached z F → IsStep z step → Settles (IsReached z) (Case F step)
+pub step_settles : (z : Groups) (F : Flat) (step : FlatStep) → IsReached z F → IsValidStep z step → Settles (IsReached z) (Case F step)
 step_settles z F step is fits = record {
   once = calm.once;
   keeps = λ a G case. let now = some_map G.emitted in record {

@@ -1,6 +1,6 @@
 -- Relations of an answer and a state that are made of tests, choices and steps. Each gives one answer and one state.
 use Rattle.std.proofs.Common.{◌≡◌, ◌⊎◌, inl, inr, sym, ◌∙◌, subst}
-use Rattle.script_laws.specs.Once.{IsOnce, Settles}
+use Rattle.script_laws.specs.Once.{IsFunctional, Settles}
 
 -- this answer and this state
 abbrev pub Ends : {A S : Type 0} → A → S → A → S → Type 0
@@ -29,7 +29,7 @@ ends {A} {S} {P} {a} {x} is = record {
 pub asks : {A S : Type 0} {P : S → Type 0} {Q : Type 0} {R T : A → S → Type 0} → Settles P R → Settles P T → Settles P (Asks Q R T)
 asks {A} {S} {P} {Q} {R} {T} left right = record { once = once; keeps = keeps }
   where
-    once : IsOnce (Asks Q R T)
+    once : IsFunctional (Asks Q R T)
     once a b G H (inl one) (inl other) = left.once a b G H one.1 other.1
     once a b G H (inl one) (inr other) = absurd (other.0 one.0)
     once a b G H (inr one) (inl other) = absurd (one.0 other.0)
@@ -52,7 +52,7 @@ pub then : {A S B T : Type 0} {P : T → Type 0} {Q : S → Type 0} {R : B → T
     → ((m : B) (M : T) → P M → Settles Q (next m M)) → Settles Q (Then R next)
 then {A} {S} {B} {T} {P} {Q} {R} {next} first each = record { once = once; keeps = λ a G x. (each x.0 x.1 (first.keeps x.0 x.1 x.2)).keeps a G x.3 }
   where
-    once : IsOnce (Then R next)
+    once : IsFunctional (Then R next)
     once a b G H x y =
         let same = first.once x.0 y.0 x.1 y.1 x.2 y.2 in
         let moved : next y.0 y.1 a G = subst (λ (n : B). next n y.1 a G) same.0 (subst (λ (n : T). next x.0 n a G) same.1 x.3) in

@@ -1,7 +1,7 @@
 -- States of a script all of whose drives are steady.
 use Rattle.std.specs.Prelude.{ℕ, List, [], ◌∷◌, Contains, Some, None}
 use Rattle.extent_groups.specs.Groups.{Groups}
-use Rattle.background.specs.Tiered.{Tiered}
+use Rattle.tiered_array.specs.Tiered.{Tiered}
 use Rattle.script_exec.specs.State.{State}
 use Rattle.script_laws.specs.Steady.{IsReached}
 

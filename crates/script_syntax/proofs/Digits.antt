@@ -25,12 +25,12 @@ grown n i d small digit =
     omega (arith, e)
 
 -- digits without a leading zero are the number that they spell
-pub told_number : (word : List ℕ) (n : ℕ) → AreDigits word → 0 < length word → length word ≤ 10
+pub reported_number : (word : List ℕ) (n : ℕ) → AreDigits word → 0 < length word → length word ≤ 10
     → (get_or word 0 0 ≡ 48 → length word ≡ 1) → read_on 0 word ≡ n → IsWritable n × (word ≡ decimal n)
-told_number word n digits some few lead told =
+reported_number word n digits some few lead reported =
     let small = digits_value_short own word 10 digits few in
     let e = decimal-digits_value own word digits some lead (omega arith) in
-    (rw (← told) small, sym (ap decimal (sym told) ∙ e))
+    (rw (← reported) small, sym (ap decimal (sym reported) ∙ e))
 
 -- a short number is spelled by digits
 pub digit_of : (word : List ℕ) (n : ℕ) → IsWritable n → word ≡ decimal n → AreDigits word

@@ -1,5 +1,6 @@
 -- The number at the start of a text, before the first separator.
-use Rattle.std.proofs.Common.{◌≡◌, ℕ, zero, suc, ◌+◌, ◌-◌, ◌*◌, ◌<◌, ◌≤◌, ◌^◌, List, [], ◌∷◌, ◌++◌, length, get_or, take, drop, min, refl, sym, ap, ◌∙◌, arith, decimal, length-take, inl, inr}
+use Rattle.std.proofs.Common.{◌≡◌, ℕ, zero, suc, ◌+◌, ◌-◌, ◌*◌, ◌<◌, ◌≤◌, ◌^◌, List, [], ◌∷◌, ◌++◌, length, get_or, take, drop, min, refl, sym, ap, ◌∙◌, arith, decimal, length-take, inl, inr, Option, Some, None}
+use Rattle.std.specs.Prelude.{IfSome}
 use Rattle.std.specs.Int.{IsInRange}
 use Rattle.std.specs.List.{All, onto_first, join_with_byte}
 use Rattle.std.proofs.lemmas.Bool.{cases_lt, eqb-true}
@@ -8,16 +9,16 @@ use Rattle.std.proofs.lemmas.List.Elements.{All-from_get_or}
 use Rattle.std.proofs.lemmas.List.Splits.{slice_split-cons_no, join_with_byte-slice_split}
 use Rattle.script_syntax.specs.Number.{IsNumeral, IsWritable}
 use Rattle.script_syntax.specs.Parts.{parts}
-use Rattle.script_syntax.proofs.Digits.{read_on, grown, digit_of, length_of, lead_of, told_number}
+use Rattle.script_syntax.proofs.Digits.{read_on, grown, digit_of, length_of, lead_of, reported_number}
 use Rattle.script_syntax.proofs.Numbers.{some_part}
-use Rattle.script_syntax.proofs.Splits.{Differs, IsThere, cut_at, uncut, not_true, one_part, there}
+use Rattle.script_syntax.proofs.Splits.{Differs, IsThere, cut_after, cut_at, uncut, not_true, one_part, there}
 
 -- the digits before a place, and the number that they spell
 pub record IsFront (separator : ℕ) (text : List ℕ) (at number : ℕ) : Type 0 where
   pub few : at ≤ 11
   pub digits : (k : ℕ) → k < at → IsInRange 48 57 (get_or text k 0)
   pub whole : (k : ℕ) → 0 ≤ k → k < at → IsThere separator text k → ⊥
-  pub told : number ≡ read_on 0 (take at text)
+  pub reported : number ≡ read_on 0 (take at text)
   pub small : number < 10 ^ at
 
 pub no_front : (separator : ℕ) (text : List ℕ) → IsFront separator text 0 0
@@ -25,7 +26,7 @@ no_front separator text = record {
   few = omega arith;
   digits = λ k below. absurd (omega (arith, below));
   whole = λ k low below. absurd (omega (arith, below));
-  told = refl;
+  reported = refl;
   small = omega arith;
 }
 
@@ -63,20 +64,21 @@ front_more separator text at number value inside few other digit is front = reco
   few = omega arith;
   digits = digits_more text at digit front.digits;
   whole = whole_more separator text at other front.whole;
-  told = rw (take_more text at 0 inside, front.told, is) (sym (read_end 0 (take at text) (get_or text at 0)));
+  reported = rw (take_more text at 0 inside, front.reported, is) (sym (read_end 0 (take at text) (get_or text at 0)));
   small = rw is (grown number at (get_or text at 0) front.small (omega (arith, digit)));
 }
 
 -- ---- the number
 
-front_number : (separator : ℕ) (text : List ℕ) (at number : ℕ) → at ≤ length text → IsNumeral text at → IsFront separator text at number
+-- digits that are a numeral spell a number
+pub front_number : (separator : ℕ) (text : List ℕ) (at number : ℕ) → at ≤ length text → IsNumeral text at → IsFront separator text at number
     → IsWritable number × (take at text ≡ decimal number)
 front_number separator text at number inside numeral front =
     let long : length (take at text) ≡ at = omega (arith, length-take at text) in
-    told_number (take at text) number
+    reported_number (take at text) number
     (λ k below. let before : k < at = omega (arith, long, below) in rw (get_or-take at text k 0 before) (front.digits k before))
     (omega (arith, long, numeral.some)) (omega (arith, long, numeral.few))
-    (λ zero_first. only_one zero_first long) (sym front.told)
+    (λ zero_first. only_one zero_first long) (sym front.reported)
   where
     only_one : get_or (take at text) 0 0 ≡ 48 → length (take at text) ≡ at → length (take at text) ≡ 1
     only_one zero_first long =
@@ -118,7 +120,7 @@ begins separator x text word rest differs e = go (parts separator text) refl
     go [] none = absurd (some_part separator text none)
     go (part ∷ ps) are =
         let onto : parts separator (x ∷ text) ≡ (x ∷ part) ∷ ps = slice_split-cons_no _ x text differs ∙ ap (onto_first x) are in
-        let told = sym e ∙ onto in
+        let reported = sym e ∙ onto in
         (part, ps, are, cc)
 
 -- and has the text's bytes up to a place that no separator is before or at
@@ -218,7 +220,20 @@ no_space n short =
 pub one_number : (word : List ℕ) (n : ℕ) → IsWritable n → word ≡ decimal n → parts 32 word ≡ decimal n ∷ []
 one_number word n short e = rw e (one_part 32 (decimal n) (no_space n short))
 
--- and a text of one word is that word
+-- and where a space follows it, it is the first word
+pub first_number : (text : List ℕ) (at n : ℕ) → at < length text → get_or text at 0 ≡ 32 → IsWritable n → take at text ≡ decimal n
+    → parts 32 text ≡ decimal n ∷ parts 32 (take (length text - (at + 1)) (drop (at + 1) text))
+first_number text at n inside is short spelled =
+    cut_after 32 text at inside (rw spelled (no_space n short)) is
+    ∙ ap (λ word. word ∷ parts 32 (take (length text - (at + 1)) (drop (at + 1) text))) spelled
+
+-- a text whose bytes up to its end are a number is that number alone
+pub only_number : (text : List ℕ) (count : ℕ) (found : Option ℕ) → length text ≤ count
+    → IfSome found (λ n. IsWritable n × (take count text ≡ decimal n)) → IfSome found (λ n. IsWritable n × (parts 32 text ≡ decimal n ∷ []))
+only_number text count None end found = tt
+only_number text count (Some n) end found = (found.0, one_number text n found.0 (sym (take_all count text end) ∙ found.1))
+
+-- a text of one word is that word
 pub word_alone : (word part : List ℕ) → parts 32 word ≡ part ∷ [] → word ≡ part
 word_alone word part e = sym (join_with_byte-slice_split 32 word) ∙ ap (join_with_byte 32) e
 

@@ -1,5 +1,5 @@
 -- Members as words, read from the left.
-use Rattle.std.proofs.Common.{◌≡◌, ℕ, ◌+◌, ◌<◌, ◌==◌, List, [], ◌∷◌, ◌++◌, refl, sym, ap, ◌∙◌, arith, map, decimal, eqb-true}
+use Rattle.std.proofs.Common.{◌≡◌, ℕ, ◌<◌, ◌==◌, List, [], ◌∷◌, ◌++◌, refl, sym, ap, ◌∙◌, arith, map, decimal, eqb-true}
 use Rattle.std.specs.List.{AllByRecursion, All, join_with_byte}
 use Rattle.std.proofs.lemmas.List.Elements.{All-from_get_or}
 use Rattle.std.proofs.lemmas.List.Splits.{join_with_byte-slice_split}
@@ -34,24 +34,24 @@ member_parts member short =
 -- a word without a dot is no member
 pub no_dot : (word front : List ℕ) → parts 46 word ≡ front ∷ [] → (member : Named) → IsWritableMember member → word ≡ member_word member → ⊥
 no_dot word front are member short e =
-    let told : front ∷ [] ≡ decimal member.drive ∷ decimal member.extent ∷ [] = sym are ∙ ap (parts 46) e ∙ member_parts member short in
-    cc told
+    let reported : front ∷ [] ≡ decimal member.drive ∷ decimal member.extent ∷ [] = sym are ∙ ap (parts 46) e ∙ member_parts member short in
+    cc reported
 
 -- before the dot of a member's word is the drive, and after it the extent
 pub around_dot : (word front back : List ℕ) → parts 46 word ≡ front ∷ parts 46 back
     → (member : Named) → IsWritableMember member → word ≡ member_word member
     → (front ≡ decimal member.drive) × (back ≡ decimal member.extent)
 around_dot word front back are member short e =
-    let told : front ∷ parts 46 back ≡ decimal member.drive ∷ decimal member.extent ∷ [] = sym are ∙ ap (parts 46) e ∙ member_parts member short in
-    let behind : parts 46 back ≡ decimal member.extent ∷ [] = cc in
-    (cc, sole_part 46 back _ behind)
+    let reported : front ∷ parts 46 back ≡ decimal member.drive ∷ decimal member.extent ∷ [] = sym are ∙ ap (parts 46) e ∙ member_parts member short in
+    let following : parts 46 back ≡ decimal member.extent ∷ [] = cc in
+    (cc, sole_part 46 back _ following)
 
 -- a word of a number, a dot and a number is a member's
 pub dotted : (word front back : List ℕ) (drive extent : ℕ) → parts 46 word ≡ front ∷ parts 46 back
     → IsWritable drive → IsWritable extent → front ≡ decimal drive → back ≡ decimal extent
     → word ≡ decimal drive ++ (46 ∷ decimal extent)
 dotted word front back drive extent are drive_short extent_short drive_is extent_is =
-    let behind : parts 46 back ≡ decimal extent ∷ [] =
+    let following : parts 46 back ≡ decimal extent ∷ [] =
     ap (parts 46) extent_is ∙ one_part 46 _ (digits_differ 46 extent (omega arith) extent_short) in
     let all : parts 46 word ≡ decimal drive ∷ decimal extent ∷ [] = cc in
     sym (join_with_byte-slice_split 46 word) ∙ ap (join_with_byte 46) all

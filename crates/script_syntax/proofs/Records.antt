@@ -16,15 +16,15 @@ no_record word result e P value refused r named =
     let long = named.spells.length in
     let twice = (decode_of-ok word named.bytes named.decoded).2 in
     let sized : decode_sized word 12 ≡ Ok named.bytes = decode_sized-twice word 12 (omega arith) ∙ named.decoded in
-    let told = rw sized at value in
-    let ok = told.0 in
+    let reported = rw sized at value in
+    let ok = reported.0 in
     cc (sym ok ∙ refused)
 
 -- a single word that names no record isn't that of a record
 pub not_alone : (ws : List (List ℕ)) (word : List ℕ) → ws ≡ word ∷ [] → ((r : Record) → IsRecordWord r word → ⊥)
     → (r : Record) → RecordAlone r ws → ⊥
 not_alone ws word spelled none r alone =
-    let same : alone.word ≡ word = let told = sym alone.spelled ∙ spelled in cc in
+    let same : alone.word ≡ word = let reported = sym alone.spelled ∙ spelled in cc in
     let named : IsRecordWord r word = rw (← same) alone.named in
     none r named
 

@@ -9,10 +9,10 @@ use Rattle.hex.proofs.HexLemmas.{decode_of-ok}
 use Rattle.map_join.specs.declared.records.Record.{Record}
 use Rattle.script_syntax.specs.Number.{IsWritable}
 use Rattle.script_syntax.specs.Words.{words}
-use Rattle.script_syntax.specs.Order.{Order, Behind, Nothing, Told, Content, Members, behind_of, kind_behind, kinds_of, ordered, tail_of, values_of, verb_of, word_of}
-use Rattle.script_syntax.specs.Reading.{Finds, IsFound, Reads}
+use Rattle.script_syntax.specs.Order.{Order, Following, Nothing, Reported, Content, Members, following_of, kind_following, kinds_of, ordered, tail_of, values_of, verb_of, keyword_of}
+use Rattle.script_syntax.specs.Reading.{Finds, IsParsedAs, ParsesLine}
 use Rattle.script_syntax.specs.declared.command.Command.{Command}
-use Rattle.script_syntax.specs.Spelling.{member_word, line_of, Follows, IsBehind, IsClassWord, IsLong, IsSized, IsWritableMember, PayloadAlone, Spells}
+use Rattle.script_syntax.specs.Spelling.{member_word, line_of, FollowsVerb, IsTrailing, IsClassWord, IsLong, IsSized, IsWritableMember, PayloadAlone, SpellsCommand}
 use Rattle.extent_groups.specs.declared.class.Class.{Class}
 use Rattle.extent_groups.specs.declared.class.Class.TheVariants as class
 use Rattle.script_syntax.specs.declared.command.Named.{Named}
@@ -22,7 +22,7 @@ use Rattle.script_syntax.specs.declared.verb.Tail.TheVariants as tail
 use Rattle.script_syntax.proofs.Members.{digits_differ}
 use Rattle.script_syntax.proofs.Numbers.{rest_again}
 use Rattle.script_syntax.proofs.Splits.{Differs, one_part, first_part, not_true}
-use Rattle.script_syntax.proofs.Table.{behind_again, behind_as, count_again, one_verb, tail_again, values_again, verb_again, verb_word}
+use Rattle.script_syntax.proofs.Table.{following_again, following_as, count_again, one_verb, tail_again, values_again, verb_again, verb_word}
 
 -- a word without a space
 abbrev pub IsWord : List ℕ → Type 0
@@ -59,8 +59,8 @@ class_word class.Parity word named = rw named (All-from_recursion (Differs 32) (
 no_space_digit : (c : ℕ) → is_hex_digit c ≡ true → Differs 32 c
 no_space_digit c digit = not_true (c == 32) (λ same.
     let e : c ≡ 32 = eqb-true c 32 same in
-    let told : is_hex_digit 32 ≡ true = rw e at digit in
-    cc told)
+    let reported : is_hex_digit 32 ≡ true = rw e at digit in
+    cc reported)
 
 hex_word : (digits bytes : List ℕ) → decode_of digits ≡ Ok bytes → IsWord digits
 hex_word digits bytes decoded =
@@ -68,43 +68,43 @@ hex_word digits bytes decoded =
     All-from_get_or (Differs 32) digits 0 (λ k below. no_space_digit (get_or digits k 0) (pass k 0 below))
 
 -- the words after a command's numbers have no spaces
-behind_words : (behind : Behind) (ws : List (List ℕ)) → IsBehind behind ws → AllByRecursion IsWord ws
-behind_words Nothing ws is = rw is tt
-behind_words (Told r) ws is = rw is.spelled (hex_word is.word is.named.bytes is.named.decoded, tt)
-behind_words (Content payload) ws is = rw is.spelled (hex_word is.digits payload is.decoded, tt)
-behind_words (Members level members) ws is =
+following_words : (following : Following) (ws : List (List ℕ)) → IsTrailing following ws → AllByRecursion IsWord ws
+following_words Nothing ws is = rw is tt
+following_words (Reported r) ws is = rw is.spelled (hex_word is.word is.named.bytes is.named.decoded, tt)
+following_words (Content payload) ws is = rw is.spelled (hex_word is.digits payload is.decoded, tt)
+following_words (Members level members) ws is =
     rw is.spelled (class_word level is.word is.named, rw is.listed.spelled (member_words members is.listed.short))
 
 words_on : (front back : List (List ℕ)) → AllByRecursion IsWord front → AllByRecursion IsWord back → AllByRecursion IsWord (front ++ back)
 words_on [] back first second = second
 words_on (word ∷ front) back first second = (first.0, words_on front back first.1 second)
 
-follow_words : (order : Order) (ws : List (List ℕ)) → Follows order ws → AllByRecursion IsWord ws
+follow_words : (order : Order) (ws : List (List ℕ)) → FollowsVerb order ws → AllByRecursion IsWord ws
 follow_words order ws f =
-    rw f.spelled (words_on _ f.rest (number_words (values_of order) f.writable) (behind_words (behind_of order) f.rest f.behind))
+    rw f.spelled (words_on _ f.rest (number_words (values_of order) f.writable) (following_words (following_of order) f.rest f.following))
 
 -- the words of a line that spells a command
-pub spelled_words : (order : Order) (line : List ℕ) (s : Spells order line) → words line ≡ word_of (verb_of order) ∷ s.rest
+pub spelled_words : (order : Order) (line : List ℕ) (s : SpellsCommand order line) → words line ≡ keyword_of (verb_of order) ∷ s.rest
 spelled_words order line s =
     ap words s.line_is ∙ words_again _ s.rest (verb_word (verb_of order)) (follow_words order s.rest s.follows)
 
 -- a command that was found after its verb is spelled by the line
 pub found_spells : (asked : Verb) (size : ℕ) (line word : List ℕ) (ws : List (List ℕ)) (order : Order)
-    → words line ≡ word ∷ ws → word ≡ word_of asked → IsFound asked size ws order → Spells order line
+    → words line ≡ word ∷ ws → word ≡ keyword_of asked → IsParsedAs asked size ws order → SpellsCommand order line
 found_spells asked size line word ws order cut named found = record {
   rest = ws;
   follows = found.follows;
   line_is = sym (join_with_byte-slice_split 32 line) ∙ ap line_of cut
-      ∙ ap (λ w. line_of (w ∷ ws)) (named ∙ ap word_of (sym found.asked));
+      ∙ ap (λ w. line_of (w ∷ ws)) (named ∙ ap keyword_of (sym found.asked));
 }
 
 -- and a command that the line spells is found
 pub spelled_found : (asked : Verb) (size : ℕ) (line word : List ℕ) (ws : List (List ℕ)) (order : Order)
-    → words line ≡ word ∷ ws → word ≡ word_of asked → IsSized size order → Spells order line → IsFound asked size ws order
+    → words line ≡ word ∷ ws → word ≡ keyword_of asked → IsSized size order → SpellsCommand order line → IsParsedAs asked size ws order
 spelled_found asked size line word ws order cut named sized s =
-    let told = sym cut ∙ spelled_words order line s in
+    let reported = sym cut ∙ spelled_words order line s in
     let rest : ws ≡ s.rest = cc in
-    let head : word ≡ word_of (verb_of order) = cc in record {
+    let head : word ≡ keyword_of (verb_of order) = cc in record {
       asked = one_verb (verb_of order) asked (sym head ∙ named);
       sized = sized;
       follows = rw rest s.follows;
@@ -114,19 +114,19 @@ spelled_found asked size line word ws order cut named sized s =
 pub found_as : (asked : Verb) (t : Tail) (size count : ℕ) (ns : List ℕ) (r : Record) (payload : List ℕ) (level : Class) (members : List Named)
     (ws back : List (List ℕ)) → length ns ≡ 5 → count ≡ length (kinds_of asked) → tail_of asked ≡ t
     → AllByRecursion IsWritable (take count ns) → ws ≡ map decimal (take count ns) ++ back
-    → IsBehind (behind_as t r payload level members) back → IsLong size (behind_as t r payload level members)
-    → IsFound asked size ws (ordered asked (λ i. slice_index ns i) r payload level members)
-found_as asked t size count ns r payload level members ws back five counted tailed writable spelled behind long =
+    → IsTrailing (following_as t r payload level members) back → IsLong size (following_as t r payload level members)
+    → IsParsedAs asked size ws (ordered asked (λ i. slice_index ns i) r payload level members)
+found_as asked t size count ns r payload level members ws back five counted tailed writable spelled following long =
     let values = values_again asked ns r payload level members five in
-    let tail_is = behind_again asked (λ i. slice_index ns i) r payload level members
-    ∙ ap (λ k. behind_as k r payload level members) tailed in
+    let tail_is = following_again asked (λ i. slice_index ns i) r payload level members
+    ∙ ap (λ k. following_as k r payload level members) tailed in
     record {
       asked = verb_again asked (λ i. slice_index ns i) r payload level members;
       sized = rw tail_is long;
       follows = record {
         rest = back;
         writable = rw (values, ← counted) writable;
-        behind = rw tail_is behind;
+        following = rw tail_is following;
         spelled = rw (values, ← counted) spelled;
       };
     }
@@ -134,50 +134,50 @@ found_as asked t size count ns r payload level members ws back five counted tail
 -- without its numbers there is no command of the verb
 pub no_numbers : (asked : Verb) (size count : ℕ) (ws : List (List ℕ)) → count ≡ length (kinds_of asked)
     → ((ns : List ℕ) (rest : List (List ℕ)) → length ns ≡ count → AllByRecursion IsWritable ns → ws ≡ map decimal ns ++ rest → ⊥)
-    → (order : Order) → IsFound asked size ws order → ⊥
+    → (order : Order) → IsParsedAs asked size ws order → ⊥
 no_numbers asked size count ws counted none order found =
     let f = found.follows in
     none (values_of order) f.rest (count_again order ∙ ap (λ v. length (kinds_of v)) found.asked ∙ sym counted) f.writable f.spelled
 
 -- nor without what follows them
-pub no_behind : (asked : Verb) (t : Tail) (size count : ℕ) (ns : List ℕ) (ws back : List (List ℕ)) → length ns ≡ 5 → count ≤ 5
+pub no_following : (asked : Verb) (t : Tail) (size count : ℕ) (ns : List ℕ) (ws back : List (List ℕ)) → length ns ≡ 5 → count ≤ 5
     → count ≡ length (kinds_of asked) → tail_of asked ≡ t → ws ≡ map decimal (take count ns) ++ back
-    → ((behind : Behind) → kind_behind behind ≡ t → IsLong size behind → IsBehind behind back → ⊥)
-    → (order : Order) → IsFound asked size ws order → ⊥
-no_behind asked t size count ns ws back five few counted tailed spelled none order found =
+    → ((following : Following) → kind_following following ≡ t → IsLong size following → IsTrailing following back → ⊥)
+    → (order : Order) → IsParsedAs asked size ws order → ⊥
+no_following asked t size count ns ws back five few counted tailed spelled none order found =
     let f = found.follows in
     let as_many : length (values_of order) ≡ length (take count ns) =
     count_again order ∙ ap (λ v. length (kinds_of v)) found.asked ∙ sym counted ∙ omega (arith, length-take count ns) in
     let same : f.rest ≡ back = rest_again (values_of order) (take count ns) f.rest back as_many (sym f.spelled ∙ spelled) in
-    none (behind_of order) (tail_again order ∙ ap tail_of found.asked ∙ tailed) found.sized (rw same at f.behind)
+    none (following_of order) (tail_again order ∙ ap tail_of found.asked ∙ tailed) found.sized (rw same at f.following)
 
-pub no_payload_behind : (back : List (List ℕ)) (size : ℕ) → ((bytes : List ℕ) → length bytes ≡ size → PayloadAlone bytes back → ⊥)
-    → (behind : Behind) → kind_behind behind ≡ tail.Payload → IsLong size behind → IsBehind behind back → ⊥
-no_payload_behind back size none (Content payload) is long there = none payload long there
-no_payload_behind back size none _ is long there = cc is
+pub no_payload_following : (back : List (List ℕ)) (size : ℕ) → ((bytes : List ℕ) → length bytes ≡ size → PayloadAlone bytes back → ⊥)
+    → (following : Following) → kind_following following ≡ tail.Payload → IsLong size following → IsTrailing following back → ⊥
+no_payload_following back size none (Content payload) is long there = none payload long there
+no_payload_following back size none _ is long there = cc is
 
 -- whether a payload follows the numbers
-pub payload_found : (asked : Verb) (size count : ℕ) (command : Command) (bytes : List ℕ) (ws back : List (List ℕ)) (told : Bool)
+pub payload_found : (asked : Verb) (size count : ℕ) (command : Command) (bytes : List ℕ) (ws back : List (List ℕ)) (reported : Bool)
     → length command.numbers ≡ 5 → count ≤ 5 → count ≡ length (kinds_of asked) → tail_of asked ≡ tail.Payload → command.verb ≡ asked
     → AllByRecursion IsWritable (take count command.numbers) → ws ≡ map decimal (take count command.numbers) ++ back
-    → (told ≡ true → PayloadAlone bytes back)
-    → (told ≡ false → (content : List ℕ) → length content ≡ size → PayloadAlone content back → ⊥)
-    → length bytes ≡ size → Finds asked size ws bytes command told
+    → (reported ≡ true → PayloadAlone bytes back)
+    → (reported ≡ false → (content : List ℕ) → length content ≡ size → PayloadAlone content back → ⊥)
+    → length bytes ≡ size → Finds asked size ws bytes command reported
 payload_found asked size count command bytes ws back true five few counted tailed named writable spelled put none long =
     rw named (found_as asked tail.Payload size count command.numbers command.record bytes command.class command.members.items ws back five counted tailed
     writable spelled (put refl) long)
 payload_found asked size count command bytes ws back false five few counted tailed named writable spelled put none long =
-    no_behind asked tail.Payload size count command.numbers ws back five few counted tailed spelled (no_payload_behind back size (none refl))
+    no_following asked tail.Payload size count command.numbers ws back five few counted tailed spelled (no_payload_following back size (none refl))
 
 -- what was found after the first word is what the line spells
 read_line : (asked : Verb) (size : ℕ) (line word bytes : List ℕ) (ws : List (List ℕ)) (command : Command) (found : Bool)
-    → words line ≡ word ∷ ws → word ≡ word_of asked → Finds asked size ws bytes command found → Reads size line bytes command found
+    → words line ≡ word ∷ ws → word ≡ keyword_of asked → Finds asked size ws bytes command found → ParsesLine size line bytes command found
 read_line asked size line word bytes ws command true cut named found =
     record { spells = found_spells asked size line word ws _ cut named found; sized = found.sized }
 read_line asked size line word bytes ws command false cut named none =
     λ order read. none order (spelled_found asked size line word ws order cut named read.sized read.spells)
 
 pub read_result : {E : Type 0} (asked : Verb) (size : ℕ) (line word bytes : List ℕ) (ws : List (List ℕ)) (command : Command) (r : Result Bool E)
-    → words line ≡ word ∷ ws → word ≡ word_of asked → IfOk r (Finds asked size ws bytes command) → IfOk r (Reads size line bytes command)
+    → words line ≡ word ∷ ws → word ≡ keyword_of asked → IfOk r (Finds asked size ws bytes command) → IfOk r (ParsesLine size line bytes command)
 read_result asked size line word bytes ws command (Ok found) cut named h = read_line asked size line word bytes ws command found cut named h
 read_result asked size line word bytes ws command (Err e) cut named h = h

@@ -48,18 +48,24 @@ front_differs separator text at inside none =
     let front : k < at = omega (arith, length-take at text) in
     rw (get_or-take at text k 0 front) (not_true _ (none k (omega arith) front)))
 
--- the first separator ends the first part, and the parts of what follows it are the others
-pub cut_at : (separator : ℕ) (text : List ℕ) (at : ℕ) → at < length text
-    → ((k : ℕ) → 0 ≤ k → k < at → IsThere separator text k → ⊥) → IsThere separator text at
+-- a separator after bytes that differ from it ends the first part, and the parts of what follows it are the others
+pub cut_after : (separator : ℕ) (text : List ℕ) (at : ℕ) → at < length text → All (Differs separator) (take at text)
+    → get_or text at 0 ≡ separator
     → parts separator text ≡ take at text ∷ parts separator (take (length text - (at + 1)) (drop (at + 1) text))
-cut_at separator text at inside none there =
-    let is : get_or text at 0 ≡ separator = eqb-true _ _ there in
+cut_after separator text at inside differs is =
     let back : take (length text - (at + 1)) (drop (at + 1) text) ≡ drop (at + 1) text =
     take_all _ _ (omega (arith, length-drop (at + 1) text)) in
     let cut : text ≡ take at text ++ separator ∷ drop (at + 1) text =
     split_at text at 0 inside ∙ ap (λ b. take at text ++ b ∷ drop (suc at) text) is ∙ rw add-one refl in
-    ap (parts separator) cut ∙ first_part separator _ _ (front_differs separator text at inside none)
+    ap (parts separator) cut ∙ first_part separator _ _ differs
     ∙ ap (λ rest. take at text ∷ parts separator rest) (sym back)
+
+-- as does the first separator
+pub cut_at : (separator : ℕ) (text : List ℕ) (at : ℕ) → at < length text
+    → ((k : ℕ) → 0 ≤ k → k < at → IsThere separator text k → ⊥) → IsThere separator text at
+    → parts separator text ≡ take at text ∷ parts separator (take (length text - (at + 1)) (drop (at + 1) text))
+cut_at separator text at inside none there =
+    cut_after separator text at inside (front_differs separator text at inside none) (eqb-true _ _ there)
 
 pub there : (separator : ℕ) (text : List ℕ) (at : ℕ) → get_or text at 0 ≡ separator → IsThere separator text at
 there separator text at e = grind (arith)

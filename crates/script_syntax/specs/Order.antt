@@ -49,20 +49,20 @@ pub record Number : Type 0 where
   pub value : ℕ
 
 -- what follows a command's numbers
-pub data Behind : Type 0 where
-  Nothing : Behind
-  Told : Record → Behind
-  Content : List ℕ → Behind
-  Members : Class → List Named → Behind
+pub data Following : Type 0 where
+  Nothing : Following
+  Reported : Record → Following
+  Content : List ℕ → Following
+  Members : Class → List Named → Following
 
 -- a command as it is written
 pub record Shape : Type 0 where
   pub verb : Verb
   pub numbers : List Number
-  pub behind : Behind
+  pub following : Following
 
-abbrev pub form : Verb → List Number → Behind → Shape
-form asked ns rest = record { verb = asked; numbers = ns; behind = rest }
+abbrev pub form : Verb → List Number → Following → Shape
+form asked ns rest = record { verb = asked; numbers = ns; following = rest }
 
 -- a number of each kind
 abbrev pub worker : ℕ → Number
@@ -87,35 +87,35 @@ abbrev pub size : ℕ → Number
 size n = record { kind = kind.Size; value = n }
 
 -- the word that a verb is written as
-abbrev pub word_of : Verb → List ℕ
-word_of verb.Array = codes "array"
-word_of verb.Make = codes "make"
-word_of verb.Unmake = codes "unmake"
-word_of verb.Claim = codes "claim"
-word_of verb.Release = codes "release"
-word_of verb.Fill = codes "fill"
-word_of verb.Copy = codes "copy"
-word_of verb.Commit = codes "commit"
-word_of verb.Discard = codes "discard"
-word_of verb.Read = codes "read"
-word_of verb.At = codes "at"
-word_of verb.Write = codes "write"
-word_of verb.Trim = codes "trim"
-word_of verb.Demote = codes "demote"
-word_of verb.Plug = codes "plug"
-word_of verb.Clean = codes "clean"
-word_of verb.Take = codes "take"
-word_of verb.Merge = codes "merge"
-word_of verb.Same = codes "same"
-word_of verb.Show = codes "show"
-word_of verb.Map = codes "map"
-word_of verb.Log = codes "log"
-word_of verb.Scan = codes "scan"
-word_of verb.Restart = codes "restart"
-word_of verb.Add = codes "add"
-word_of verb.Balance = codes "balance"
-word_of verb.Rebuild = codes "rebuild"
-word_of verb.Lose = codes "lose"
+abbrev pub keyword_of : Verb → List ℕ
+keyword_of verb.Array = codes "array"
+keyword_of verb.Make = codes "make"
+keyword_of verb.Unmake = codes "unmake"
+keyword_of verb.Claim = codes "claim"
+keyword_of verb.Release = codes "release"
+keyword_of verb.Fill = codes "fill"
+keyword_of verb.Copy = codes "copy"
+keyword_of verb.Commit = codes "commit"
+keyword_of verb.Discard = codes "discard"
+keyword_of verb.Read = codes "read"
+keyword_of verb.At = codes "at"
+keyword_of verb.Write = codes "write"
+keyword_of verb.Trim = codes "trim"
+keyword_of verb.Demote = codes "demote"
+keyword_of verb.Plug = codes "plug"
+keyword_of verb.Clean = codes "clean"
+keyword_of verb.Take = codes "take"
+keyword_of verb.Merge = codes "merge"
+keyword_of verb.Same = codes "same"
+keyword_of verb.Show = codes "show"
+keyword_of verb.Map = codes "map"
+keyword_of verb.Log = codes "log"
+keyword_of verb.Scan = codes "scan"
+keyword_of verb.Restart = codes "restart"
+keyword_of verb.Add = codes "add"
+keyword_of verb.Balance = codes "balance"
+keyword_of verb.Rebuild = codes "rebuild"
+keyword_of verb.Lose = codes "lose"
 
 -- every verb
 abbrev pub all_verbs : List Verb
@@ -134,13 +134,13 @@ shape (Copy w s b) = form verb.Copy (worker w ∷ slot s ∷ block b ∷ []) Not
 shape (Commit w s b) = form verb.Commit (worker w ∷ slot s ∷ block b ∷ []) Nothing
 shape (Discard w s) = form verb.Discard (worker w ∷ slot s ∷ []) Nothing
 shape (Read b) = form verb.Read (block b ∷ []) Nothing
-shape (At r) = form verb.At [] (Told r)
+shape (At r) = form verb.At [] (Reported r)
 shape (Write w b payload) = form verb.Write (worker w ∷ block b ∷ []) (Content payload)
 shape (Trim w b) = form verb.Trim (worker w ∷ block b ∷ []) Nothing
 shape (Demote w) = form verb.Demote (worker w ∷ []) Nothing
 shape (Plug w) = form verb.Plug (worker w ∷ []) Nothing
 shape (Clean w) = form verb.Clean (worker w ∷ []) Nothing
-shape (Take m r) = form verb.Take (table m ∷ []) (Told r)
+shape (Take m r) = form verb.Take (table m ∷ []) (Reported r)
 shape (Merge into from) = form verb.Merge (table into ∷ table from ∷ []) Nothing
 shape (Same left right) = form verb.Same (table left ∷ table right ∷ []) Nothing
 shape (Show m) = form verb.Show (table m ∷ []) Nothing
@@ -160,8 +160,8 @@ verb_of order = (shape order).verb
 abbrev pub numbers_of : Order → List Number
 numbers_of order = (shape order).numbers
 
-abbrev pub behind_of : Order → Behind
-behind_of order = (shape order).behind
+abbrev pub following_of : Order → Following
+following_of order = (shape order).following
 
 abbrev pub values_of : Order → List ℕ
 values_of order = map (λ n. n.value) (numbers_of order)
@@ -198,8 +198,8 @@ ordered verb.Rebuild n r payload level members = Rebuild (n 0)
 ordered verb.Lose n r payload level members = Lose (n 0)
 
 -- a command of the program, with the payload that is in the buffer
-abbrev pub order_of : Command → List ℕ → Order
-order_of command bytes =
+abbrev pub command_order : Command → List ℕ → Order
+command_order command bytes =
     ordered command.verb (λ i. slice_index command.numbers i) command.record bytes command.class command.members.items
 
 -- the shape of every command of a verb
@@ -211,11 +211,11 @@ abbrev pub kinds_of : Verb → List Kind
 kinds_of asked = map (λ n. n.kind) (sample asked).numbers
 
 -- what follows a verb's numbers
-abbrev pub kind_behind : Behind → Tail
-kind_behind Nothing = tail.Nothing
-kind_behind (Told r) = tail.Record
-kind_behind (Content payload) = tail.Payload
-kind_behind (Members level members) = tail.Members
+abbrev pub kind_following : Following → Tail
+kind_following Nothing = tail.Nothing
+kind_following (Reported r) = tail.Record
+kind_following (Content payload) = tail.Payload
+kind_following (Members level members) = tail.Members
 
 abbrev pub tail_of : Verb → Tail
-tail_of asked = kind_behind (sample asked).behind
+tail_of asked = kind_following (sample asked).following

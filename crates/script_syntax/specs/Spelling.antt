@@ -5,7 +5,7 @@ use Rattle.hex.specs.Hex.{decode_of}
 use Rattle.map_join.specs.Record.{Spells as RecordSpells}
 use Rattle.map_join.specs.declared.records.Record.{Record}
 use Rattle.script_syntax.specs.Number.{IsWritable}
-use Rattle.script_syntax.specs.Order.{Order, Behind, Nothing, Told, Content, Members, word_of, verb_of, values_of, behind_of}
+use Rattle.script_syntax.specs.Order.{Order, Following, Nothing, Reported, Content, Members, keyword_of, verb_of, values_of, following_of}
 use Rattle.extent_groups.specs.declared.class.Class.{Class}
 use Rattle.extent_groups.specs.declared.class.Class.TheVariants as class
 use Rattle.script_syntax.specs.declared.command.Named.{Named}
@@ -25,7 +25,7 @@ IsClassWord class.Mirrored word = word ≡ codes "m"
 IsClassWord class.Parity word = word ≡ codes "p"
 
 -- a group is made of three to eight members
-pub record AreMembers (members : List Named) (ws : List (List ℕ)) : Type 0 where
+pub record AreMemberWords (members : List Named) (ws : List (List ℕ)) : Type 0 where
   pub short : AllByRecursion IsWritableMember members
   pub enough : 3 ≤ length members
   pub few : length members ≤ 8
@@ -36,7 +36,7 @@ pub record ClassAndMembers (class : Class) (members : List Named) (ws : List (Li
   pub word : List ℕ
   pub rest : List (List ℕ)
   pub named : IsClassWord class word
-  pub listed : AreMembers members rest
+  pub listed : AreMemberWords members rest
   pub spelled : ws ≡ word ∷ rest
 
 -- a payload alone, in hex digits of either case
@@ -59,41 +59,41 @@ pub record RecordAlone (r : Record) (ws : List (List ℕ)) : Type 0 where
   pub spelled : ws ≡ word ∷ []
 
 -- the words after a command's numbers
-abbrev pub IsBehind : Behind → List (List ℕ) → Type 0
-IsBehind Nothing ws = ws ≡ []
-IsBehind (Told r) ws = RecordAlone r ws
-IsBehind (Content payload) ws = PayloadAlone payload ws
-IsBehind (Members level members) ws = ClassAndMembers level members ws
+abbrev pub IsTrailing : Following → List (List ℕ) → Type 0
+IsTrailing Nothing ws = ws ≡ []
+IsTrailing (Reported r) ws = RecordAlone r ws
+IsTrailing (Content payload) ws = PayloadAlone payload ws
+IsTrailing (Members level members) ws = ClassAndMembers level members ws
 
 -- the words that follow the first one of a command: its numbers, and what comes after them
-pub record Follows (order : Order) (ws : List (List ℕ)) : Type 0 where
+pub record FollowsVerb (order : Order) (ws : List (List ℕ)) : Type 0 where
   pub rest : List (List ℕ)
   pub writable : AllByRecursion IsWritable (values_of order)
-  pub behind : IsBehind (behind_of order) rest
+  pub following : IsTrailing (following_of order) rest
   pub spelled : ws ≡ map decimal (values_of order) ++ rest
 
 -- a record that a command names has a version above 0
-abbrev pub IsOfWrite : Behind → Type 0
-IsOfWrite (Told r) = 0 < r.version
+abbrev pub IsOfWrite : Following → Type 0
+IsOfWrite (Reported r) = 0 < r.version
 IsOfWrite _ = Unit {0}
 
-abbrev pub IsWritten : Order → Type 0
-IsWritten order = IsOfWrite (behind_of order)
+abbrev pub IsVersioned : Order → Type 0
+IsVersioned order = IsOfWrite (following_of order)
 
 -- the line that words make, with one space between two of them
 abbrev pub line_of : List (List ℕ) → List ℕ
 line_of ws = join_with_byte 32 ws
 
 -- the command is written as the line
-pub record Spells (order : Order) (line : List ℕ) : Type 0 where
+pub record SpellsCommand (order : Order) (line : List ℕ) : Type 0 where
   pub rest : List (List ℕ)
-  pub follows : Follows order rest
-  pub line_is : line ≡ line_of (word_of (verb_of order) ∷ rest)
+  pub follows : FollowsVerb order rest
+  pub line_is : line ≡ line_of (keyword_of (verb_of order) ∷ rest)
 
 -- what follows the numbers, if it is a payload, has this length
-abbrev pub IsLong : ℕ → Behind → Type 0
+abbrev pub IsLong : ℕ → Following → Type 0
 IsLong size (Content payload) = length payload ≡ size
 IsLong size _ = Unit {0}
 
 abbrev pub IsSized : ℕ → Order → Type 0
-IsSized size order = IsLong size (behind_of order)
+IsSized size order = IsLong size (following_of order)

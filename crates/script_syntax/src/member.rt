@@ -2,7 +2,7 @@
 ghost use Rattle.std.specs.Prelude.{◌≡◌, ℕ, List, IfSome, IfNone, IfOk};
 ghost use Rattle.script_syntax.specs.Parts.{text_of};
 ghost use Rattle.script_syntax.specs.Words.{words_left};
-ghost use Rattle.script_syntax.specs.Spelling.{member_word, IsClassWord, IsWritableMember, AreMembers, ClassAndMembers};
+ghost use Rattle.script_syntax.specs.Spelling.{member_word, IsClassWord, IsWritableMember, AreMemberWords, ClassAndMembers};
 
 use crate::command::Named;
 use crate::number::number_of;
@@ -36,9 +36,9 @@ fn member_of(word: &[u8]) -> Option<Named>
 // The members that the remaining words name, three to eight of them.
 fn members_of(alloc: Global, text: Option<&[u8]>) -> Result<Option<Vec<Named>>, AllocError>
     ensures some { IfOk result (λ found. IfSome found (λ members.
-        AreMembers members.items (words_left (text_of text.entry)))) }
+        AreMemberWords members.items (words_left (text_of text.entry)))) }
     ensures none { IfOk result (λ found. IfNone found ((members : List Named) →
-        AreMembers members (words_left (text_of text.entry)) → ⊥)) }
+        AreMemberWords members (words_left (text_of text.entry)) → ⊥)) }
 {
     let mut members = Vec::new(alloc);
     let mut rest = text;
@@ -50,12 +50,12 @@ fn members_of(alloc: Global, text: Option<&[u8]>) -> Result<Option<Vec<Named>>, 
                 Some(members)
             });
         };
-        let (word, behind) = cut(text, SPACE);
+        let (word, following) = cut(text, SPACE);
         let Some(member) = member_of(word) else {
             return Ok(None)
         };
         members.push(member)?;
-        rest = behind;
+        rest = following;
     }
     Ok(if is_end(rest) { Some(members) } else { None })
 }

@@ -2,7 +2,7 @@
 ghost use Rattle.std.specs.Prelude.{length, IfOk};
 ghost use Rattle.script_syntax.specs.Parts.{text_of};
 ghost use Rattle.script_syntax.specs.Words.{words_left};
-ghost use Rattle.script_syntax.specs.Reading.{Finds, Reads};
+ghost use Rattle.script_syntax.specs.Reading.{Finds, ParsesLine};
 
 use crate::command::Command;
 use crate::member::class_and_members;
@@ -21,7 +21,7 @@ pub fn read_command(
     payload: &mut [u8],
     command: &mut Command,
 ) -> Result<bool, AllocError>
-    ensures { IfOk result (Reads (length payload.old) line.now payload.new «command».new) }
+    ensures { IfOk result (ParsesLine (length payload.old) line.now payload.new «command».new) }
 {
     let (word, rest) = cut(line, SPACE);
     let Some(verb) = verb_of(word) else {

@@ -25,6 +25,15 @@ pub fn cut(text: &[u8], separator: u8) -> (&[u8], Option<&[u8]>)
             return (&text[..front], Some(&text[front + 1..]));
         }
     }
+    cut_far(text, separator)
+}
+
+// The text before the first separator, wherever it is, and the text after it where there is one. Kept out of line, since most
+// words are cut without it.
+#[inline(never)]
+fn cut_far(text: &[u8], separator: u8) -> (&[u8], Option<&[u8]>)
+    ensures { parts separator text.now ≡ result.0.now ∷ parts_left separator (text_of result.1) }
+{
     for at in 0..text.len() {
         if text[at] == separator {
             return (&text[..at], Some(&text[at + 1..]));

@@ -1,6 +1,6 @@
 //! The table of commands: a verb's word, and in its row the kinds of its numbers and what follows them.
 ghost use Rattle.std.specs.Prelude.{◌≡◌, ◌≤◌, length, IfSome, IfNone};
-ghost use Rattle.script_syntax.specs.Order.{word_of, kinds_of, tail_of};
+ghost use Rattle.script_syntax.specs.Order.{keyword_of, kinds_of, tail_of};
 
 /// What a command asks for.
 #[derive(Clone, Copy)]
@@ -120,8 +120,8 @@ impl Verb {
 
 /// The verb that the word spells, if it spells one.
 pub fn verb_of(word: &[u8]) -> Option<Verb>
-    ensures some { IfSome result (λ verb. word.now ≡ word_of verb) }
-    ensures none { IfNone result ((verb : Verb) → word.now ≡ word_of verb → ⊥) }
+    ensures some { IfSome result (λ verb. word.now ≡ keyword_of verb) }
+    ensures none { IfNone result ((verb : Verb) → word.now ≡ keyword_of verb → ⊥) }
 {
     match word {
         b"array" => Some(Verb::Array),

@@ -24,11 +24,11 @@ pub fn next_numbers<'a>(
     let mut rest = text;
     for place in 0..count {
         let Some(text) = rest else { return None };
-        let Some((number, behind)) = cut_number(text) else {
+        let Some((number, following)) = cut_number(text) else {
             return None
         };
         numbers[place] = number;
-        rest = behind;
+        rest = following;
     }
     Some(rest)
 }

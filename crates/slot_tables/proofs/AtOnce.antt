@@ -10,11 +10,11 @@ use Rattle.extents.specs.declared.header.Kind.{Kind}
 use Rattle.extents.specs.Header.{kind_in}
 use Rattle.extent_groups.specs.Groups.{Groups}
 use Rattle.extent_groups.specs.Stores.{AreDrives}
-use Rattle.array_parts.specs.Views.{PartsView, Shows, SameTables, DrivesFare, WasPut, WasMoved, placed_unit, drive_units}
-use Rattle.flat_machine.specs.Flat.{Flat, Write, Content, IsSized, kind_of, content_in, header_for, Worker, Ticket, Waiting, Fresh, Moved, content_of, Stored, waiting_unit, put, IsArrays, for_ticket, for_block, IsKept, IsNewest, last_write}
-use Rattle.flat_machine.specs.History.{IsHistory, IsStep}
+use Rattle.unit_store.specs.Views.{PartsView, Shows, SameTables, DrivesFare, WasPut, WasMoved, placed_unit, drive_units}
+use Rattle.flat_machine.specs.Flat.{Flat, Write, Content, IsSized, kind_of, content_in, header_for, Worker, Ticket, Waiting, Fresh, Moved, content_of, Stored, waiting_unit, put, IsArrays, for_ticket, for_block, IsArrayHeld, IsNewest, last_write}
+use Rattle.flat_machine.specs.History.{IsHistory, IsValidStep}
 use Rattle.flat_machine.specs.Steps.{FlatStep, FlatAnswer, Fill, Filled, Copy, Copied, Commit, Committed}
-use Rattle.flat_machine.specs.Cases.{Case, FillPasses, CopyPasses, CommitCase, CommitWith, IsFor, HasStamp, IsGoneIn, ticketed, committed, stamped, next_version, last_hop}
+use Rattle.flat_machine.specs.Cases.{Case, FillPasses, CopyPasses, CommitCase, CommitWith, IsFor, HasCopiedStamp, IsGoneIn, ticketed, committed, stamped, next_version, last_hop}
 use Rattle.flat_machine.proofs.Pairs.{put_here, put_else, turned_free, just_held}
 use Rattle.flat_machine.proofs.Keeps.{step_keeps, fresh_ready, moved_ready}
 use Rattle.flat_machine.proofs.Newest as flat
@@ -28,7 +28,7 @@ use Rattle.slot_tables.specs.Views.{Kept, Nothing, Pending, Moving, ArrayView, w
 use Rattle.slot_tables.specs.Represents.{IsTicketOf, ShowsArray}
 use Rattle.slot_tables.proofs.Fares.{fared, itself, leaves, gone_back, gone_before, loses_itself}
 use Rattle.slot_tables.proofs.Fills.{fill_passes, fill_whole, wait_tables}
-use Rattle.slot_tables.proofs.Copies.{can_copy, copy_passes, copy_whole, kind_told}
+use Rattle.slot_tables.proofs.Copies.{can_copy, copy_passes, copy_whole, kind_reported}
 use Rattle.slot_tables.proofs.Finds.{newest_write}
 use Rattle.slot_tables.proofs.Newest.{newest_is}
 use Rattle.slot_tables.proofs.Commits.{HasTables, commit_map, commit_tables, commit_whole}
@@ -50,13 +50,13 @@ pub record IsAtOnce (a : ArrayView) (v : PartsView) (F : Flat) (w s b : ℕ) (k 
   pub block : b < a.parts.groups.blocks
   pub waits : is_waiting k ≡ true
   pub ticket : IsTicketOf k (Some c)
-  pub free : IsKept F s → ⊥
+  pub free : IsArrayHeld F s → ⊥
   pub same : SameTables a.parts v
   pub fares : DrivesFare a.parts v
   pub whole : IsWhole a
   pub between : IsWhole (wait_view (with_parts a v) s k)
   pub shows : ShowsArray a F
-  pub fits : IsStep F.groups step
+  pub fits : IsValidStep F.groups step
   pub case : Case F step answer (fared (ticketed F w s c) v)
   pub for : IsFor (Some c) b
   pub ready : IsHistory (fared (ticketed F w s c) v) (key_at a) → IsNewest F.emitted b (record_at b (key_at a b)) → (ticketed F w s c).tickets s ≡ Some c
@@ -95,7 +95,7 @@ module _ (a : ArrayView) (v : PartsView) (F : Flat) (w s b : ℕ) (k : Kept) (c 
   there = put_here F.tickets s (Some c)
 
   newest : IsNewest F.emitted b found
-  newest = flat.newest_told F.emitted (key_at a) b is.shows.history.records is.shows.history.map
+  newest = flat.newest_reported F.emitted (key_at a) b is.shows.history.records is.shows.history.map
 
   commits : CommitCase M w s b (Committed r) G
   commits = (
@@ -139,7 +139,7 @@ module _ (a : ArrayView) (v : PartsView) (F : Flat) (w s b : ℕ) (k : Kept) (c 
 
 -- what is kept afterwards is what a commit leaves of a slot of which nothing was kept
 pub at_once_kept : (kept : List Kept) (s : ℕ) (k l : Kept) (found : Option Record) → ((q : Record) → found ≡ Some q → q.place ≡ s → ⊥)
-    → set (change.passed (set kept s k) found) s l ≡ set (change.passed kept found) s l
+    → set (change.without_old (set kept s k) found) s l ≡ set (change.without_old kept found) s l
 at_once_kept kept s k l None apart = set_twice kept s k l
 at_once_kept kept s k l (Some q) apart = ap (λ (z : List Kept). set z s l) (set_apart kept s q.place k Nothing (λ e. apart q refl (sym e))) ∙ set_twice (set kept q.place Nothing) s k l
 
@@ -148,9 +148,9 @@ pub copied_ok : (a : ArrayView) (s b : ℕ) (q : Record) → IsWhole a → s < 6
     → IsRecord (emitted_by b s q.version (q.hop + 1))
 copied_ok a s b q whole inside block found few =
     let n = whole.blocks in
-    let told = flat.told_key b (key_at a b) q found in
-    let big = told.0 in
-    let version : key_at a b / 2 ^ 32 ≡ q.version = ap (λ (r : Record). r.version) told.1 in
+    let reported = flat.reported_key b (key_at a b) q found in
+    let big = reported.0 in
+    let version : key_at a b / 2 ^ 32 ≡ q.version = ap (λ (r : Record). r.version) reported.1 in
     let fit = whole.fit b in
     record { block = omega arith; written = omega arith; version = omega arith; hop = omega arith; place = omega arith }
 
@@ -221,7 +221,7 @@ module _ (a : ArrayView) (v : PartsView) (s b : ℕ) (inside : s < 65536) (block
           inside = inside;
           block = block;
           waits = refl;
-          ticket = (y.0.content, ap (λ n. Some (Moved n q.version q.hop y.0.content)) at, u.2 ∙ kind_told u.0 ∙ ap kind_of same);
+          ticket = (y.0.content, ap (λ n. Some (Moved n q.version q.hop y.0.content)) at, u.2 ∙ kind_reported u.0 ∙ ap kind_of same);
           free = passes.2;
           same = was.rest;
           fares = was.fares;
@@ -270,5 +270,5 @@ module _ (a : ArrayView) (v : PartsView) (s b : ℕ) (inside : s < 65536) (block
         there : IsGoneIn (fared F v) s → ⊥
         there gone = was.target (gone_back F a.parts v s shows.tables.groups was.rest gone)
 
-        stamps : HasStamp (record_at b (key_at a b)) q.version q.hop
-        stamps = subst (λ o. HasStamp o q.version q.hop) (sym found) (refl, refl)
+        stamps : HasCopiedStamp (record_at b (key_at a b)) q.version q.hop
+        stamps = subst (λ o. HasCopiedStamp o q.version q.hop) (sym found) (refl, refl)

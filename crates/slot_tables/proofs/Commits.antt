@@ -8,16 +8,16 @@ use Rattle.map_join.specs.declared.records.Record.{Record}
 use Rattle.map_join.specs.Record.{key_of, record_of, record_at, IsRecord}
 use Rattle.map_join.specs.Maps.{IsSame, IsMapOf, join, only}
 use Rattle.map_join.proofs.Joins.{took, only_here, only_else}
-use Rattle.array_parts.specs.Views.{PartsView, Shows, SameTables, DrivesFare}
+use Rattle.unit_store.specs.Views.{PartsView, Shows, SameTables, DrivesFare}
 use Rattle.flat_machine.specs.Groups.{class_at}
 use Rattle.flat_machine.specs.Flat.{Flat, Write, Content, Stored, put, IsArrays, header_for}
 use Rattle.flat_machine.specs.Cases.{committed, stamped}
 use Rattle.flat_machine.proofs.Pairs.{put_here, put_else}
-use Rattle.flat_machine.proofs.Newest.{told_again, told_at, untold_at, key_least, place_small}
+use Rattle.flat_machine.proofs.Newest.{reported_again, reported_at, untold_at, key_least, place_small}
 use Rattle.flat_machine.proofs.Commits.{emitted_by}
 use Rattle.flat_machine.proofs.Passing.{Passes, passed_on}
 use Rattle.flat_machine.proofs.Slots.{block_waits}
-use Rattle.slot_tables.specs.Changes.{commit_view, passed}
+use Rattle.slot_tables.specs.Changes.{commit_view, without_old}
 use Rattle.slot_tables.specs.Views.{Kept, Nothing, Moving, Newest, Unmade, is_waiting, ArrayView, with_parts, kept_at, key_at, IsWhole}
 use Rattle.flat_machine.specs.History.{IsHistory}
 use Rattle.slot_tables.specs.Represents.{ArraySlot, InTables, ShowsArray}
@@ -43,7 +43,7 @@ place_kept a b whole r is = kept_so (sizes (key_at a b))
     kept_so : (key_at a b < 2 ^ 32) ⊎ (2 ^ 32 ≤ key_at a b) → kept_at a r.place ≡ Newest b
     kept_so (inl small) = let no : None ≡ Some r = sym (untold_at b (key_at a b) small) ∙ is in absurd (cc)
     kept_so (inr big) =
-        let same : record_of b (key_at a b) ≡ r = some_is _ _ (sym (told_at b (key_at a b) big) ∙ is) in
+        let same : record_of b (key_at a b) ≡ r = some_is _ _ (sym (reported_at b (key_at a b) big) ∙ is) in
         ap (λ (q : Record). kept_at a q.place) (sym same) ∙ whole.newest b (omega arith)
 
 -- and it isn't a slot that waits, nor one of which nothing is kept
@@ -73,7 +73,7 @@ kept_else a s b (Some old) r t ne other =
     get_or-set_other (set a.kept old.place Nothing) s t (Newest b) Nothing ne ∙ get_or-set_other a.kept old.place t Nothing Nothing (other old refl)
 
 -- a list that grows keeps its length with one place changed
-passed_length : (kept : List Kept) (found : Option Record) → length (passed kept found) ≡ length kept
+passed_length : (kept : List Kept) (found : Option Record) → length (without_old kept found) ≡ length kept
 passed_length kept None = refl
 passed_length kept (Some old) = length-set kept old.place Nothing
 
@@ -82,7 +82,7 @@ pub commit_whole : (a : ArrayView) (s b v h : ℕ) → IsWhole a → s < 65536 �
     → IsWhole (commit_view a s b (record_at b (key_at a b)) (emitted_by b s v h))
 commit_whole a s b v h whole inside block waits ok = record {
   room = record {
-    kept = length-set (passed a.kept (record_at b (key_at a b))) s (Newest b) ∙ passed_length a.kept (record_at b (key_at a b)) ∙ whole.room.kept;
+    kept = length-set (without_old a.kept (record_at b (key_at a b))) s (Newest b) ∙ passed_length a.kept (record_at b (key_at a b)) ∙ whole.room.kept;
     keys = length-set a.keys b _ ∙ whole.room.keys;
   };
   blocks = whole.blocks;
@@ -138,7 +138,7 @@ commit_whole a s b v h whole inside block waits ok = record {
     newest : (c : ℕ) → (c ≡ b) ⊎ (c ≡ b → ⊥) → 0 < key_at view c → kept_at view (record_of c (key_at view c)).place ≡ Newest c
     newest c (inl e) some =
         let place : (record_of c (key_at view c)).place ≡ s =
-        ap (λ n. (record_of n (key_at view n)).place) e ∙ ap (λ k. (record_of b k).place) here ∙ ap (λ (q : Record). q.place) (told_again r ok)
+        ap (λ n. (record_of n (key_at view n)).place) e ∙ ap (λ k. (record_of b k).place) here ∙ ap (λ (q : Record). q.place) (reported_again r ok)
         in
         let room = whole.room.kept in
         ap (kept_at view) place ∙ kept_here a s b (record_at b (key_at a b)) r (omega arith) ∙ ap (λ n. Newest n) (sym e)
@@ -173,7 +173,7 @@ commit_whole a s b v h whole inside block waits ok = record {
     kept_same t k is other some (inr ne) = sym (kept_off_old t k is some ne) ∙ is
 
     place_here : (record_of b (key_at view b)).place ≡ s
-    place_here = ap (λ k. (record_of b k).place) here ∙ ap (λ (q : Record). q.place) (told_again r ok)
+    place_here = ap (λ k. (record_of b k).place) here ∙ ap (λ (q : Record). q.place) (reported_again r ok)
 
     only : (t c : ℕ) → kept_at view t ≡ Newest c → (t ≡ s) ⊎ (t ≡ s → ⊥) → (0 < key_at view c) × ((record_of c (key_at view c)).place ≡ t)
     only t c is (inl e) =
@@ -197,7 +197,7 @@ commit_whole a s b v h whole inside block waits ok = record {
             let key : key_at a c ≡ key_at a b = ap (key_at a) block in
             let some = before.0 in
             let big = whole.keys b (omega arith) in
-            let found : record_at b (key_at a b) ≡ Some (record_of b (key_at a b)) = told_at b (key_at a b) big in
+            let found : record_at b (key_at a b) ≡ Some (record_of b (key_at a b)) = reported_at b (key_at a b) big in
             let place : (record_of b (key_at a b)).place ≡ t = ap (λ n. (record_of n (key_at a n)).place) (sym block) ∙ before.1 in
             let small = place_small b (key_at a b) (record_of b (key_at a b)) found in
             let room = whole.room.kept in
@@ -317,7 +317,7 @@ commit_units p F w s b found writes x r u is shows = subst (λ o. Shows p (put F
 
 -- a slot other than the old place is kept as before
 pub passed_apart : (kept : List Kept) (s : ℕ) (found : Option Record) → ((q : Record) → found ≡ Some q → q.place ≡ s → ⊥)
-    → get_or (passed kept found) s Nothing ≡ get_or kept s Nothing
+    → get_or (without_old kept found) s Nothing ≡ get_or kept s Nothing
 passed_apart kept s None apart = refl
 passed_apart kept s (Some old) apart = get_or-set_other kept old.place s Nothing Nothing (λ e. apart old refl (sym e))
 

@@ -9,24 +9,24 @@ use Rattle.flat_machine.specs.declared.refusal.Refusal.{Refusal}
 use Rattle.flat_machine.specs.declared.refusal.Refusal.TheVariants.{NoTicket, Outrun, VersionSpent, LogFull}
 use Rattle.extents.specs.declared.header.Header.TheVariants.{Is}
 use Rattle.extent_groups.specs.Groups.{Groups}
-use Rattle.array_parts.specs.Views.{PartsView, Shows, WasCarried, FoundGone}
+use Rattle.unit_store.specs.Views.{PartsView, Shows, WasCarried, FoundGone}
 use Rattle.flat_machine.specs.Flat.{Flat, Write, Content, Stored, put, Ticket, Waiting, Fresh, Moved, or_else, IsNewest, IsArrays, for_ticket, for_block, kind_of, header_for}
 use Rattle.flat_machine.specs.Steps.{Commit, Committed, Refused}
-use Rattle.flat_machine.specs.Cases.{CommitCase, CommitWith, CommitPasses, IsGoneIn, Leaves, IsFor, HasStamp, IsWanted, committed, next_version, last_version, longest_log}
+use Rattle.flat_machine.specs.Cases.{CommitCase, CommitWith, CommitPasses, IsGoneIn, Leaves, IsFor, HasCopiedStamp, IsAllocating, committed, next_version, last_version, longest_log}
 use Rattle.flat_machine.proofs.Pairs.{equal, equal_back}
-use Rattle.flat_machine.proofs.Newest.{told_at, untold_at, told_key}
+use Rattle.flat_machine.proofs.Newest.{reported_at, untold_at, reported_key}
 use Rattle.flat_machine.proofs.Commits.{emitted_by, IsReady}
 use Rattle.flat_machine.proofs.Keeps.{fresh_ready, moved_ready}
 use Rattle.flat_machine.proofs.Passing.{passed}
 use Rattle.slot_tables.specs.Changes.{commit_view, commit_record, commit_reason, commit_reason_of, version_reason, stamp_reason, full_reason, version_given, hop_given, MayRefuse, kind_given}
 use Rattle.slot_tables.specs.Views.{Kept, Nothing, Pending, Moving, Newest, Unmade, is_waiting, ArrayView, with_parts, kept_at, key_at, IsWhole}
 use Rattle.slot_tables.specs.Represents.{ShowsArray, IsTicketOf}
-use Rattle.slot_tables.proofs.Newest.{newest_told}
+use Rattle.slot_tables.proofs.Newest.{newest_reported}
 use Rattle.slot_tables.proofs.Fares.{fared, itself, leaves, gone_as, gone_back, lost_shows, lost_leaves}
 use Rattle.slot_tables.proofs.Slots.{shows_after}
 use Rattle.slot_tables.proofs.Kepts.{waiting_made, ticket_held, unticketed, waiting_kept}
 use Rattle.slot_tables.proofs.Wholes.{slot_of_class}
-use Rattle.array_parts.specs.Slots.{IsSlot}
+use Rattle.unit_store.specs.Slots.{IsSlot}
 use Rattle.slot_tables.proofs.Commits.{tables_of, commit_map, commit_tables, commit_units}
 
 -- neither of two reasons is given
@@ -98,7 +98,7 @@ version_bound b key small = go (sizes key)
 
     go : (key < 2 ^ 32) ⊎ (2 ^ 32 ≤ key) → next_version (record_at b key) ≤ last_version + 1
     go (inl less) = let n : next_version (record_at b key) ≡ 1 = ap next_version (untold_at b key less) in omega arith
-    go (inr big) = let n : next_version (record_at b key) ≡ key / 2 ^ 32 + 1 = ap next_version (told_at b key big) in omega arith
+    go (inr big) = let n : next_version (record_at b key) ≡ key / 2 ^ 32 + 1 = ap next_version (reported_at b key big) in omega arith
 
 pub version_most : (a : ArrayView) (b : ℕ) → IsWhole a → version_reason (record_at b (key_at a b)) ≡ None → next_version (record_at b (key_at a b)) ≤ last_version
 version_most a b whole none =
@@ -122,9 +122,9 @@ moved_ok : (a : ArrayView) (s b : ℕ) (q : Record) (k : Kind) → IsWhole a →
     → IsStamped q b (record_at b (key_at a b)) → IsRecord (emitted_by b s q.version (q.hop + 1))
 moved_ok a s b q k whole inside block is now =
     let n = whole.blocks in
-    let told = told_key b (key_at a b) now.newest now.found_is in
-    let big = told.0 in
-    let version : key_at a b / 2 ^ 32 ≡ q.version = ap (λ (r : Record). r.version) told.1 ∙ now.version in
+    let reported = reported_key b (key_at a b) now.newest now.found_is in
+    let big = reported.0 in
+    let version : key_at a b / 2 ^ 32 ≡ q.version = ap (λ (r : Record). r.version) reported.1 ∙ now.version in
     let fit = whole.fit b in
     let moves = whole.moving s q k is in
     record { block = omega arith; written = omega arith; version = omega arith; hop = omega arith; place = omega arith }
@@ -175,7 +175,7 @@ carried a p F w s b c x v h writes whole inside block waits was shows ready case
       (commit_map a F b (record_at b (key_at a b)) (emitted_by b s v h) s (tables_of a F shows) whole refl block above)
       (commit_units p F w s b (record_at b (key_at a b)) writes x (emitted_by b s v h) u.0 u.1 u.2)
       (commit_tables a p F w s b writes x (emitted_by b s v h) inside waits was.rest was.fares whole (tables_of a F shows)
-      (passed IsArrays F (key_at a) w s b (record_at b (key_at a b)) (λ t. (shows.history.holders t).once) (for_ticket w) (for_block b) shows.history (newest_told a F b shows) ready.mine)),
+      (passed IsArrays F (key_at a) w s b (record_at b (key_at a b)) (λ t. (shows.history.holders t).once) (for_ticket w) (for_block b) shows.history (newest_reported a F b shows) ready.mine)),
 )
   where
     u : (u : Stored) × (F.units s ≡ Some u) × Shows p (put F.units s (Some (record u { header = header_for (emitted_by b s v h) x })))
@@ -194,13 +194,13 @@ commit_fresh : (a : ArrayView) (p : PartsView) (F : Flat) (w s b : ℕ) (x : Con
 commit_fresh a p F w s b x whole inside block waits ticket mine left room was shows =
     carried a p F w s b (Fresh x) x (next_version (record_at b (key_at a b))) 0
     (F.writes ++ record { block = b; version = next_version (record_at b (key_at a b)); content = x } ∷ []) whole inside block waits was shows
-    (fresh_ready F (key_at a) w s b (record_at b (key_at a b)) x shows.history (newest_told a F b shows) ticket mine (in_blocks a F b shows block)
+    (fresh_ready F (key_at a) w s b (record_at b (key_at a b)) x shows.history (newest_reported a F b shows) ticket mine (in_blocks a F b shows block)
     (version_most a b whole left) (short a F shows room)) (
       mine,
       subst (λ c. IsFor c b) (sym ticket) tt,
       (
         record_at b (key_at a b),
-        newest_told a F b shows,
+        newest_reported a F b shows,
         subst (λ c. CommitWith F w s b (record_at b (key_at a b)) c (Committed (emitted_by b s (next_version (record_at b (key_at a b))) 0)) G) (sym ticket) (
           version_most a b whole left,
           short a F shows room,
@@ -224,13 +224,13 @@ commit_moved : (a : ArrayView) (p : PartsView) (F : Flat) (w s b : ℕ) (q : Rec
     → IsStampedTo a p s b q.version (q.hop + 1) (kind_of x) → ShowsArray a F → IsCommit a p F w s b q.version (q.hop + 1)
 commit_moved a p F w s b q x whole inside block waits ticket mine now room was shows =
     carried a p F w s b (Moved q.block q.version q.hop x) x q.version (q.hop + 1) F.writes whole inside block waits was shows
-    (moved_ready F (key_at a) w s b (record_at b (key_at a b)) q.block q.version q.hop x shows.history (newest_told a F b shows) ticket mine now.block (in_blocks a F b shows block)
+    (moved_ready F (key_at a) w s b (record_at b (key_at a b)) q.block q.version q.hop x shows.history (newest_reported a F b shows) ticket mine now.block (in_blocks a F b shows block)
     stamps (short a F shows room)) (
       mine,
       subst (λ c. IsFor c b) (sym ticket) now.block,
       (
         record_at b (key_at a b),
-        newest_told a F b shows,
+        newest_reported a F b shows,
         subst (λ c. CommitWith F w s b (record_at b (key_at a b)) c (Committed (emitted_by b s q.version (q.hop + 1))) G) (sym ticket) (
           stamps,
           short a F shows room,
@@ -247,8 +247,8 @@ commit_moved a p F w s b q x whole inside block waits ticket mine now room was s
     G : Flat
     G = fared (committed F w s b (record_at b (key_at a b)) F.writes x (emitted_by b s q.version (q.hop + 1))) p
 
-    stamps : HasStamp (record_at b (key_at a b)) q.version q.hop
-    stamps = subst (λ o. HasStamp o q.version q.hop) (sym now.found_is) (now.version, now.hop)
+    stamps : HasCopiedStamp (record_at b (key_at a b)) q.version q.hop
+    stamps = subst (λ o. HasCopiedStamp o q.version q.hop) (sym now.found_is) (now.version, now.hop)
 
 -- where nothing speaks against it, and the slot was stamped, the commit is the flat machine's
 pub commit_case : (a : ArrayView) (p : PartsView) (F : Flat) (w s b : ℕ) → IsWhole a → s < 65536 → b < a.parts.groups.blocks
@@ -278,9 +278,9 @@ commit_case a p F w s b whole inside block none was shows mine = go (kept_at a s
 -- the slot is lost
 pub commit_gone : (a : ArrayView) (p : PartsView) (F : Flat) (w s b : ℕ) (q : Refusal) → IsWhole a → commit_reason a s b (record_at b (key_at a b)) ≡ None → FoundGone a.parts p s q
     → ShowsArray a F → (F.tickets s ≢ None → F.held s (Ticket w) ≡ true)
-    → MayRefuse q (IsWanted F (Commit w s b)) ((G : Flat) × CommitCase F w s b (Refused q) G × ShowsArray (with_parts a p) G)
+    → MayRefuse q (IsAllocating F (Commit w s b)) ((G : Flat) × CommitCase F w s b (Refused q) G × ShowsArray (with_parts a p) G)
 commit_gone a p F w s b q whole none found shows mine =
-    subst (λ z. MayRefuse z (IsWanted F (Commit w s b)) ((G : Flat) × CommitCase F w s b (Refused z) G × ShowsArray (with_parts a p) G)) (sym found.told)
+    subst (λ z. MayRefuse z (IsAllocating F (Commit w s b)) ((G : Flat) × CommitCase F w s b (Refused z) G × ShowsArray (with_parts a p) G)) (sym found.reported)
     (fared F p, go (kept_at a s) refl none, lost_shows a F p shows found.loses)
   where
     gone : IsGoneIn (fared F p) s
@@ -289,14 +289,14 @@ commit_gone a p F w s b q whole none found shows mine =
     left : Leaves F (fared F p)
     left = lost_leaves a F p shows found.loses
 
-    told : (c : Waiting) → F.tickets s ≡ Some c → F.held s (Ticket w) ≡ true → IsFor (Some c) b
+    reported : (c : Waiting) → F.tickets s ≡ Some c → F.held s (Ticket w) ≡ true → IsFor (Some c) b
         → CommitWith F w s b (record_at b (key_at a b)) (Some c) (Refused (Refusal.Gone s)) (fared F p) → CommitCase F w s b (Refused (Refusal.Gone s)) (fared F p)
-    told c ticket held for with = (
+    reported c ticket held for with = (
       held,
       subst (λ t. IsFor t b) (sym ticket) for,
       (
         record_at b (key_at a b),
-        newest_told a F b shows,
+        newest_reported a F b shows,
         subst (λ t. CommitWith F w s b (record_at b (key_at a b)) t (Refused (Refusal.Gone s)) (fared F p)) (sym ticket) with,
       ),
     )
@@ -305,40 +305,40 @@ commit_gone a p F w s b q whole none found shows mine =
     go (Pending k) is e =
         let reasons = or_none _ _ e in
         let t = kept_ticket a F s (Pending k) shows is in
-        told (Fresh t.0) t.1 (ticket_held a F w s (ap is_waiting is) shows mine) tt (version_most a b whole reasons.0, short a F shows reasons.1, refl, gone, left)
+        reported (Fresh t.0) t.1 (ticket_held a F w s (ap is_waiting is) shows mine) tt (version_most a b whole reasons.0, short a F shows reasons.1, refl, gone, left)
     go (Moving m k) is e =
         let reasons = or_none _ _ e in
         let t = kept_ticket a F s (Moving m k) shows is in
         let now = stamp_left m b (record_at b (key_at a b)) reasons.0 in
-        told (Moved m.block m.version m.hop t.0) t.1 (ticket_held a F w s (ap is_waiting is) shows mine) now.block
-        (subst (λ o. HasStamp o m.version m.hop) (sym now.found_is) (now.version, now.hop), short a F shows reasons.1, refl, gone, left)
+        reported (Moved m.block m.version m.hop t.0) t.1 (ticket_held a F w s (ap is_waiting is) shows mine) now.block
+        (subst (λ o. HasCopiedStamp o m.version m.hop) (sym now.found_is) (now.version, now.hop), short a F shows reasons.1, refl, gone, left)
     go Nothing is e = absurd (cc)
     go Unmade is e = absurd (cc)
     go (Newest c) is e = absurd (cc)
 
 -- where nothing speaks against it, the commit may run out of memory
-pub commit_wants : (a : ArrayView) (F : Flat) (w s b : ℕ) → IsWhole a → commit_reason a s b (record_at b (key_at a b)) ≡ None → ShowsArray a F
-    → (F.tickets s ≢ None → F.held s (Ticket w) ≡ true) → IsWanted F (Commit w s b)
-commit_wants a F w s b whole none shows mine = go (kept_at a s) refl none
+pub commit_needs : (a : ArrayView) (F : Flat) (w s b : ℕ) → IsWhole a → commit_reason a s b (record_at b (key_at a b)) ≡ None → ShowsArray a F
+    → (F.tickets s ≢ None → F.held s (Ticket w) ≡ true) → IsAllocating F (Commit w s b)
+commit_needs a F w s b whole none shows mine = go (kept_at a s) refl none
   where
-    told : (c : Waiting) → F.tickets s ≡ Some c → F.held s (Ticket w) ≡ true → IsFor (Some c) b → CommitPasses F (record_at b (key_at a b)) (Some c) → IsWanted F (Commit w s b)
-    told c ticket held for passes = (
+    reported : (c : Waiting) → F.tickets s ≡ Some c → F.held s (Ticket w) ≡ true → IsFor (Some c) b → CommitPasses F (record_at b (key_at a b)) (Some c) → IsAllocating F (Commit w s b)
+    reported c ticket held for passes = (
       held,
       subst (λ t. IsFor t b) (sym ticket) for,
-      (record_at b (key_at a b), newest_told a F b shows, subst (CommitPasses F (record_at b (key_at a b))) (sym ticket) passes),
+      (record_at b (key_at a b), newest_reported a F b shows, subst (CommitPasses F (record_at b (key_at a b))) (sym ticket) passes),
     )
 
-    go : (k : Kept) → kept_at a s ≡ k → commit_reason_of a k b (record_at b (key_at a b)) ≡ None → IsWanted F (Commit w s b)
+    go : (k : Kept) → kept_at a s ≡ k → commit_reason_of a k b (record_at b (key_at a b)) ≡ None → IsAllocating F (Commit w s b)
     go (Pending k) is e =
         let reasons = or_none _ _ e in
         let t = kept_ticket a F s (Pending k) shows is in
-        told (Fresh t.0) t.1 (ticket_held a F w s (ap is_waiting is) shows mine) tt (version_most a b whole reasons.0, short a F shows reasons.1)
+        reported (Fresh t.0) t.1 (ticket_held a F w s (ap is_waiting is) shows mine) tt (version_most a b whole reasons.0, short a F shows reasons.1)
     go (Moving q k) is e =
         let reasons = or_none _ _ e in
         let t = kept_ticket a F s (Moving q k) shows is in
         let now = stamp_left q b (record_at b (key_at a b)) reasons.0 in
-        told (Moved q.block q.version q.hop t.0) t.1 (ticket_held a F w s (ap is_waiting is) shows mine) now.block
-        (subst (λ o. HasStamp o q.version q.hop) (sym now.found_is) (now.version, now.hop), short a F shows reasons.1)
+        reported (Moved q.block q.version q.hop t.0) t.1 (ticket_held a F w s (ap is_waiting is) shows mine) now.block
+        (subst (λ o. HasCopiedStamp o q.version q.hop) (sym now.found_is) (now.version, now.hop), short a F shows reasons.1)
     go Nothing is e = absurd (cc)
     go Unmade is e = absurd (cc)
     go (Newest c) is e = absurd (cc)
@@ -346,11 +346,11 @@ commit_wants a F w s b whole none shows mine = go (kept_at a s) refl none
 -- and where something does, it is the flat machine's refusal
 pub commit_refused : (a : ArrayView) (F : Flat) (w s b : ℕ) (q : Refusal) → IsWhole a
     → commit_reason a s b (record_at b (key_at a b)) ≡ Some q → ShowsArray a F → (F.tickets s ≢ None → F.held s (Ticket w) ≡ true)
-    → MayRefuse q (IsWanted F (Commit w s b)) ((G : Flat) × CommitCase F w s b (Refused q) G × ShowsArray a G)
+    → MayRefuse q (IsAllocating F (Commit w s b)) ((G : Flat) × CommitCase F w s b (Refused q) G × ShowsArray a G)
 commit_refused a F w s b q whole some shows mine = go (kept_at a s) refl some
   where
     P : Refusal → Type 0
-    P r = MayRefuse r (IsWanted F (Commit w s b)) ((G : Flat) × CommitCase F w s b (Refused r) G × ShowsArray a G)
+    P r = MayRefuse r (IsAllocating F (Commit w s b)) ((G : Flat) × CommitCase F w s b (Refused r) G × ShowsArray a G)
 
     no_ticket : is_waiting (kept_at a s) ≡ false → Some NoTicket ≡ Some q → P q
     no_ticket waits e = subst P (same_Some _ _ e) (F, (inl (unticketed a F w s waits shows), itself F), shows)
@@ -362,7 +362,7 @@ commit_refused a F w s b q whole some shows mine = go (kept_at a s) refl some
     with_ticket c r ticket held for x = (
       held,
       subst (λ t. IsFor t b) (sym ticket) for,
-      (record_at b (key_at a b), newest_told a F b shows, subst (λ t. CommitWith F w s b (record_at b (key_at a b)) t (Refused r) F) (sym ticket) x),
+      (record_at b (key_at a b), newest_reported a F b shows, subst (λ t. CommitWith F w s b (record_at b (key_at a b)) t (Refused r) F) (sym ticket) x),
     )
 
     full : (f : Bool) → nat_le longest_log (length a.log) ≡ f → cond f (Some LogFull) None ≡ Some q → (longest_log ≤ length F.emitted → P LogFull) → P q
@@ -391,27 +391,27 @@ commit_refused a F w s b q whole some shows mine = go (kept_at a s) refl some
         let some = ((shows.history.units s).rests (Moved m.block m.version m.hop x) t).written in
         let key : key_at a m.block ≡ key_at a b = ap (key_at a) same in
         let big = whole.keys b (omega arith) in
-        let bad : Some (record_of b (key_at a b)) ≡ None = sym (told_at b (key_at a b) big) ∙ none in cc
+        let bad : Some (record_of b (key_at a b)) ≡ None = sym (reported_at b (key_at a b) big) ∙ none in cc
 
     outrun : (m n : Record) (x : Content) → F.tickets s ≡ Some (Moved m.block m.version m.hop x) → F.held s (Ticket w) ≡ true → record_at b (key_at a b) ≡ Some n → m.block ≡ b
-        → (HasStamp (Some n) m.version m.hop → ⊥) → Some (Outrun n) ≡ Some q → P q
-    outrun m n x t held told same passed e = subst P (same_Some _ _ e)
-        (F, with_ticket (Moved m.block m.version m.hop x) (Outrun n) t held same (told, (λ has. passed (subst (λ o. HasStamp o m.version m.hop) told has)), itself F), shows)
+        → (HasCopiedStamp (Some n) m.version m.hop → ⊥) → Some (Outrun n) ≡ Some q → P q
+    outrun m n x t held reported same passed e = subst P (same_Some _ _ e)
+        (F, with_ticket (Moved m.block m.version m.hop x) (Outrun n) t held same (reported, (λ has. passed (subst (λ o. HasCopiedStamp o m.version m.hop) reported has)), itself F), shows)
 
     copy : (m : Record) (x : Content) → F.tickets s ≡ Some (Moved m.block m.version m.hop x) → F.held s (Ticket w) ≡ true → (o : Option Record) → record_at b (key_at a b) ≡ o
         → or_else (stamp_reason m b o) (full_reason a) ≡ Some q → P q
-    copy m x t held None told e = another m x t (unwritten m x t told) e
-    copy m x t held (Some n) told e = at (m.block == b) refl (n.version == m.version) refl (n.hop == m.hop) refl e
+    copy m x t held None reported e = another m x t (unwritten m x t reported) e
+    copy m x t held (Some n) reported e = at (m.block == b) refl (n.version == m.version) refl (n.hop == m.hop) refl e
       where
         at : (i : Bool) → (m.block == b) ≡ i → (j : Bool) → (n.version == m.version) ≡ j → (k : Bool) → (n.hop == m.hop) ≡ k
             → or_else (cond i (cond (j && k) None (Some (Outrun n))) (Some NoTicket)) (full_reason a) ≡ Some q → P q
         at false is_i j is_j k is_k e = another m x t (λ same. let no : true ≡ false = sym (equal _ _ same) ∙ is_i in cc) e
-        at true is_i false is_j k is_k e = outrun m n x t held told (equal_back _ _ is_i) (λ has. let no : true ≡ false = sym (equal _ _ has.0) ∙ is_j in cc) e
-        at true is_i true is_j false is_k e = outrun m n x t held told (equal_back _ _ is_i) (λ has. let no : true ≡ false = sym (equal _ _ has.1) ∙ is_k in cc) e
+        at true is_i false is_j k is_k e = outrun m n x t held reported (equal_back _ _ is_i) (λ has. let no : true ≡ false = sym (equal _ _ has.0) ∙ is_j in cc) e
+        at true is_i true is_j false is_k e = outrun m n x t held reported (equal_back _ _ is_i) (λ has. let no : true ≡ false = sym (equal _ _ has.1) ∙ is_k in cc) e
         at true is_i true is_j true is_k e = full _ refl e (λ long. (
           F,
           with_ticket (Moved m.block m.version m.hop x) LogFull t held (equal_back _ _ is_i)
-              (subst (λ o. HasStamp o m.version m.hop) (sym told) (equal_back _ _ is_j, equal_back _ _ is_k), long, itself F),
+              (subst (λ o. HasCopiedStamp o m.version m.hop) (sym reported) (equal_back _ _ is_j, equal_back _ _ is_k), long, itself F),
           shows,
         ))
 

@@ -9,9 +9,9 @@ use Rattle.extents.specs.declared.header.Kind.TheVariants as kind
 use Rattle.extents.specs.Header.{kind_in}
 use Rattle.extent_groups.specs.declared.class.Class.{Class}
 use Rattle.extent_groups.specs.Groups.{Groups}
-use Rattle.array_parts.specs.Slots.{IsSlot}
+use Rattle.unit_store.specs.Slots.{IsSlot}
 use Rattle.extent_groups.specs.Stores.{AreDrives}
-use Rattle.array_parts.specs.Views.{PartsView, Shows, WasCopied, WasCopiedAs, WasNotCarried, drive_units}
+use Rattle.unit_store.specs.Views.{PartsView, Shows, WasCopied, WasCopiedAs, WasNotCarried, drive_units}
 use Rattle.flat_machine.specs.declared.refusal.Refusal.{Refusal}
 use Rattle.flat_machine.specs.Groups.{class_at}
 use Rattle.flat_machine.specs.Flat.{Flat, Write, Content, Worker, Moved, Stored, content_under, content_in, kind_of, waiting_unit, put, IsNewest, class_of, last_write}
@@ -67,8 +67,8 @@ pub copy_slot : (a : ArrayView) (s : ℕ) (r : Record) → copy_reason a s (Some
 copy_slot a s r none = slot_of_class a.parts.groups s (can_copy a s r none).class
 
 -- the kind of what a unit holds
-pub kind_told : (u : Stored) → kind_in u.header ≡ kind_of (content_in u)
-kind_told u = go (kind_in u.header)
+pub kind_reported : (u : Stored) → kind_in u.header ≡ kind_of (content_in u)
+kind_reported u = go (kind_in u.header)
   where
     go : (k : Kind) → k ≡ kind_of (content_under k u.payload)
     go kind.Data = refl
@@ -90,7 +90,7 @@ copy_case a v F w s b r k inside block found was none whole shows held = (
   shows_after a (copy_view (with_parts a v) s r k) F (fared (ticketed F w s (Moved b r.version r.hop y.0.content)) v) (Copy w s b) (Copied s) shows
       (inside, subst (λ (z : Groups). b < z.blocks) (sym shows.tables.groups) block) case shows.history.map
       (wait_units F w s (Moved b r.version r.hop y.0.content) v (waiting_unit a.parts.groups.payload (content_in u.0)) (ap (waiting_unit F.groups.payload) (sym (y.2 u.0 u.1)) ∙ ap (λ (z : Groups). waiting_unit z.payload (content_in u.0)) shows.tables.groups) u.3)
-      (wait_tables a v F w s (Moving r k) (Moved b r.version r.hop y.0.content) inside refl (y.0.content, ap (λ n. Some (Moved n r.version r.hop y.0.content)) at, u.2 ∙ kind_told u.0 ∙ ap kind_of (y.2 u.0 u.1))
+      (wait_tables a v F w s (Moving r k) (Moved b r.version r.hop y.0.content) inside refl (y.0.content, ap (λ n. Some (Moved n r.version r.hop y.0.content)) at, u.2 ∙ kind_reported u.0 ∙ ap kind_of (y.2 u.0 u.1))
       was.rest was.fares whole shows (copy_passes a F w s b r found none shows held).2),
 )
   where
@@ -130,12 +130,12 @@ copy_gone a v F w s b r q found none not shows held = go not
     passes = copy_passes a F w s b r found none shows held
 
     go : WasNotCarried a.parts v r.place s q → P q
-    go (inl source) = subst P (sym source.told) (
+    go (inl source) = subst P (sym source.reported) (
       fared F v,
       ((r, passes, inl (refl, gone_as F a.parts v r.place shows.tables.groups source.loses.rest source.gone)), lost_leaves a F v shows source.loses),
       lost_shows a F v shows source.loses,
     )
-    go (inr target) = subst P (sym target.1.told) (
+    go (inr target) = subst P (sym target.1.reported) (
       fared F v,
       (
         (r, passes, inr (refl, (λ gone. target.0 (gone_before F a.parts r.place shows.tables.groups shows.tables.lost gone)), gone_as F a.parts v s shows.tables.groups target.1.loses.rest target.1.gone)),
@@ -163,12 +163,12 @@ copy_refused a F w s b q some shows held = go (class_at a.parts.groups s) refl (
 
     spent : (c : Class) → class_at a.parts.groups s ≡ Some c → kept_at a s ≡ Nothing → (r : Record) → record_at b (key_at a b) ≡ Some r
         → (p : Bool) → nat_le last_hop r.hop ≡ p → cond p (Some Refusal.HopsSpent) None ≡ Some q → P q
-    spent c is_c free r told true is e =
-        subst P (same_Some _ _ e) (F, (held, classed c is_c, unkept a F s free shows, (r, newest (Some r) told, over), itself F), shows)
+    spent c is_c free r reported true is e =
+        subst P (same_Some _ _ e) (F, (held, classed c is_c, unkept a F s free shows, (r, newest (Some r) reported, over), itself F), shows)
       where
         over : last_hop ≤ r.hop
         over = grind (arith, nat_tests)
-    spent c is_c free r told false is e = absurd (cc)
+    spent c is_c free r reported false is e = absurd (cc)
 
     go : (c : Option Class) → class_at a.parts.groups s ≡ c → (k : Kept) → kept_at a s ≡ k → (o : Option Record) → record_at b (key_at a b) ≡ o
         → copy_reason_of c k o ≡ Some q → P q

@@ -4,7 +4,7 @@ use Rattle.extents.specs.Failures.{Failures}
 use Rattle.extents.proofs.Failures.{counts_same, steady_same, counts_more, steady_more}
 use Rattle.extent_groups.specs.Groups.{Groups}
 use Rattle.extent_groups.specs.Missing.{IsGone}
-use Rattle.array_parts.specs.Views.{PartsView, IsLost, Loses, SameTables, DrivesFare, lost_of, failed_of}
+use Rattle.unit_store.specs.Views.{PartsView, IsLost, Loses, SameTables, DrivesFare, lost_of, failed_of}
 use Rattle.flat_machine.specs.Flat.{Flat}
 use Rattle.flat_machine.specs.Cases.{Fares, Leaves, IsGoneIn}
 use Rattle.flat_machine.proofs.Keeps as flat

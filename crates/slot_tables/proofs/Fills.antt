@@ -9,13 +9,13 @@ use Rattle.map_join.specs.Record.{record_of}
 use Rattle.extent_groups.specs.declared.class.Class.{Class}
 use Rattle.extent_groups.specs.declared.class.Class.TheVariants.{Mirrored, Parity}
 use Rattle.extent_groups.specs.Groups.{Groups}
-use Rattle.array_parts.specs.Slots.{IsSlot}
+use Rattle.unit_store.specs.Slots.{IsSlot}
 use Rattle.extent_groups.specs.Stores.{AreDrives}
-use Rattle.array_parts.specs.Views.{PartsView, Shows, SameTables, WasPut, FoundGone, DrivesFare, drive_units}
+use Rattle.unit_store.specs.Views.{PartsView, Shows, SameTables, WasPut, FoundGone, DrivesFare, drive_units}
 use Rattle.flat_machine.specs.declared.refusal.Refusal.{Refusal}
 use Rattle.extent_groups.specs.Groups.{group_at}
 use Rattle.flat_machine.specs.Groups.{class_at}
-use Rattle.flat_machine.specs.Flat.{Flat, Content, IsSized, kind_of, Worker, Ticket, Waiting, Fresh, content_of, Stored, waiting_unit, put, turned, class_of, IsArrays, IsKept}
+use Rattle.flat_machine.specs.Flat.{Flat, Content, IsSized, kind_of, Worker, Ticket, Waiting, Fresh, content_of, Stored, waiting_unit, put, turned, class_of, IsArrays, IsArrayHeld}
 use Rattle.flat_machine.specs.Steps.{Fill, Filled, Refused}
 use Rattle.flat_machine.specs.Cases.{FillCase, FillPasses, ticketed}
 use Rattle.flat_machine.proofs.Pairs.{put_here, put_else, turned_else, IsJust, turned_free}
@@ -81,7 +81,7 @@ wait_whole a s kept inside free waits moves class whole = record {
 
 -- the tables after a slot was made to wait are the state's in which it does, with the drives of the parts then
 pub wait_tables : (a : ArrayView) (v : PartsView) (F : Flat) (w s : ℕ) (kept : Kept) (c : Waiting) → s < 65536 → is_waiting kept ≡ true → IsTicketOf kept (Some c)
-    → SameTables a.parts v → DrivesFare a.parts v → IsWhole a → ShowsArray a F → (IsKept F s → ⊥)
+    → SameTables a.parts v → DrivesFare a.parts v → IsWhole a → ShowsArray a F → (IsArrayHeld F s → ⊥)
     → InTables (wait_view (with_parts a v) s kept) (fared (ticketed F w s c) v)
 wait_tables a v F w s kept c inside waits ticket same fares whole shows free = record {
   groups = shows.tables.groups ∙ sym same.groups;
@@ -175,7 +175,7 @@ fill_case a v F w s x inside none long was whole shows held =
 pub fill_gone : (a : ArrayView) (v : PartsView) (F : Flat) (w s : ℕ) (x : Content) (q : Refusal) → fill_reason a s ≡ None → FoundGone a.parts v s q → ShowsArray a F → F.held s (Worker w) ≡ true
     → MayRefuse q (FillPasses F w s) ((G : Flat) × FillCase F w s x (Refused q) G × ShowsArray (with_parts a v) G)
 fill_gone a v F w s x q none found shows held =
-    subst (λ p. MayRefuse p (FillPasses F w s) ((G : Flat) × FillCase F w s x (Refused p) G × ShowsArray (with_parts a v) G)) (sym found.told) (
+    subst (λ p. MayRefuse p (FillPasses F w s) ((G : Flat) × FillCase F w s x (Refused p) G × ShowsArray (with_parts a v) G)) (sym found.reported) (
       fared F v,
       (refl, fill_passes a F w s none shows held, gone_as F a.parts v s shows.tables.groups found.loses.rest found.gone, lost_leaves a F v shows found.loses),
       lost_shows a F v shows found.loses,

@@ -5,8 +5,8 @@ use Rattle.map_join.specs.declared.records.Record.{Record}
 use Rattle.map_join.specs.Record.{record_of, record_at}
 use Rattle.flat_machine.specs.Flat.{Flat, Write, Stored, content_in, last_write}
 use Rattle.flat_machine.specs.Cases.{found_in, found_of}
-use Rattle.flat_machine.proofs.Newest.{told_at, untold_at, told_key}
-use Rattle.array_parts.specs.Slots.{IsSlot}
+use Rattle.flat_machine.proofs.Newest.{reported_at, untold_at, reported_key}
+use Rattle.unit_store.specs.Slots.{IsSlot}
 use Rattle.flat_machine.specs.Groups.{class_at}
 use Rattle.slot_tables.proofs.Wholes.{slot_of_class}
 use Rattle.slot_tables.specs.Views.{Nothing, Newest, Unmade, ArrayView, kept_at, key_at, IsWhole}
@@ -20,7 +20,7 @@ pub read_none : (a : ArrayView) (F : Flat) (b : ℕ) → IsWhole a → ShowsArra
 read_none a F b whole shows none = go (sizes (key_at a b))
   where
     go : (key_at a b < 2 ^ 32) ⊎ (2 ^ 32 ≤ key_at a b) → None ≡ found_of (last_write F.writes b)
-    go (inr big) = let bad : Some (record_of b (key_at a b)) ≡ None = sym (told_at b (key_at a b) big) ∙ none in absurd (cc)
+    go (inr big) = let bad : Some (record_of b (key_at a b)) ≡ None = sym (reported_at b (key_at a b) big) ∙ none in absurd (cc)
     go (inl small) = sym (ap found_of ((shows.history.written b).0 (zero (positive (key_at a b)))))
       where
         positive : (k : ℕ) → (k ≡ 0) ⊎ (0 < k)
@@ -34,13 +34,13 @@ read_none a F b whole shows none = go (sizes (key_at a b))
 pub newest_write : (a : ArrayView) (F : Flat) (b : ℕ) (r : Record) → ShowsArray a F → record_at b (key_at a b) ≡ Some r
     → (w : Write) × (last_write F.writes b ≡ Some w) × ((u : Stored) → F.units r.place ≡ Some u → content_in u ≡ w.content) × (w.version ≡ r.version)
 newest_write a F b r shows found =
-    let told = told_key b (key_at a b) r found in
-    let big = told.0 in
+    let reported = reported_key b (key_at a b) r found in
+    let big = reported.0 in
     let y = (shows.history.written b).1 (omega arith) in (
       y.0,
       y.1,
-      λ u unit. ap content_in (same_Some _ _ (sym unit ∙ ap (λ (q : Record). F.units q.place) (sym told.1) ∙ y.2.unit.there)) ∙ y.2.unit.content,
-      y.2.version ∙ ap (λ (q : Record). q.version) told.1,
+      λ u unit. ap content_in (same_Some _ _ (sym unit ∙ ap (λ (q : Record). F.units q.place) (sym reported.1) ∙ y.2.unit.there)) ∙ y.2.unit.content,
+      y.2.version ∙ ap (λ (q : Record). q.version) reported.1,
     )
 
 -- a block with a record holds what its unit does
@@ -57,7 +57,7 @@ read_there a b r whole is = go (sizes (key_at a b))
     go : (key_at a b < 2 ^ 32) ⊎ (2 ^ 32 ≤ key_at a b) → class_at a.parts.groups r.place ≢ None
     go (inl small) = let bad : None ≡ Some r = sym (untold_at b (key_at a b) small) ∙ is in absurd (cc)
     go (inr big) =
-        let same : record_of b (key_at a b) ≡ r = same_Some _ _ (sym (told_at b (key_at a b) big) ∙ is) in
+        let same : record_of b (key_at a b) ≡ r = same_Some _ _ (sym (reported_at b (key_at a b) big) ∙ is) in
         let kept : kept_at a r.place ≡ Newest b = ap (λ (q : Record). kept_at a q.place) (sym same) ∙ whole.newest b (omega arith) in
         whole.there r.place (λ e. let bad : Newest b ≡ Nothing = sym kept ∙ e in cc) (λ e. let bad : Newest b ≡ Unmade = sym kept ∙ e in cc)
 

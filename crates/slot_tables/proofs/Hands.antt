@@ -2,7 +2,7 @@
 use Rattle.std.proofs.Common.{◌↔◌, ◌≡◌, ℕ, ◌<◌, Bool, true, false, not, length, refl, sym, ap, ◌∙◌, subst}
 use Rattle.std.proofs.Math.ListN.{set}
 use Rattle.std.proofs.lemmas.List.{get_or-set_same, get_or-set_other}
-use Rattle.flat_machine.specs.Flat.{Flat, Holder, Worker, Ticket, Block, Shut, with_pair, without_pair, IsArrays, for_block, for_shut, IsFree}
+use Rattle.flat_machine.specs.Flat.{Flat, Holder, Worker, Ticket, Block, Shut, with_pair, without_pair, IsArrays, for_block, for_shut, IsUnheld}
 use Rattle.flat_machine.specs.Steps.{Claim, Claimed, Taken, Release, Released}
 use Rattle.flat_machine.specs.Cases.{ClaimCase, ReleaseCase}
 use Rattle.flat_machine.proofs.Pairs.{equal, with_else, with_just, without_else, without_nobody, just_one, IsNobodys, Any}
@@ -61,7 +61,7 @@ no_hand k (Holds w) e = absurd (cc)
 no_hand k (Waits w) e = absurd (cc)
 
 -- a slot that is free in a world has no holder
-free_holder : (v : WorldView) (F : Flat) (s : ℕ) → Represents v F → kept_at v.array s ≡ Nothing → hand_at v.hands s ≡ Empty → IsFree F s
+free_holder : (v : WorldView) (F : Flat) (s : ℕ) → Represents v F → kept_at v.array s ≡ Nothing → hand_at v.hands s ≡ Empty → IsUnheld F s
 free_holder v F s rep none empty (Worker w) = (rep.hands s).claims w ∙ ap (λ h. is_claim h w) empty
 free_holder v F s rep none empty (Ticket w) = (rep.hands s).tickets w ∙ ap (λ h. is_ticket h w) empty
 free_holder v F s rep none empty (Block b) = nothing_kept F.groups (key_at v.array) s (F.held s) (F.tickets s) (rep.array.history.holders s)
@@ -89,7 +89,7 @@ claim_case v F w s small inside free rep = (
     none : (kept_at v.array s ≡ Nothing) × (hand_at v.hands s ≡ Empty)
     none = no_hand (kept_at v.array s) (hand_at v.hands s) free
 
-    is_free : IsFree F s
+    is_free : IsUnheld F s
     is_free = free_holder v F s rep none.0 none.1
 
     case : ClaimCase F w s (Claimed s) (with_held F (with_pair F.held s (Worker w)))
@@ -118,13 +118,13 @@ taken_case v F w s held rep = (refl, holder (hand_at v.hands s) refl, itself F)
     holder (Waits u) e = (Ticket u, (rep.hands s).tickets u ∙ ap (λ h. is_ticket h u) e ∙ equal u u refl)
 
 -- so the tables say exactly which slots are free
-pub free_iff : (v : WorldView) (F : Flat) (s : ℕ) → Represents v F → has_no_holder (kept_at v.array s) (hand_at v.hands s) ≡ true ↔ IsFree F s
+pub free_iff : (v : WorldView) (F : Flat) (s : ℕ) → Represents v F → has_no_holder (kept_at v.array s) (hand_at v.hands s) ≡ true ↔ IsUnheld F s
 free_iff v F s rep = (there, λ free. go free (has_no_holder (kept_at v.array s) (hand_at v.hands s)) refl)
   where
-    there : has_no_holder (kept_at v.array s) (hand_at v.hands s) ≡ true → IsFree F s
+    there : has_no_holder (kept_at v.array s) (hand_at v.hands s) ≡ true → IsUnheld F s
     there is = let none = no_hand (kept_at v.array s) (hand_at v.hands s) is in free_holder v F s rep none.0 none.1
 
-    go : IsFree F s → (b : Bool) → has_no_holder (kept_at v.array s) (hand_at v.hands s) ≡ b → b ≡ true
+    go : IsUnheld F s → (b : Bool) → has_no_holder (kept_at v.array s) (hand_at v.hands s) ≡ b → b ≡ true
     go free true e = refl
     go free false e =
         let held = (taken_case v F 0 s e rep).1 in

@@ -1,6 +1,6 @@
 -- What the array keeps of a slot is what the flat state's holders say.
 use Rattle.std.proofs.Common.{◌≡◌, ◌≢◌, ◌↔◌, ℕ, ◌/◌, Bool, true, false, IsTrue, refl, sym, ap, ◌∙◌, Option, Some, None}
-use Rattle.flat_machine.specs.Flat.{Flat, Holder, Ticket, Block, Shut, IsArrays, for_ticket, for_block, for_shut, IsKept, Waiting, Fresh, Moved}
+use Rattle.flat_machine.specs.Flat.{Flat, Holder, Ticket, Block, Shut, IsArrays, for_ticket, for_block, for_shut, IsArrayHeld, Waiting, Fresh, Moved}
 use Rattle.extent_groups.specs.Groups.{Groups}
 use Rattle.flat_machine.specs.History.{HoldersStand}
 use Rattle.flat_machine.proofs.Pairs.{equal}
@@ -52,7 +52,7 @@ holder_kept groups keys s (Newest b) held t is slot k of e = refl
 holder_kept groups keys s Unmade held t is slot k of e = refl
 
 -- the array keeps a slot exactly where a holder of its own holds it
-pub kept_iff : (a : ArrayView) (F : Flat) (s : ℕ) → ShowsArray a F → IsTrue (is_kept (kept_at a s)) ↔ IsKept F s
+pub kept_iff : (a : ArrayView) (F : Flat) (s : ℕ) → ShowsArray a F → IsTrue (is_kept (kept_at a s)) ↔ IsArrayHeld F s
 kept_iff a F s shows = (
   λ t. kept_holder F.groups (key_at a) s (kept_at a s) (F.held s) (F.tickets s) (shows.history.holders s) (shows.tables.slots s) t,
   λ k. holder_kept F.groups (key_at a) s (kept_at a s) (F.held s) (F.tickets s) (shows.history.holders s) (shows.tables.slots s) k.0 k.1 k.2,
@@ -69,7 +69,7 @@ pub waiting_made : (k : Kept) → is_waiting k ≡ true → k ≡ Unmade → ⊥
 waiting_made k w e = let bad : true ≡ false = sym w ∙ ap is_waiting e in cc
 
 -- a slot of which nothing is kept is not held by the array
-pub unkept : (a : ArrayView) (F : Flat) (s : ℕ) → kept_at a s ≡ Nothing → ShowsArray a F → IsKept F s → ⊥
+pub unkept : (a : ArrayView) (F : Flat) (s : ℕ) → kept_at a s ≡ Nothing → ShowsArray a F → IsArrayHeld F s → ⊥
 unkept a F s free shows kept = let t = (kept_iff a F s shows).1 kept in let bad : false ≡ true = sym (ap is_kept free) ∙ t in absurd (cc)
 
 -- the ticket of a slot that waits, and none elsewhere

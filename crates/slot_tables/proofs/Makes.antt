@@ -15,7 +15,7 @@ use Rattle.flat_machine.specs.Groups.{AreMembers, AreApart, AreUnowned, IsLowest
 use Rattle.flat_machine.proofs.Pairs.{equal_back}
 use Rattle.flat_machine.specs.declared.refusal.Refusal.{Refusal}
 use Rattle.flat_machine.specs.declared.refusal.Refusal.TheVariants.{SameDrive, ExtentTaken}
-use Rattle.slot_tables.specs.Making.{told_of, IsPutReason, IsMakeReason}
+use Rattle.slot_tables.specs.Making.{reported_of, IsPutReason, IsMakeReason}
 use Rattle.slot_tables.specs.Views.{ArrayView, IsWhole}
 
 -- an element that passes a test
@@ -52,7 +52,7 @@ owned_not : (groups : Groups) (owners : Owners) (ms : List Member) → Agree gro
 owned_not groups owners ms agree e unowned =
     let r = any_true (is_owned owners) ms e in
     let g = some_of (owner_of owners r.1.drive r.1.extent) r.3 in
-    unowned g.0 r.1.drive r.1.extent (agree.stands g.0 r.1.drive r.1.extent g.1) (r.0, r.2)
+    unowned g.0 r.1.drive r.1.extent (agree.matches g.0 r.1.drive r.1.extent g.1) (r.0, r.2)
 
 unowned_of : (groups : Groups) (owners : Owners) (ms : List Member) → Agree groups owners → list_any (is_owned owners) ms ≡ false → AreUnowned groups ms
 unowned_of groups owners ms agree none g drive extent theirs mine =
@@ -78,8 +78,8 @@ abbrev last : Bool → Bool → Option GroupRefusal
 last x y = cond x (Some fault.SameDrive) (cond y (Some fault.ExtentTaken) None)
 
 -- why members make no group is given by what the test of them found
-pub reason_told : (a : ArrayView) (ms : List Member) → IsWhole a → (3 ≤ length ms) × (length ms ≤ 8) × AreThere a.parts.owners ms → IsPutReason a ms (told_of (put_fault a.parts.owners ms))
-reason_told a ms whole are = subst (λ o. IsPutReason a ms (told_of o)) (sym is) (go (shares_drive ms) refl (list_any (is_owned a.parts.owners) ms) refl)
+pub reason_reported : (a : ArrayView) (ms : List Member) → IsWhole a → (3 ≤ length ms) × (length ms ≤ 8) × AreThere a.parts.owners ms → IsPutReason a ms (reported_of (put_fault a.parts.owners ms))
+reason_reported a ms whole are = subst (λ o. IsPutReason a ms (reported_of o)) (sym is) (go (shares_drive ms) refl (list_any (is_owned a.parts.owners) ms) refl)
   where
     few : (n : ℕ) → 3 ≤ n → nat_lt n 3 ≡ false
     few n h = grind (arith, nat_tests)
@@ -91,12 +91,12 @@ reason_told a ms whole are = subst (λ o. IsPutReason a ms (told_of o)) (sym is)
     is = ap (λ b. cond b (Some fault.TooFew) (cond (nat_lt 8 (length ms)) (Some fault.TooMany) (last (shares_drive ms) (list_any (is_owned a.parts.owners) ms)))) (few (length ms) are.0)
         ∙ ap (λ b. cond b (Some fault.TooMany) (last (shares_drive ms) (list_any (is_owned a.parts.owners) ms))) (many (length ms) are.1)
 
-    go : (x : Bool) → shares_drive ms ≡ x → (y : Bool) → list_any (is_owned a.parts.owners) ms ≡ y → IsPutReason a ms (told_of (last (shares_drive ms) (list_any (is_owned a.parts.owners) ms)))
-    go true is_x y is_y = subst (λ b. IsPutReason a ms (told_of (last b (list_any (is_owned a.parts.owners) ms)))) (sym is_x) (members_of_test a ms whole are, shared_not ms is_x)
-    go false is_x true is_y = subst (λ b. IsPutReason a ms (told_of (last b (list_any (is_owned a.parts.owners) ms)))) (sym is_x)
-        (subst (λ b. IsPutReason a ms (told_of (last false b))) (sym is_y) (members_of_test a ms whole are, spread_of ms is_x, owned_not a.parts.groups a.parts.owners ms whole.agree is_y))
-    go false is_x false is_y = subst (λ b. IsPutReason a ms (told_of (last b (list_any (is_owned a.parts.owners) ms)))) (sym is_x)
-        (subst (λ b. IsPutReason a ms (told_of (last false b))) (sym is_y) (members_of_test a ms whole are, spread_of ms is_x, unowned_of a.parts.groups a.parts.owners ms whole.agree is_y))
+    go : (x : Bool) → shares_drive ms ≡ x → (y : Bool) → list_any (is_owned a.parts.owners) ms ≡ y → IsPutReason a ms (reported_of (last (shares_drive ms) (list_any (is_owned a.parts.owners) ms)))
+    go true is_x y is_y = subst (λ b. IsPutReason a ms (reported_of (last b (list_any (is_owned a.parts.owners) ms)))) (sym is_x) (members_of_test a ms whole are, shared_not ms is_x)
+    go false is_x true is_y = subst (λ b. IsPutReason a ms (reported_of (last b (list_any (is_owned a.parts.owners) ms)))) (sym is_x)
+        (subst (λ b. IsPutReason a ms (reported_of (last false b))) (sym is_y) (members_of_test a ms whole are, spread_of ms is_x, owned_not a.parts.groups a.parts.owners ms whole.agree is_y))
+    go false is_x false is_y = subst (λ b. IsPutReason a ms (reported_of (last b (list_any (is_owned a.parts.owners) ms)))) (sym is_x)
+        (subst (λ b. IsPutReason a ms (reported_of (last false b))) (sym is_y) (members_of_test a ms whole are, spread_of ms is_x, unowned_of a.parts.groups a.parts.owners ms whole.agree is_y))
 
 -- the numbers before one that is free are made, so it is the lowest
 pub lowest_is : (groups : Groups) (n : ℕ) → AreGroups groups → IsFree groups n → ((h : ℕ) → h < n → group_at groups h ≢ None) → IsLowestFree groups n
@@ -117,11 +117,11 @@ made_more groups n are low made so_far h high none = go (cases_eq h n)
 
 -- the fault may be found and reported in any way
 pub reason_as : (a : ArrayView) (ms : List Member) (o : Option Refusal) (f : Option GroupRefusal) → IsWhole a → (3 ≤ length ms) × (length ms ≤ 8) × AreThere a.parts.owners ms
-    → o ≡ told_of f → f ≡ put_fault a.parts.owners ms → IsPutReason a ms o
-reason_as a ms o f whole are told fault = subst (IsPutReason a ms) (sym (told ∙ ap told_of fault)) (reason_told a ms whole are)
+    → o ≡ reported_of f → f ≡ put_fault a.parts.owners ms → IsPutReason a ms o
+reason_as a ms o f whole are reported fault = subst (IsPutReason a ms) (sym (reported ∙ ap reported_of fault)) (reason_reported a ms whole are)
 
 -- a fault of the members is why no group is made of them
-pub make_told : (a : ArrayView) (ms : List Member) (q : Refusal) → IsPutReason a ms (Some q) → IsMakeReason a ms (Some q)
-make_told a ms SameDrive reason = reason
-make_told a ms ExtentTaken reason = reason
-make_told a ms _ reason = absurd reason
+pub make_reported : (a : ArrayView) (ms : List Member) (q : Refusal) → IsPutReason a ms (Some q) → IsMakeReason a ms (Some q)
+make_reported a ms SameDrive reason = reason
+make_reported a ms ExtentTaken reason = reason
+make_reported a ms _ reason = absurd reason

@@ -7,17 +7,17 @@ use Rattle.extent_groups.specs.Geometry.{slot_count}
 use Rattle.extent_groups.specs.Groups.{Groups, group_at, with_group}
 use Rattle.extent_groups.proofs.Readiness.{rows_given, extents_given}
 use Rattle.extent_groups.specs.Stores.{AreDrives}
-use Rattle.array_parts.specs.Views.{PartsView, Shows, Entered, FoundLost, drive_units}
+use Rattle.unit_store.specs.Views.{PartsView, Shows, Entered, FoundLost, drive_units}
 use Rattle.flat_machine.specs.declared.refusal.Refusal.{Refusal}
 use Rattle.flat_machine.specs.declared.refusal.Refusal.TheVariants.{BadMember, SameDrive, ExtentTaken, DriveLost, Full}
 use Rattle.flat_machine.specs.Steps.{Make, MadeGroup, Refused}
-use Rattle.flat_machine.specs.Groups.{AreMembers, AreUnowned, ArePresent, IsFirstLost, GroupsStand, IsLowestFree, IsFull, class_at}
+use Rattle.flat_machine.specs.Groups.{AreMembers, AreUnowned, ArePresent, IsFirstLost, GroupsStand, IsLowestFree, IsTableFull, class_at}
 use Rattle.map_join.specs.Record.{record_of}
 use Rattle.std.proofs.lemmas.Bool.{cases_eq}
 use Rattle.extent_groups.proofs.GroupsLemmas.{group_other}
 use Rattle.flat_machine.proofs.Pairs.{unequal}
 use Rattle.flat_machine.specs.Flat.{Flat, Block, Shut, Waiting}
-use Rattle.flat_machine.specs.Cases.{made, wiped, MakeCase, MakePasses, AreFit, IsWanted}
+use Rattle.flat_machine.specs.Cases.{made, wiped, MakeCase, MakePasses, AreFit, IsAllocating}
 use Rattle.flat_machine.proofs.Makes.{groups_more, class_kept}
 use Rattle.slot_tables.specs.Changes.{MayRefuse, opened_of, IsOpened, opened_view}
 use Rattle.slot_tables.specs.Making.{IsMakeReason}
@@ -196,7 +196,7 @@ unowned_back a F members shows unowned = subst (λ (z : Groups). AreUnowned z me
 
 -- why a group can't be made is why the flat machine refuses it
 pub make_refused : (a : ArrayView) (F : Flat) (class : Class) (members : List Member) (r : Refusal) → IsMakeReason a members (Some r) → ShowsArray a F
-    → MayRefuse r (IsWanted F (Make class members)) ((G : Flat) × MakeCase F class members (Refused r) G × ShowsArray a G)
+    → MayRefuse r (IsAllocating F (Make class members)) ((G : Flat) × MakeCase F class members (Refused r) G × ShowsArray a G)
 make_refused a F class members BadMember reason shows = (F, ((λ are. reason (members_back a F members shows are)), itself F), shows)
 make_refused a F class members SameDrive reason shows = (F, (members_as a F members shows reason.0, reason.1, itself F), shows)
 make_refused a F class members ExtentTaken reason shows =
@@ -220,10 +220,10 @@ fit_as a F members shows reason =
 present_as : (a : ArrayView) (F : Flat) (members : List Member) → ShowsArray a F → IsMakeReason a members None → ArePresent F.lost members
 present_as a F members shows reason = subst (λ (l : ℕ → Bool). ArePresent l members) (sym shows.tables.lost) reason.3
 
-pub make_full : (a : ArrayView) (F : Flat) (class : Class) (members : List Member) → IsMakeReason a members None → IsFull a.parts.groups → ShowsArray a F
+pub make_full : (a : ArrayView) (F : Flat) (class : Class) (members : List Member) → IsMakeReason a members None → IsTableFull a.parts.groups → ShowsArray a F
     → (G : Flat) × MakeCase F class members (Refused Full) G × ShowsArray a G
 make_full a F class members reason full shows =
-    (F, (fit_as a F members shows reason, present_as a F members shows reason, subst IsFull (sym shows.tables.groups) full, itself F), shows)
+    (F, (fit_as a F members shows reason, present_as a F members shows reason, subst IsTableFull (sym shows.tables.groups) full, itself F), shows)
 
 -- where nothing speaks against a group, the flat machine makes it
 pub make_passes : (a : ArrayView) (F : Flat) (members : List Member) (g : ℕ) → IsMakeReason a members None → IsLowestFree a.parts.groups g → ShowsArray a F → MakePasses F members g
@@ -253,10 +253,10 @@ make_case a v kept F class members g reason lowest e opened shows = (
 -- a drive failed while the extents were wiped
 pub make_lost : (a : ArrayView) (v : PartsView) (F : Flat) (class : Class) (members : List Member) (g : ℕ) (q : Refusal) → IsMakeReason a members None → IsLowestFree a.parts.groups g
     → FoundLost a.parts members v q → ShowsArray a F
-    → MayRefuse q (IsWanted F (Make class members)) ((G : Flat) × MakeCase F class members (Refused q) G × ShowsArray (with_parts a v) G)
+    → MayRefuse q (IsAllocating F (Make class members)) ((G : Flat) × MakeCase F class members (Refused q) G × ShowsArray (with_parts a v) G)
 make_lost a v F class members g q reason lowest found shows =
-    subst (λ z. MayRefuse z (IsWanted F (Make class members)) ((G : Flat) × MakeCase F class members (Refused z) G × ShowsArray (with_parts a v) G)) (sym found.told.1) (
+    subst (λ z. MayRefuse z (IsAllocating F (Make class members)) ((G : Flat) × MakeCase F class members (Refused z) G × ShowsArray (with_parts a v) G)) (sym found.reported.1) (
       fared F v,
-      (fit_as a F members shows reason, inr ((g, make_passes a F members g reason lowest shows), found.told.2), lost_leaves a F v shows found.loses),
+      (fit_as a F members shows reason, inr ((g, make_passes a F members g reason lowest shows), found.reported.2), lost_leaves a F v shows found.loses),
       lost_shows a F v shows found.loses,
     )

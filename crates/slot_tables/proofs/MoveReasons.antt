@@ -6,12 +6,12 @@ use Rattle.extents.specs.Owners.{owner_of, IsExtent}
 use Rattle.extent_groups.specs.declared.class.Member.{Member}
 use Rattle.extent_groups.specs.declared.refusal.GroupRefusal.TheVariants as fault
 use Rattle.extent_groups.specs.Faults.{is_on, is_owned, swap_check_of}
-use Rattle.extent_groups.specs.Groups.{members_of, Stands}
+use Rattle.extent_groups.specs.Groups.{members_of, HasMemberAt}
 use Rattle.extent_groups.specs.Stores.{HasMemberOn}
 use Rattle.extent_groups.proofs.GroupsLemmas.{not_on, not_owned}
 use Rattle.flat_machine.specs.Moves.{IsMoveReason}
 use Rattle.flat_machine.proofs.Pairs.{equal_back}
-use Rattle.slot_tables.specs.Making.{told_of}
+use Rattle.slot_tables.specs.Making.{reported_of}
 use Rattle.slot_tables.specs.Views.{ArrayView, IsWhole}
 
 -- one of the members is on the drive
@@ -31,7 +31,7 @@ owner_there (Some h) e = (h, refl)
 
 -- the reason against a move onto an extent that is there is the one that the tests find
 pub swap_reason : (a : ArrayView) (g k : ℕ) (to : Member) → IsWhole a → slice_get (members_of a.parts.groups g) k ≢ None → IsExtent a.parts.owners to.drive to.extent
-    → IsMoveReason a.parts.groups (length a.parts.drives) g k to (told_of (swap_check_of a.parts.owners (members_of a.parts.groups g) to))
+    → IsMoveReason a.parts.groups (length a.parts.drives) g k to (reported_of (swap_check_of a.parts.owners (members_of a.parts.groups g) to))
 swap_reason a g k to whole some inside = go (is_on to.drive (members_of a.parts.groups g)) (is_owned a.parts.owners to) refl refl
   where
     drive : to.drive < length a.parts.drives
@@ -43,15 +43,15 @@ swap_reason a g k to whole some inside = go (is_on to.drive (members_of a.parts.
     away : is_on to.drive (members_of a.parts.groups g) ≡ false → HasMemberOn a.parts.groups g to.drive → ⊥
     away off has = not_on to.drive (members_of a.parts.groups g) has.0 has.1 off has.2 has.3
 
-    unowned : is_owned a.parts.owners to ≡ false → (h : ℕ) → Stands (members_of a.parts.groups h) to.drive to.extent → ⊥
-    unowned free h stands = none-some h (sym (not_owned a.parts.owners to free) ∙ (whole.agree.owned h stands.0 (record { drive = to.drive; extent = to.extent }) stands.1).1)
+    unowned : is_owned a.parts.owners to ≡ false → (h : ℕ) → HasMemberAt (members_of a.parts.groups h) to.drive to.extent → ⊥
+    unowned free h matches = none-some h (sym (not_owned a.parts.owners to free) ∙ (whole.agree.owned h matches.0 (record { drive = to.drive; extent = to.extent }) matches.1).1)
 
     go : (p q : Bool) → is_on to.drive (members_of a.parts.groups g) ≡ p → is_owned a.parts.owners to ≡ q
-        → IsMoveReason a.parts.groups (length a.parts.drives) g k to (told_of (cond p (Some fault.SameDrive) (cond q (Some fault.ExtentTaken) None)))
+        → IsMoveReason a.parts.groups (length a.parts.drives) g k to (reported_of (cond p (Some fault.SameDrive) (cond q (Some fault.ExtentTaken) None)))
     go true q on owned = (some, drive, extent, on_one to.drive (members_of a.parts.groups g) on)
     go false true off owned =
         let h = owner_there (owner_of a.parts.owners to.drive to.extent) owned in
-        (some, drive, extent, away off, (h.0, whole.agree.stands h.0 to.drive to.extent h.1))
+        (some, drive, extent, away off, (h.0, whole.agree.matches h.0 to.drive to.extent h.1))
     go false false off free = (some, record { drive = drive; extent = extent; apart = away off; unowned = unowned free })
 
 -- an extent that the table doesn't have isn't there

@@ -6,15 +6,15 @@ use Rattle.map_join.specs.Live.{IsLive, IsBlockAt}
 use Rattle.map_join.specs.Maps.{IsSame}
 use Rattle.flat_machine.specs.Flat.{Flat, IsNewest}
 use Rattle.flat_machine.proofs.Newest as flat
-use Rattle.slot_tables.specs.Views.{Kept, Nothing, Pending, Moving, Newest, Unmade, ArrayView, block_in, kept_at, key_at, IsRoomy, IsWhole}
+use Rattle.slot_tables.specs.Views.{Kept, Nothing, Pending, Moving, Newest, Unmade, ArrayView, newest_block_in, kept_at, key_at, IsRoomy, IsWhole}
 use Rattle.slot_tables.specs.Represents.{ShowsArray}
 
 -- the block's key is that of its newest record
-pub newest_told : (a : ArrayView) (F : Flat) (block : ℕ) → ShowsArray a F → IsNewest F.emitted block (record_at block (key_at a block))
-newest_told a F block shows = flat.newest_told F.emitted (key_at a) block shows.history.records shows.history.map
+pub newest_reported : (a : ArrayView) (F : Flat) (block : ℕ) → ShowsArray a F → IsNewest F.emitted block (record_at block (key_at a block))
+newest_reported a F block shows = flat.newest_reported F.emitted (key_at a) block shows.history.records shows.history.map
 
 pub newest_is : (a : ArrayView) (F : Flat) (block : ℕ) (o : Option Record) → ShowsArray a F → record_at block (key_at a block) ≡ o → IsNewest F.emitted block o
-newest_is a F block o shows found = subst (IsNewest F.emitted block) found (newest_told a F block shows)
+newest_is a F block o shows found = subst (IsNewest F.emitted block) found (newest_reported a F block shows)
 
 -- past its end a list has nothing
 get_or_past : {X : Type 0} (xs : List X) (i : ℕ) (d : X) → length xs ≤ i → get_or xs i d ≡ d
@@ -36,28 +36,28 @@ map_whole a M i room end before rest b = go (side b i)
     go (inr h) = let e = room.keys in rest b h ∙ sym (get_or_past a.keys b 0 (omega arith))
 
 -- a slot that is a block's newest place is kept as that block's, and no other slot is live
-pub lies_at : (a : ArrayView) (s : ℕ) → IsWhole a → IsBlockAt (key_at a) s (block_in (kept_at a s))
+pub lies_at : (a : ArrayView) (s : ℕ) → IsWhole a → IsBlockAt (key_at a) s (newest_block_in (kept_at a s))
 lies_at a s whole = go (kept_at a s) refl
   where
     other : (k : Kept) → kept_at a s ≡ k → ((b : ℕ) → k ≢ Newest b) → IsLive (key_at a) s → ⊥
     other k e nobody live =
-        let key = flat.told_key live.0 (key_at a live.0) live.1.0 live.1.1 in
+        let key = flat.reported_key live.0 (key_at a live.0) live.1.0 live.1.1 in
         let is : kept_at a (record_of live.0 (key_at a live.0)).place ≡ Newest live.0 = whole.newest live.0 (omega (arith, key.0)) in
         let same : (record_of live.0 (key_at a live.0)).place ≡ s = ap (λ (r : Record). r.place) key.1 ∙ live.1.2 in
         nobody live.0 (sym e ∙ (sym (ap (kept_at a) same) ∙ is))
 
-    go : (k : Kept) → kept_at a s ≡ k → IsBlockAt (key_at a) s (block_in k)
+    go : (k : Kept) → kept_at a s ≡ k → IsBlockAt (key_at a) s (newest_block_in k)
     go Nothing e = other Nothing e (λ b is. cc)
     go (Pending k) e = other (Pending k) e (λ b is. cc)
     go Unmade e = other Unmade e (λ b is. cc)
     go (Moving r k) e = other (Moving r k) e (λ b is. cc)
     go (Newest b) e =
         let only = whole.only s b e in
-        (record_of b (key_at a b), flat.told_at b (key_at a b) (whole.keys b only.0), only.1)
+        (record_of b (key_at a b), flat.reported_at b (key_at a b) (whole.keys b only.0), only.1)
 
 -- a number past the array's blocks has no record
-pub told_past : (a : ArrayView) (b : ℕ) → IsRoomy a → a.parts.groups.blocks ≤ b → record_at b (key_at a b) ≡ None
-told_past a b room past =
+pub reported_past : (a : ArrayView) (b : ℕ) → IsRoomy a → a.parts.groups.blocks ≤ b → record_at b (key_at a b) ≡ None
+reported_past a b room past =
     let wide = room.keys in
     ap (record_at b) (get_or_past a.keys b 0 (omega (arith, wide)))
 
@@ -70,4 +70,4 @@ block_inside a b r room is = go (side b a.parts.groups.blocks)
 
     go : (b < a.parts.groups.blocks) ⊎ (a.parts.groups.blocks ≤ b) → b < a.parts.groups.blocks
     go (inl l) = l
-    go (inr past) = let none : None ≡ Some r = sym (told_past a b room past) ∙ is in absurd (cc)
+    go (inr past) = let none : None ≡ Some r = sym (reported_past a b room past) ∙ is in absurd (cc)

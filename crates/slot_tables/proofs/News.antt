@@ -5,8 +5,8 @@ use Rattle.extents.specs.Shapes.{IsShapeOf}
 use Rattle.extents.specs.Sizes.{IsExtentCount, IsSegmentCount, IsPayloadSize, IsBlockCount}
 use Rattle.extent_groups.specs.Groups.{Groups}
 use Rattle.extent_groups.proofs.Fresh.{free_groups, no_members}
-use Rattle.array_parts.specs.Views.{lost_of, failed_of, cells_of}
-use Rattle.array_parts.proofs.Shows.{shows_none}
+use Rattle.unit_store.specs.Views.{lost_of, failed_of, drive_cells}
+use Rattle.unit_store.proofs.Shows.{shows_none}
 use Rattle.flat_machine.specs.Groups.{AreSizes}
 use Rattle.flat_machine.specs.Flat.{new_flat}
 use Rattle.flat_machine.specs.History.{IsHistory}
@@ -50,7 +50,7 @@ pub new_shows : (a : ArrayView) → IsNew a → AreSizes a.parts.groups → 3 �
 new_shows a new sizes least most = record {
   history = subst (IsHistory (new_flat a.parts.groups (length a.parts.drives) (lost_of a.parts) (failed_of a.parts))) (sym keys_are)
       (new_history a.parts.groups (length a.parts.drives) (lost_of a.parts) (failed_of a.parts) sizes new.empty least most);
-  units = shows_none a.parts.groups (cells_of a.parts) (λ _. None) new.empty.free;
+  units = shows_none a.parts.groups (drive_cells a.parts) (λ _. None) new.empty.free;
   tables = record {
     groups = refl;
     drives = refl;

@@ -6,7 +6,7 @@ use Rattle.std.proofs.lemmas.List.{map-set, map-append, append_assoc, length-app
 use Rattle.std.proofs.lemmas.Bool.{cases_lt}
 use Rattle.slot_tables.specs.declared.slot_state.SlotState.{SlotState}
 use Rattle.slot_tables.specs.declared.slot_state.SlotState.TheVariants as state
-use Rattle.slot_tables.specs.Kept.{kept_of, kepts_of, IsOf, AreOf}
+use Rattle.slot_tables.specs.Kept.{kept_of, kepts_of, IsClaimOf, AreOf}
 use Rattle.slot_tables.specs.Views.{Kept, Nothing}
 
 -- what is kept at a place
@@ -117,7 +117,7 @@ kepts_push {C} places fewer =
 pub claims_push : {C : Type 0} (names : C → ℕ) (places : List (SlotState C)) → AreOf names places → AreOf names (places ++ state.Free ∷ [])
 claims_push {C} names places all slot inside = by (cases_lt slot (length places))
   where
-    by : (slot < length places) ⊎ (length places ≤ slot) → IsOf names slot (get_or (places ++ state.Free ∷ []) slot state.Free)
+    by : (slot < length places) ⊎ (length places ≤ slot) → IsClaimOf names slot (get_or (places ++ state.Free ∷ []) slot state.Free)
     by (inl low) = rw (get_or_append_left places (state.Free ∷ []) state.Free slot low) (all slot low)
     by (inr past) = rw (get_or_push places state.Free state.Free slot (let more = length-append places (state.Free ∷ []) in omega (arith, more, inside, past))) tt
 

@@ -4,7 +4,7 @@ use Rattle.std.specs.Prelude.{slice_get}
 use Rattle.std.proofs.lemmas.Bool.{cases_eq}
 use Rattle.extent_groups.specs.Groups.{AreGroups, Group, Groups, IsFree, group_at, members_in, members_of, with_group}
 use Rattle.extent_groups.proofs.GroupsLemmas.{group_other}
-use Rattle.array_parts.proofs.Outcomes.{group_past}
+use Rattle.unit_store.proofs.Outcomes.{group_past}
 use Rattle.flat_machine.specs.Groups.{class_at, class_below}
 use Rattle.slot_tables.specs.Kept.{HavePlaces}
 

@@ -9,14 +9,14 @@ use Rattle.extent_groups.specs.Groups.{Groups, group_at, members_of, with_group,
 use Rattle.extent_groups.specs.Stores.{AreDrives}
 use Rattle.extent_groups.proofs.Agreement.{agree_more}
 use Rattle.extent_groups.proofs.Readiness.{rows_given}
-use Rattle.array_parts.specs.Views.{PartsView, WasAdded, Shifted, NotShifted, TellsUnmoved, drive_units, lost_of, failed_of}
+use Rattle.unit_store.specs.Views.{PartsView, WasAdded, Shifted, NotShifted, ReportsUnmoved, drive_units, lost_of, failed_of}
 use Rattle.flat_machine.specs.declared.refusal.Refusal.{Refusal}
 use Rattle.flat_machine.specs.declared.refusal.Refusal.TheVariants.{NoGroup, BadMember, SameDrive, ExtentTaken, DriveLost, Gone}
 use Rattle.flat_machine.specs.Groups.{GroupsStand, class_at}
 use Rattle.flat_machine.specs.Flat.{Flat, put}
 use Rattle.flat_machine.specs.Moves.{IsMoveReason, MovePasses, IsBeyondOf, IsFirstGone, moved_to, with_new_drive}
 use Rattle.flat_machine.specs.Steps.{MoveExtent, MovedExtent, AddedDrive, Refused}
-use Rattle.flat_machine.specs.Cases.{Leaves, MoveCase, AddCase, IsWanted}
+use Rattle.flat_machine.specs.Cases.{Leaves, MoveCase, AddCase, IsAllocating}
 use Rattle.flat_machine.proofs.Regroups.{element, class_same, none_still, swapped_stand, add_keeps}
 use Rattle.slot_tables.specs.Changes.{MayRefuse}
 use Rattle.slot_tables.specs.Views.{ArrayView, with_parts, IsWhole, key_at}
@@ -79,7 +79,7 @@ reason_as a F g k to why shows reason =
     (subst (λ n. IsMoveReason a.parts.groups n g k to why) (sym shows.tables.drives) reason)
 
 pub move_refused : (a : ArrayView) (F : Flat) (g k : ℕ) (to : Member) (r : Refusal) → IsMoveReason a.parts.groups (length a.parts.drives) g k to (Some r) → ShowsArray a F
-    → MayRefuse r (IsWanted F (MoveExtent g k to)) ((G : Flat) × MoveCase F g k to (Refused r) G × ShowsArray a G)
+    → MayRefuse r (IsAllocating F (MoveExtent g k to)) ((G : Flat) × MoveCase F g k to (Refused r) G × ShowsArray a G)
 move_refused a F g k to NoGroup reason shows = (F, (reason_as a F g k to (Some NoGroup) shows reason, itself F), shows)
 move_refused a F g k to BadMember reason shows = (F, (reason_as a F g k to (Some BadMember) shows reason, itself F), shows)
 move_refused a F g k to SameDrive reason shows = (F, (reason_as a F g k to (Some SameDrive) shows reason, itself F), shows)
@@ -92,8 +92,8 @@ move_passes a F g k to reason present shows = (reason_as a F g k to None shows r
 
 -- a member that couldn't be moved
 pub move_stopped : (a : ArrayView) (v : PartsView) (F : Flat) (g k : ℕ) (to : Member) (r : Refusal) → MovePasses F g k to → NotShifted a.parts g k to v r → ShowsArray a F
-    → MayRefuse r (IsWanted F (MoveExtent g k to)) ((G : Flat) × MoveCase F g k to (Refused r) G × ShowsArray (with_parts a v) G)
-move_stopped a v F g k to r passes is shows = go r is.told
+    → MayRefuse r (IsAllocating F (MoveExtent g k to)) ((G : Flat) × MoveCase F g k to (Refused r) G × ShowsArray (with_parts a v) G)
+move_stopped a v F g k to r passes is shows = go r is.reported
   where
     left : Leaves F (fared F v)
     left = lost_leaves a F v shows is.loses
@@ -101,19 +101,19 @@ move_stopped a v F g k to r passes is shows = go r is.told
     groups : v.groups ≡ F.groups
     groups = is.loses.rest.groups ∙ sym shows.tables.groups
 
-    go : (r : Refusal) → TellsUnmoved v g k to r → MayRefuse r (IsWanted F (MoveExtent g k to)) ((G : Flat) × MoveCase F g k to (Refused r) G × ShowsArray (with_parts a v) G)
-    go (DriveLost d) told = (fared F v, (passes.0, told.0, inr (ap F.lost told.0 ∙ passes.1, told.1, left)), lost_shows a F v shows is.loses)
-    go (Gone s) told = (
+    go : (r : Refusal) → ReportsUnmoved v g k to r → MayRefuse r (IsAllocating F (MoveExtent g k to)) ((G : Flat) × MoveCase F g k to (Refused r) G × ShowsArray (with_parts a v) G)
+    go (DriveLost d) reported = (fared F v, (passes.0, reported.0, inr (ap F.lost reported.0 ∙ passes.1, reported.1, left)), lost_shows a F v shows is.loses)
+    go (Gone s) reported = (
       fared F v,
       (
         passes,
-        subst (λ (z : Groups). IsBeyondOf z (lost_of v) g k) groups told.0,
-        subst (λ (z : Groups). IsFirstGone z (lost_of v) g s) groups told.1,
+        subst (λ (z : Groups). IsBeyondOf z (lost_of v) g k) groups reported.0,
+        subst (λ (z : Groups). IsFirstGone z (lost_of v) g s) groups reported.1,
         left,
       ),
       lost_shows a F v shows is.loses,
     )
-    go _ told = absurd told
+    go _ reported = absurd reported
 
 module _ (a : ArrayView) (v : PartsView) (g k : ℕ) (to : Member) (reason : IsMoveReason a.parts.groups (length a.parts.drives) g k to None) (e : Shifted a.parts g k to v) where
   abbrev now : Groups

@@ -14,27 +14,27 @@ use Rattle.map_join.specs.declared.records.Record.{Record}
 use Rattle.slot_tables.specs.Views.{Kept, Nothing, Newest}
 use Rattle.slot_tables.specs.declared.slot_state.SlotState.{SlotState}
 use Rattle.slot_tables.specs.declared.slot_state.SlotState.TheVariants as state
-use Rattle.slot_tables.specs.Kept.{kept_of, kepts_of, IsOf, AreOf}
+use Rattle.slot_tables.specs.Kept.{kept_of, kepts_of, IsClaimOf, AreOf}
 use Rattle.slot_tables.proofs.Places.{kept_past, kept_there}
-use Rattle.slot_tables.specs.Claims.{how_many, claims_in, IsWanted, AreWanted, LieBelow, wanted_at, kept_for, IsClaimed}
+use Rattle.slot_tables.specs.Claims.{how_many, claims_in, IsExpected, AreExpected, LieBelow, expected_at, kept_for, IsClaimed}
 
 -- a slot that is wanted is in the table
-pub wanted_low : (wanted : List (Option ℕ)) (slot b : ℕ) → wanted_at wanted slot ≡ Some b → slot < length wanted
-wanted_low wanted slot b is = by (cases_lt slot (length wanted))
+pub expected_low : (expected : List (Option ℕ)) (slot b : ℕ) → expected_at expected slot ≡ Some b → slot < length expected
+expected_low expected slot b is = by (cases_lt slot (length expected))
   where
-    by : (slot < length wanted) ⊎ (length wanted ≤ slot) → slot < length wanted
+    by : (slot < length expected) ⊎ (length expected ≤ slot) → slot < length expected
     by (inl inside) = inside
-    by (inr past) = absurd (let none = get_or_past wanted slot None past in cc)
+    by (inr past) = absurd (let none = get_or_past expected slot None past in cc)
 
 -- one more record: its slot is its block's
-pub wanted_more : (records : List Record) (slots : ℕ) (wanted : List (Option ℕ)) (r : Record) → r.place < slots → AreWanted records slots wanted
-    → AreWanted (records ++ r ∷ []) slots (set wanted r.place (Some r.block))
-wanted_more records slots wanted r inside before = record {
-  many = length-set wanted r.place (Some r.block) ∙ before.many;
+pub expected_more : (records : List Record) (slots : ℕ) (expected : List (Option ℕ)) (r : Record) → r.place < slots → AreExpected records slots expected
+    → AreExpected (records ++ r ∷ []) slots (set expected r.place (Some r.block))
+expected_more records slots expected r inside before = record {
+  many = length-set expected r.place (Some r.block) ∙ before.many;
   each = λ slot. go slot (cases_eq slot r.place);
 }
   where
-    still : (slot : ℕ) → (slot ≡ r.place → ⊥) → (o : Option ℕ) → IsWanted records slot o → IsWanted (records ++ r ∷ []) slot o
+    still : (slot : ℕ) → (slot ≡ r.place → ⊥) → (o : Option ℕ) → IsExpected records slot o → IsExpected (records ++ r ∷ []) slot o
     still slot ne None none = λ q has e. other q e (Contains-push_cases records r q has)
       where
         other : (q : Record) → q.place ≡ slot → (Contains records q) ⊎ (r ≡ q) → ⊥
@@ -42,12 +42,12 @@ wanted_more records slots wanted r inside before = record {
         other q e (inr is) = ne (sym e ∙ ap (λ (x : Record). x.place) (sym is))
     still slot ne (Some b) some = (some.0, Contains-append_left records (r ∷ []) some.0 some.1, some.2, some.3)
 
-    go : (slot : ℕ) → (slot ≡ r.place) ⊎ (slot ≡ r.place → ⊥) → IsWanted (records ++ r ∷ []) slot (wanted_at (set wanted r.place (Some r.block)) slot)
+    go : (slot : ℕ) → (slot ≡ r.place) ⊎ (slot ≡ r.place → ⊥) → IsExpected (records ++ r ∷ []) slot (expected_at (set expected r.place (Some r.block)) slot)
     go slot (inl e) =
         let many = before.many in
-        let here : r.place < length wanted = omega (arith, many) in
-        rw (e, get_or-set_same wanted r.place (Some r.block) None here) (r, Contains-push records r, refl, refl)
-    go slot (inr ne) = rw (get_or-set_other wanted r.place slot (Some r.block) None ne) (still slot ne (wanted_at wanted slot) (before.each slot))
+        let here : r.place < length expected = omega (arith, many) in
+        rw (e, get_or-set_same expected r.place (Some r.block) None here) (r, Contains-push records r, refl, refl)
+    go slot (inr ne) = rw (get_or-set_other expected r.place slot (Some r.block) None ne) (still slot ne (expected_at expected slot) (before.each slot))
 
 -- one claim more
 abbrev pub one_at : ℕ → ℕ → ℕ
@@ -77,10 +77,10 @@ pub data IsSeat (was now : Option ℕ) (kept : Kept) : Type 0 where
   has : now ≡ None → kept ≡ kept_for was → IsSeat was now kept
 
 -- claims on their way into places: those that are left to place, those that are placed and the others are all
-pub record AreSeated {C : Type 0} (names : C → ℕ) (all : List C) (wanted : List (Option ℕ)) (left : List C) (now : List (Option ℕ)) (kept : List Kept) (others : List C) : Type 0 where
-  pub many : length now ≡ length wanted
+pub record AreSeated {C : Type 0} (names : C → ℕ) (all : List C) (expected : List (Option ℕ)) (left : List C) (now : List (Option ℕ)) (kept : List Kept) (others : List C) : Type 0 where
+  pub many : length now ≡ length expected
   pub room : length kept ≡ 65536
-  pub seats : (slot : ℕ) → IsSeat (wanted_at wanted slot) (wanted_at now slot) (get_or kept slot Nothing)
+  pub seats : (slot : ℕ) → IsSeat (expected_at expected slot) (expected_at now slot) (get_or kept slot Nothing)
   pub claimed : (slot : ℕ) → IsClaimed names left now slot
   pub shared : (slot : ℕ) → how_many names all slot ≡ how_many names left slot + (claims_in (get_or kept slot Nothing) + how_many names others slot)
 
@@ -89,11 +89,11 @@ seat_taken was b kept (waits e k) = (sym e, k)
 seat_taken was b kept (has e k) = absurd (cc)
 
 -- a claim whose slot is the wanted place of a block: it is seated there
-pub seated_more : {C : Type 0} (names : C → ℕ) (all : List C) (wanted : List (Option ℕ)) (left : List C) (claim : C) (now : List (Option ℕ)) (kept : List Kept) (others : List C) (b : ℕ)
-    → names claim < 65536 → wanted_at now (names claim) ≡ Some b
-    → AreSeated names all wanted (left ++ claim ∷ []) now kept others
-    → AreSeated names all wanted left (set now (names claim) None) (set kept (names claim) (Newest b)) others
-seated_more {C} names all wanted left claim now kept others b inside wants before = record {
+pub seated_more : {C : Type 0} (names : C → ℕ) (all : List C) (expected : List (Option ℕ)) (left : List C) (claim : C) (now : List (Option ℕ)) (kept : List Kept) (others : List C) (b : ℕ)
+    → names claim < 65536 → expected_at now (names claim) ≡ Some b
+    → AreSeated names all expected (left ++ claim ∷ []) now kept others
+    → AreSeated names all expected left (set now (names claim) None) (set kept (names claim) (Newest b)) others
+seated_more {C} names all expected left claim now kept others b inside needs before = record {
   many = length-set now here None ∙ before.many;
   room = length-set kept here (Newest b) ∙ before.room;
   seats = λ slot. seat slot (cases_eq slot here);
@@ -105,28 +105,28 @@ seated_more {C} names all wanted left claim now kept others b inside wants befor
     here = names claim
 
     in_now : here < length now
-    in_now = wanted_low now here b wants
+    in_now = expected_low now here b needs
 
     in_kept : here < length kept
     in_kept = let m = before.room in omega (arith, m, inside)
 
-    taken : (wanted_at wanted here ≡ Some b) × (get_or kept here Nothing ≡ Nothing)
-    taken = seat_taken (wanted_at wanted here) b (get_or kept here Nothing) (subst (λ o. IsSeat (wanted_at wanted here) o (get_or kept here Nothing)) wants (before.seats here))
+    taken : (expected_at expected here ≡ Some b) × (get_or kept here Nothing ≡ Nothing)
+    taken = seat_taken (expected_at expected here) b (get_or kept here Nothing) (subst (λ o. IsSeat (expected_at expected here) o (get_or kept here Nothing)) needs (before.seats here))
 
-    now_here : (slot : ℕ) → slot ≡ here → wanted_at (set now here None) slot ≡ None
-    now_here slot e = ap (wanted_at (set now here None)) e ∙ get_or-set_same now here None None in_now
+    now_here : (slot : ℕ) → slot ≡ here → expected_at (set now here None) slot ≡ None
+    now_here slot e = ap (expected_at (set now here None)) e ∙ get_or-set_same now here None None in_now
 
     kept_here : (slot : ℕ) → slot ≡ here → get_or (set kept here (Newest b)) slot Nothing ≡ Newest b
     kept_here slot e = ap (λ s. get_or (set kept here (Newest b)) s Nothing) e ∙ get_or-set_same kept here (Newest b) Nothing in_kept
 
-    now_else : (slot : ℕ) → (slot ≡ here → ⊥) → wanted_at (set now here None) slot ≡ wanted_at now slot
+    now_else : (slot : ℕ) → (slot ≡ here → ⊥) → expected_at (set now here None) slot ≡ expected_at now slot
     now_else slot ne = get_or-set_other now here slot None None ne
 
     kept_else : (slot : ℕ) → (slot ≡ here → ⊥) → get_or (set kept here (Newest b)) slot Nothing ≡ get_or kept slot Nothing
     kept_else slot ne = get_or-set_other kept here slot (Newest b) Nothing ne
 
-    seat : (slot : ℕ) → (slot ≡ here) ⊎ (slot ≡ here → ⊥) → IsSeat (wanted_at wanted slot) (wanted_at (set now here None) slot) (get_or (set kept here (Newest b)) slot Nothing)
-    seat slot (inl e) = has (now_here slot e) (kept_here slot e ∙ sym (ap kept_for (ap (wanted_at wanted) e ∙ taken.0)))
+    seat : (slot : ℕ) → (slot ≡ here) ⊎ (slot ≡ here → ⊥) → IsSeat (expected_at expected slot) (expected_at (set now here None) slot) (get_or (set kept here (Newest b)) slot Nothing)
+    seat slot (inl e) = has (now_here slot e) (kept_here slot e ∙ sym (ap kept_for (ap (expected_at expected) e ∙ taken.0)))
     seat slot (inr ne) = rw (now_else slot ne, kept_else slot ne) (before.seats slot)
 
     claimed : (slot : ℕ) → (slot ≡ here) ⊎ (slot ≡ here → ⊥) → IsClaimed names left (set now here None) slot
@@ -153,18 +153,18 @@ seated_more {C} names all wanted left claim now kept others b inside wants befor
         omega (arith, h, more, none, same)
 
 -- a claim whose slot is no wanted place is one of the others
-pub left_over : {C : Type 0} (names : C → ℕ) (all : List C) (wanted : List (Option ℕ)) (left : List C) (claim : C) (now : List (Option ℕ)) (kept : List Kept) (others : List C)
-    → wanted_at now (names claim) ≡ None
-    → AreSeated names all wanted (left ++ claim ∷ []) now kept others
-    → AreSeated names all wanted left now kept (others ++ claim ∷ [])
-left_over {C} names all wanted left claim now kept others none before = record {
+pub left_over : {C : Type 0} (names : C → ℕ) (all : List C) (expected : List (Option ℕ)) (left : List C) (claim : C) (now : List (Option ℕ)) (kept : List Kept) (others : List C)
+    → expected_at now (names claim) ≡ None
+    → AreSeated names all expected (left ++ claim ∷ []) now kept others
+    → AreSeated names all expected left now kept (others ++ claim ∷ [])
+left_over {C} names all expected left claim now kept others none before = record {
   many = before.many;
   room = before.room;
   seats = before.seats;
   claimed = λ slot c some.
       let h = before.claimed slot c some in
       let more = counted_more names left claim slot in
-      let zero_here = one_else (names claim) slot (λ e. absurd (let x = ap (wanted_at now) e in cc)) in
+      let zero_here = one_else (names claim) slot (λ e. absurd (let x = ap (expected_at now) e in cc)) in
       omega (arith, h, more, zero_here);
   shared = λ slot.
       let h = before.shared slot in
@@ -174,11 +174,11 @@ left_over {C} names all wanted left claim now kept others none before = record {
 }
 
 -- none is left: each place has what is wanted
-pub all_seated : {C : Type 0} (names : C → ℕ) (all : List C) (wanted now : List (Option ℕ)) (kept : List Kept) (others : List C)
-    → AreSeated names all wanted [] now kept others → (slot : ℕ) → get_or kept slot Nothing ≡ kept_for (wanted_at wanted slot)
-all_seated names all wanted now kept others end slot = go (wanted_at wanted slot) (wanted_at now slot) refl (end.seats slot)
+pub all_seated : {C : Type 0} (names : C → ℕ) (all : List C) (expected now : List (Option ℕ)) (kept : List Kept) (others : List C)
+    → AreSeated names all expected [] now kept others → (slot : ℕ) → get_or kept slot Nothing ≡ kept_for (expected_at expected slot)
+all_seated names all expected now kept others end slot = go (expected_at expected slot) (expected_at now slot) refl (end.seats slot)
   where
-    go : (was is : Option ℕ) → wanted_at now slot ≡ is → IsSeat was is (get_or kept slot Nothing) → get_or kept slot Nothing ≡ kept_for was
+    go : (was is : Option ℕ) → expected_at now slot ≡ is → IsSeat was is (get_or kept slot Nothing) → get_or kept slot Nothing ≡ kept_for was
     go was None at (waits e k) = k ∙ ap kept_for e
     go was (Some b) at (waits e k) = absurd (let h = end.claimed slot b at in omega (arith, h))
     go was is at (has e k) = k
@@ -191,7 +191,7 @@ pub record AreOut {C : Type 0} (names : C → ℕ) (all left : List (SlotState C
   pub out : (slot : ℕ) → slot < length left → how_many names claims slot ≡ 0
   pub rest : (slot : ℕ) → length left ≤ slot → how_many names claims slot ≡ claims_in (get_or (kepts_of all) slot Nothing)
 
-out_less : {C : Type 0} (names : C → ℕ) (left : List (SlotState C)) (p : SlotState C) → AreOf names (left ++ p ∷ []) → AreOf names left × IsOf names (length left) p
+out_less : {C : Type 0} (names : C → ℕ) (left : List (SlotState C)) (p : SlotState C) → AreOf names (left ++ p ∷ []) → AreOf names left × IsClaimOf names (length left) p
 out_less {C} names left p of = (front, back)
   where
     long : length (left ++ p ∷ []) ≡ length left + 1
@@ -200,7 +200,7 @@ out_less {C} names left p of = (front, back)
     front : AreOf names left
     front slot inside = rw (sym (get_or-append left (p ∷ []) state.Free slot inside)) (of slot (omega (arith, long, inside)))
 
-    back : IsOf names (length left) p
+    back : IsClaimOf names (length left) p
     back = rw (sym (get_or-append_seam left p [] state.Free)) (of (length left) (omega (arith, long)))
 
 -- the last of the places left is done: whether it had a claim, and the claims that are out then
@@ -283,15 +283,15 @@ none_out {C} names all [] none of = record {
 }
 
 -- the claim's place among those that are left, of places from the last on
-pub last_of : {C : Type 0} (names : C → ℕ) (all left : List (SlotState C)) (p : SlotState C) (claims : List C) → AreOut names all (left ++ p ∷ []) claims → IsOf names (length left) p
+pub last_of : {C : Type 0} (names : C → ℕ) (all left : List (SlotState C)) (p : SlotState C) (claims : List C) → AreOut names all (left ++ p ∷ []) claims → IsClaimOf names (length left) p
 last_of names all left p claims before = (out_less names left p before.of).1
 
 -- before the first claim, all are left
-pub none_seated : {C : Type 0} (names : C → ℕ) (all : List C) (wanted : List (Option ℕ)) (kept : List Kept) (others : List C)
-    → length kept ≡ 65536 → ((slot : ℕ) → get_or kept slot Nothing ≡ Nothing) → ((slot : ℕ) → IsClaimed names all wanted slot) → length others ≡ 0
-    → AreSeated names all wanted all wanted kept others
-none_seated names all wanted kept (c ∷ others) room free claimed none = absurd (omega (arith, none))
-none_seated names all wanted kept [] room free claimed none = record {
+pub none_seated : {C : Type 0} (names : C → ℕ) (all : List C) (expected : List (Option ℕ)) (kept : List Kept) (others : List C)
+    → length kept ≡ 65536 → ((slot : ℕ) → get_or kept slot Nothing ≡ Nothing) → ((slot : ℕ) → IsClaimed names all expected slot) → length others ≡ 0
+    → AreSeated names all expected all expected kept others
+none_seated names all expected kept (c ∷ others) room free claimed none = absurd (omega (arith, none))
+none_seated names all expected kept [] room free claimed none = record {
   many = refl;
   room = room;
   seats = λ slot. waits refl (free slot);
@@ -300,33 +300,33 @@ none_seated names all wanted kept [] room free claimed none = record {
 }
 
 -- no claim is left
-pub seats_end : {C : Type 0} (names : C → ℕ) (all : List C) (wanted : List (Option ℕ)) (left : List C) (now : List (Option ℕ)) (kept : List Kept) (others : List C)
-    → length left ≡ 0 → AreSeated names all wanted left now kept others → AreSeated names all wanted [] now kept others
-seats_end names all wanted [] now kept others none seated = seated
-seats_end names all wanted (c ∷ left) now kept others none seated = absurd (omega (arith, none))
+pub seats_end : {C : Type 0} (names : C → ℕ) (all : List C) (expected : List (Option ℕ)) (left : List C) (now : List (Option ℕ)) (kept : List Kept) (others : List C)
+    → length left ≡ 0 → AreSeated names all expected left now kept others → AreSeated names all expected [] now kept others
+seats_end names all expected [] now kept others none seated = seated
+seats_end names all expected (c ∷ left) now kept others none seated = absurd (omega (arith, none))
 
 -- what was done with a claim, by whether it was returned
 pub record IsSeated {C : Type 0} (here : ℕ) (claim : C) (result : Option C) (now later : List (Option ℕ)) (kept after : List Kept) : Type 0 where
-  pub seated : (b : ℕ) → wanted_at now here ≡ Some b → (result ≡ None) × (later ≡ set now here None) × (after ≡ set kept here (Newest b))
-  pub left : wanted_at now here ≡ None → (result ≡ Some claim) × (later ≡ now) × (after ≡ kept)
+  pub seated : (b : ℕ) → expected_at now here ≡ Some b → (result ≡ None) × (later ≡ set now here None) × (after ≡ set kept here (Newest b))
+  pub left : expected_at now here ≡ None → (result ≡ Some claim) × (later ≡ now) × (after ≡ kept)
 
-pub seated_one : {C : Type 0} (names : C → ℕ) (all : List C) (wanted : List (Option ℕ)) (left : List C) (claim : C) (now later : List (Option ℕ)) (kept after : List Kept) (others : List C)
+pub seated_one : {C : Type 0} (names : C → ℕ) (all : List C) (expected : List (Option ℕ)) (left : List C) (claim : C) (now later : List (Option ℕ)) (kept after : List Kept) (others : List C)
     → names claim < 65536 → IsSeated (names claim) claim None now later kept after
-    → AreSeated names all wanted (left ++ claim ∷ []) now kept others → AreSeated names all wanted left later after others
-seated_one {C} names all wanted left claim now later kept after others inside done before = go (wanted_at now (names claim)) refl
+    → AreSeated names all expected (left ++ claim ∷ []) now kept others → AreSeated names all expected left later after others
+seated_one {C} names all expected left claim now later kept after others inside done before = go (expected_at now (names claim)) refl
   where
-    go : (o : Option ℕ) → wanted_at now (names claim) ≡ o → AreSeated names all wanted left later after others
+    go : (o : Option ℕ) → expected_at now (names claim) ≡ o → AreSeated names all expected left later after others
     go None at = absurd (let e = (done.left at).0 in cc)
-    go (Some b) at = let d = done.seated b at in rw (d.1, d.2) (seated_more names all wanted left claim now kept others b inside at before)
+    go (Some b) at = let d = done.seated b at in rw (d.1, d.2) (seated_more names all expected left claim now kept others b inside at before)
 
-pub left_one : {C : Type 0} (names : C → ℕ) (all : List C) (wanted : List (Option ℕ)) (left : List C) (claim other : C) (now later : List (Option ℕ)) (kept after : List Kept) (others : List C)
+pub left_one : {C : Type 0} (names : C → ℕ) (all : List C) (expected : List (Option ℕ)) (left : List C) (claim other : C) (now later : List (Option ℕ)) (kept after : List Kept) (others : List C)
     → IsSeated (names claim) claim (Some other) now later kept after
-    → AreSeated names all wanted (left ++ claim ∷ []) now kept others → AreSeated names all wanted left later after (others ++ other ∷ [])
-left_one {C} names all wanted left claim other now later kept after others done before = go (wanted_at now (names claim)) refl
+    → AreSeated names all expected (left ++ claim ∷ []) now kept others → AreSeated names all expected left later after (others ++ other ∷ [])
+left_one {C} names all expected left claim other now later kept after others done before = go (expected_at now (names claim)) refl
   where
-    go : (o : Option ℕ) → wanted_at now (names claim) ≡ o → AreSeated names all wanted left later after (others ++ other ∷ [])
+    go : (o : Option ℕ) → expected_at now (names claim) ≡ o → AreSeated names all expected left later after (others ++ other ∷ [])
     go (Some b) at = absurd (let e = (done.seated b at).0 in cc)
-    go None at = let d = done.left at in rw (same_Some _ _ d.0, d.1, d.2) (left_over names all wanted left claim now kept others at before)
+    go None at = let d = done.left at in rw (same_Some _ _ d.0, d.1, d.2) (left_over names all expected left claim now kept others at before)
 
 -- marks of those of the first `slots` slots that have a claim
 pub record AreMarked {C : Type 0} (names : C → ℕ) (claims : List C) (slots : ℕ) (marks : List Bool) : Type 0 where
@@ -362,13 +362,13 @@ marked_more {C} names claims slots marks claim before = record {
         get_or-set_other marks (names claim) slot true true ne ∙ before.each slot low ∙ ap (nat_lt 0) (omega (arith, m, none))
 
 -- no slot is wanted by no record
-pub none_wanted : (slots : ℕ) (wanted : List (Option ℕ)) → wanted ≡ replicate slots None → AreWanted [] slots wanted
-none_wanted slots wanted same = record {
+pub none_expected : (slots : ℕ) (expected : List (Option ℕ)) → expected ≡ replicate slots None → AreExpected [] slots expected
+none_expected slots expected same = record {
   many = ap length same ∙ length-replicate slots None;
-  each = λ slot. rw (ap (λ w. wanted_at w slot) same ∙ replicated slots slot) (λ r has e. absurd (let h = has.1 in omega (arith, h)));
+  each = λ slot. rw (ap (λ w. expected_at w slot) same ∙ replicated slots slot) (λ r has e. absurd (let h = has.1 in omega (arith, h)));
 }
   where
-    replicated : (n slot : ℕ) → wanted_at (replicate n None) slot ≡ None
+    replicated : (n slot : ℕ) → expected_at (replicate n None) slot ≡ None
     replicated zero zero = refl
     replicated zero (suc slot) = refl
     replicated (suc n) zero = refl
@@ -386,11 +386,11 @@ pub place_low : (records : List Record) (index slots : ℕ) (d : Record) (here :
 place_low records index slots d here inside is all = rw is (all (get_or records index d) (Contains-get_or records index d inside))
 
 -- the next record of a list, and the next claim
-pub wanted_next : (records : List Record) (index slots : ℕ) (wanted : List (Option ℕ)) (d : Record) (here : ℕ) → index < length records
-    → here ≡ (get_or records index d).place → LieBelow slots records → AreWanted (take index records) slots wanted
-    → AreWanted (take (index + 1) records) slots (set wanted here (Some (get_or records index d).block))
-wanted_next records index slots wanted d here inside is all before =
-    rw (take_next records index d inside, is) (wanted_more (take index records) slots wanted (get_or records index d) (all (get_or records index d) (Contains-get_or records index d inside)) before)
+pub expected_next : (records : List Record) (index slots : ℕ) (expected : List (Option ℕ)) (d : Record) (here : ℕ) → index < length records
+    → here ≡ (get_or records index d).place → LieBelow slots records → AreExpected (take index records) slots expected
+    → AreExpected (take (index + 1) records) slots (set expected here (Some (get_or records index d).block))
+expected_next records index slots expected d here inside is all before =
+    rw (take_next records index d inside, is) (expected_more (take index records) slots expected (get_or records index d) (all (get_or records index d) (Contains-get_or records index d inside)) before)
 
 pub marked_next : {C : Type 0} (names : C → ℕ) (claims : List C) (index slots : ℕ) (marks : List Bool) (claim : C) (here : ℕ) → index < length claims
     → claim ≡ get_or claims index claim → here ≡ names claim → AreMarked names (take index claims) slots marks

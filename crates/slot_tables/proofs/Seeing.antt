@@ -10,12 +10,12 @@ use Rattle.flat_machine.specs.declared.refusal.Refusal.{Refusal}
 use Rattle.flat_machine.specs.declared.refusal.Refusal.TheVariants.{Ahead}
 use Rattle.flat_machine.specs.Flat.{Flat, Stored}
 use Rattle.flat_machine.specs.Steps.{ReadAt, Seen, FoundAt, Refused}
-use Rattle.flat_machine.specs.Cases.{ReadAtCase, IsSeen, IsAhead, IsBehind, IsWanted, IsGoneIn}
+use Rattle.flat_machine.specs.Cases.{ReadAtCase, IsSeen, IsAhead, IsNotAhead, IsAllocating, IsGoneIn}
 use Rattle.slot_tables.specs.Changes.{MayRefuse}
 use Rattle.slot_tables.specs.Reads.{WasNotRead, WasSeen}
 use Rattle.slot_tables.specs.Views.{ArrayView, with_parts, key_at}
 use Rattle.slot_tables.specs.Represents.{ShowsArray}
-use Rattle.slot_tables.proofs.Newest.{newest_told, newest_is}
+use Rattle.slot_tables.proofs.Newest.{newest_reported, newest_is}
 use Rattle.slot_tables.proofs.Fares.{fared, itself, gone_as, gone_back, lost_shows, lost_leaves}
 use Rattle.slot_tables.proofs.Fills.{class_seen}
 
@@ -24,10 +24,10 @@ pub ahead_case : (W : Type 0) (a : ArrayView) (F : Flat) (r : Record) (q : Refus
     → IsAhead r (record_at r.block (key_at a r.block))
     → MayRefuse q W ((G : Flat) × ReadAtCase F r (Refused q) G × ShowsArray a G)
 ahead_case W a F r q shows is ahead =
-    subst (λ p. MayRefuse p W ((G : Flat) × ReadAtCase F r (Refused p) G × ShowsArray a G)) (sym is) (F, (newest_told a F r.block shows, ahead, itself F), shows)
+    subst (λ p. MayRefuse p W ((G : Flat) × ReadAtCase F r (Refused p) G × ShowsArray a G)) (sym is) (F, (newest_reported a F r.block shows, ahead, itself F), shows)
 
-behind : (a : ArrayView) (F : Flat) (r n : Record) → ShowsArray a F → record_at r.block (key_at a r.block) ≡ Some n → key_of r ≤ key_of n → IsBehind F r
-behind a F r n shows found most = (n, newest_is a F r.block (Some n) shows found, most)
+following : (a : ArrayView) (F : Flat) (r n : Record) → ShowsArray a F → record_at r.block (key_at a r.block) ≡ Some n → key_of r ≤ key_of n → IsNotAhead F r
+following a F r n shows found most = (n, newest_is a F r.block (Some n) shows found, most)
 
 no_unit : (unit : Option Stored) → is_some unit ≡ false → unit ≡ None
 no_unit None e = refl
@@ -51,7 +51,7 @@ pub seen_case : (a b : ArrayView) (F : Flat) (r n : Record) (seen : Seen) → Sh
 seen_case a b F r n seen shows found most rest (inl none) =
     let unit : F.units r.place ≡ None = no_unit (F.units r.place) ((shows.history.units r.place).there ∙ ap is_some (class_seen a F r.place shows ∙ none.0)) in (
       F,
-      (behind a F r n shows found most, not_gone, subst (λ o. IsSeen o r seen) (sym unit) (subst (IsSeen None r) (sym none.1) refl), itself F),
+      (following a F r n shows found most, not_gone, subst (λ o. IsSeen o r seen) (sym unit) (subst (IsSeen None r) (sym none.1) refl), itself F),
       subst (λ (v : ArrayView). ShowsArray v F) (sym none.2) shows,
     )
   where
@@ -61,7 +61,7 @@ seen_case a b F r n seen shows found most rest (inr saw) =
     let u = saw.unit F.units shows.units in (
       fared F b.parts,
       (
-        behind a F r n shows found most,
+        following a F r n shows found most,
         (λ gone. saw.there (gone_back F a.parts b.parts r.place shows.tables.groups saw.loses.rest gone)),
         subst (λ o. IsSeen o r seen) (sym u.1) u.2,
         lost_leaves a F b.parts shows saw.loses,
@@ -71,14 +71,14 @@ seen_case a b F r n seen shows found most rest (inr saw) =
 
 -- or the place is lost, or an allocation failed
 pub unseen_case : (a b : ArrayView) (F : Flat) (r n : Record) (q : Refusal) → ShowsArray a F → record_at r.block (key_at a r.block) ≡ Some n → key_of r ≤ key_of n
-    → b ≡ with_parts a b.parts → WasNotRead a b r.place q → MayRefuse q (IsWanted F (ReadAt r)) ((G : Flat) × ReadAtCase F r (Refused q) G × ShowsArray b G)
+    → b ≡ with_parts a b.parts → WasNotRead a b r.place q → MayRefuse q (IsAllocating F (ReadAt r)) ((G : Flat) × ReadAtCase F r (Refused q) G × ShowsArray b G)
 unseen_case a b F r n q shows found most rest (inl want) =
-    subst (λ p. MayRefuse p (IsWanted F (ReadAt r)) ((G : Flat) × ReadAtCase F r (Refused p) G × ShowsArray b G)) (sym want.0) (behind a F r n shows found most)
+    subst (λ p. MayRefuse p (IsAllocating F (ReadAt r)) ((G : Flat) × ReadAtCase F r (Refused p) G × ShowsArray b G)) (sym want.0) (following a F r n shows found most)
 unseen_case a b F r n q shows found most rest (inr gone) =
-    subst (λ p. MayRefuse p (IsWanted F (ReadAt r)) ((G : Flat) × ReadAtCase F r (Refused p) G × ShowsArray b G)) (sym gone.told) (
+    subst (λ p. MayRefuse p (IsAllocating F (ReadAt r)) ((G : Flat) × ReadAtCase F r (Refused p) G × ShowsArray b G)) (sym gone.reported) (
       fared F b.parts,
       (
-        behind a F r n shows found most,
+        following a F r n shows found most,
         refl,
         gone_as F a.parts b.parts r.place shows.tables.groups gone.loses.rest gone.gone,
         lost_leaves a F b.parts shows gone.loses,

@@ -11,7 +11,7 @@ use Rattle.slot_tables.specs.Represents.{is_claim}
 use Rattle.slot_tables.specs.Views.{Kept, Nothing, Pending, Moving, Newest, Unmade, ArrayView, hand_at, is_kept, kept_at}
 use Rattle.slot_tables.specs.Claims.{how_many}
 use Rattle.slot_tables.specs.Counted.{is_newest, AreCounts}
-use Rattle.slot_tables.specs.Shut.{one_of, count_in, shut_of, closed_of, CanUnmake, IsGiven, IsFirstNotHeld}
+use Rattle.slot_tables.specs.Shut.{one_of, slots_in_group, shut_of, closed_of, CanUnmake, IsGiven, IsFirstNotHeld}
 use Rattle.slot_tables.proofs.Counts.{counts_alike}
 use Rattle.slot_tables.proofs.Seated.{one_at, counted_more, one_here, one_else, take_next}
 
@@ -339,11 +339,11 @@ given_of {C} names a g count i claims marks low each marked free = (above (how_m
 
 -- the places of a dissolved group's slots are closed
 pub closed_number : {C : Type 0} (names : C → ℕ) (a : ArrayView) (g : ℕ) (claims : List C) (old new : List Kept) → CanUnmake names a g claims → length new ≡ length old
-    → ((slot : ℕ) → get_or new slot Nothing ≡ closed_of (how_many names claims slot) (get_or old slot Nothing)) → IsClosed g (count_in a g) old new
+    → ((slot : ℕ) → get_or new slot Nothing ≡ closed_of (how_many names claims slot) (get_or old slot Nothing)) → IsClosed g (slots_in_group a g) old new
 closed_number {C} names a g claims old new can many closed = record {
   many = many;
-  here = λ slot e low. closed slot ∙ ap (λ n. closed_of n (get_or old slot Nothing)) (can.all slot ∙ one_first g (count_in a g) slot (first_of g (count_in a g) slot e low));
-  rest = λ slot off. closed slot ∙ ap (λ n. closed_of n (get_or old slot Nothing)) (can.all slot ∙ ap (λ b. cond b 1 0) (not_first g (count_in a g) slot off));
+  here = λ slot e low. closed slot ∙ ap (λ n. closed_of n (get_or old slot Nothing)) (can.all slot ∙ one_first g (slots_in_group a g) slot (first_of g (slots_in_group a g) slot e low));
+  rest = λ slot off. closed slot ∙ ap (λ n. closed_of n (get_or old slot Nothing)) (can.all slot ∙ ap (λ b. cond b 1 0) (not_first g (slots_in_group a g) slot off));
 }
 
 pub first_not_held : (hands : List Hand) (w g i count : ℕ) → i < 128 → i < count → ((slot : ℕ) → is_first g i slot ≡ true → is_claim (hand_at hands slot) w ≡ true)
@@ -356,16 +356,16 @@ first_not_held hands w g i count low inside before none = record {
 
 -- of each slot there is at most one claim, and the array keeps nothing of those of which there is one
 pub at_most_one : {C : Type 0} (names : C → ℕ) (a : ArrayView) (g : ℕ) (claims : List C) → CanUnmake names a g claims → (slot : ℕ) → how_many names claims slot ≤ 1
-at_most_one names a g claims can slot = let all = can.all slot in let most = most_one g (count_in a g) slot in omega (arith, all, most)
+at_most_one names a g claims can slot = let all = can.all slot in let most = most_one g (slots_in_group a g) slot in omega (arith, all, most)
 
-pub free_kept : {C : Type 0} (names : C → ℕ) (a : ArrayView) (g : ℕ) (claims : List C) → CanUnmake names a g claims → (slot : ℕ) → slot / 128 ≡ g → slot % 128 < count_in a g → kept_at a slot ≡ Nothing
-free_kept names a g claims can slot e low = can.free slot (let one = one_first g (count_in a g) slot (first_of g (count_in a g) slot e low) in omega (arith, one))
+pub free_kept : {C : Type 0} (names : C → ℕ) (a : ArrayView) (g : ℕ) (claims : List C) → CanUnmake names a g claims → (slot : ℕ) → slot / 128 ≡ g → slot % 128 < slots_in_group a g → kept_at a slot ≡ Nothing
+free_kept names a g claims can slot e low = can.free slot (let one = one_first g (slots_in_group a g) slot (first_of g (slots_in_group a g) slot e low) in omega (arith, one))
 
 -- no newest place is among the slots of which claims were taken in
 pub counts_closed : {C : Type 0} (names : C → ℕ) (a : ArrayView) (g : ℕ) (claims : List C) (new : List Kept) (live : List ℕ) → CanUnmake names a g claims
     → ((slot : ℕ) → get_or new slot Nothing ≡ closed_of (how_many names claims slot) (kept_at a slot)) → AreCounts a.kept live → AreCounts new live
 counts_closed {C} names a g claims new live can closed are = counts_alike a.kept new live (λ slot. ap is_newest (closed slot) ∙ go slot (how_many names claims slot) (can.all slot)) are
   where
-    go : (slot n : ℕ) → n ≡ one_of g (count_in a g) slot → is_newest (closed_of n (kept_at a slot)) ≡ is_newest (kept_at a slot)
+    go : (slot n : ℕ) → n ≡ one_of g (slots_in_group a g) slot → is_newest (closed_of n (kept_at a slot)) ≡ is_newest (kept_at a slot)
     go slot zero e = refl
     go slot (suc n) e = sym (ap is_newest (can.free slot (omega (arith, e))))

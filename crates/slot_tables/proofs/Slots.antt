@@ -2,11 +2,11 @@
 use Rattle.std.proofs.Common.{◌≡◌, ℕ, Bool, true, false, refl, sym, ap, ◌∙◌, subst, ◌⊎◌, inl, inr, Option, None}
 use Rattle.std.proofs.lemmas.Bool.{cases_eq}
 use Rattle.map_join.specs.Maps.{IsMapOf}
-use Rattle.array_parts.specs.Views.{Shows}
+use Rattle.unit_store.specs.Views.{Shows}
 use Rattle.flat_machine.specs.Flat.{Flat, Holder, Worker, Ticket, Block, Shut, Waiting, IsArrays, for_block, for_shut}
 use Rattle.flat_machine.specs.Steps.{FlatStep, FlatAnswer}
 use Rattle.flat_machine.specs.Cases.{Case}
-use Rattle.flat_machine.specs.History.{IsStep}
+use Rattle.flat_machine.specs.History.{IsValidStep}
 use Rattle.flat_machine.proofs.Keeps.{step_keeps}
 use Rattle.flat_machine.proofs.Pairs.{flip, IsJust, Any}
 use Rattle.slot_tables.specs.declared.hand.Hand.TheVariants.{Empty, Holds, Waits}
@@ -66,7 +66,7 @@ one_slot P s here rest t = go (cases_eq t s)
     go (inr ne) = rest t ne
 
 -- an array after a step represents the state after it, where its tables and its map are that state's
-pub shows_after : (a b : ArrayView) (F G : Flat) (step : FlatStep) (answer : FlatAnswer) → ShowsArray a F → IsStep F.groups step → Case F step answer G
+pub shows_after : (a b : ArrayView) (F G : Flat) (step : FlatStep) (answer : FlatAnswer) → ShowsArray a F → IsValidStep F.groups step → Case F step answer G
     → IsMapOf G.emitted (key_at b) → Shows b.parts G.units → InTables b G → ShowsArray b G
 shows_after a b F G step answer shows fits case map units tables =
     record { history = step_keeps F G (key_at a) (key_at b) step answer shows.history fits case map; units = units; tables = tables }

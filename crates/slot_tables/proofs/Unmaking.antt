@@ -8,10 +8,10 @@ use Rattle.extent_groups.specs.Groups.{Groups, group_at, members_of, slots_in, w
 use Rattle.extent_groups.specs.Stores.{AreDrives}
 use Rattle.extent_groups.proofs.GroupsLemmas.{group_same, group_other}
 use Rattle.extent_groups.proofs.Readiness.{rows_given, extents_given}
-use Rattle.array_parts.specs.Slots.{IsSlot}
-use Rattle.array_parts.specs.Views.{PartsView, WasTaken, drive_units, drive_lost, drive_failures}
+use Rattle.unit_store.specs.Slots.{IsSlot}
+use Rattle.unit_store.specs.Views.{PartsView, WasTaken, drive_units, drive_lost, drive_failures}
 use Rattle.extent_groups.specs.Missing.{missing_of}
-use Rattle.array_parts.specs.Losses.{failures_of}
+use Rattle.unit_store.specs.Losses.{failures_by_drive}
 use Rattle.flat_machine.specs.Groups.{GroupsStand, class_at, class_below}
 use Rattle.flat_machine.specs.Flat.{Flat, Holder, Worker, Block, Shut, IsArrays, for_block, for_shut}
 use Rattle.flat_machine.specs.Moves.{IsIn, HasClaim, unmade}
@@ -151,7 +151,7 @@ module _ (a : ArrayView) (v : PartsView) (kept : List Kept) (g : ℕ) (whole : I
       groups = ap (λ (z : Groups). with_group z g None) shows.tables.groups ∙ sym e.groups;
       drives = shows.tables.drives ∙ sym many;
       lost = shows.tables.lost ∙ ap (missing_of drive_lost) (sym e.drives);
-      failures = shows.tables.failures ∙ ap (failures_of drive_failures) (sym e.drives);
+      failures = shows.tables.failures ∙ ap (failures_by_drive drive_failures) (sym e.drives);
       log = shows.tables.log;
       slots = slots;
     }

@@ -4,9 +4,9 @@ use Rattle.std.proofs.lemmas.Bool.Decides.{nat_tests}
 use Rattle.extents.specs.Owners.{Owners}
 use Rattle.extent_groups.specs.Geometry.{slot_count}
 use Rattle.extent_groups.specs.Groups.{Group, Groups, group_at, slots_in, Agree}
-use Rattle.array_parts.specs.Slots.{IsSlot}
+use Rattle.unit_store.specs.Slots.{IsSlot}
 use Rattle.extent_groups.specs.Stores.{AreDrives}
-use Rattle.array_parts.specs.Views.{PartsView, SameTables, drive_units}
+use Rattle.unit_store.specs.Views.{PartsView, SameTables, drive_units}
 use Rattle.flat_machine.specs.Groups.{GroupsStand, class_below, class_at}
 use Rattle.slot_tables.specs.Views.{ArrayView, with_parts, IsWhole}
 

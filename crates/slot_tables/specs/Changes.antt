@@ -13,13 +13,13 @@ use Rattle.slot_tables.specs.declared.hand.Hand.TheVariants.{Empty, Holds}
 use Rattle.flat_machine.specs.Groups.{class_at}
 use Rattle.flat_machine.specs.Flat.{or_else}
 use Rattle.flat_machine.specs.Cases.{next_version, last_version, last_hop, longest_log}
-use Rattle.array_parts.specs.Views.{PartsView}
+use Rattle.unit_store.specs.Views.{PartsView}
 use Rattle.slot_tables.specs.Views.{Kept, Nothing, Pending, Moving, Newest, Unmade, ArrayView, kept_at}
 
--- for the refusal Memory: `wanted`, that all tests before an allocation pass; for any other refusal: the case p
+-- for the refusal Memory: `expected`, that all tests before an allocation pass; for any other refusal: the case p
 abbrev pub MayRefuse : Refusal → Type 0 → Type 0 → Type 0
-MayRefuse Memory wanted p = wanted
-MayRefuse _ wanted p = p
+MayRefuse Memory expected p = expected
+MayRefuse _ expected p = p
 
 -- the array after a slot was made to wait
 abbrev pub wait_view : ArrayView → ℕ → Kept → ArrayView
@@ -78,16 +78,16 @@ abbrev pub discard_view : ArrayView → ℕ → ArrayView
 discard_view a slot = record a { kept = slice_set a.kept slot Nothing }
 
 -- what is kept, without the old place of a block
-abbrev pub passed : List Kept → Option Record → List Kept
-passed kept None = kept
-passed kept (Some old) = slice_set kept old.place Nothing
+abbrev pub without_old : List Kept → Option Record → List Kept
+without_old kept None = kept
+without_old kept (Some old) = slice_set kept old.place Nothing
 
 -- the array after a commit that emits the record
 abbrev pub commit_view : ArrayView → ℕ → ℕ → Option Record → Record → ArrayView
 commit_view a slot block found r = record a {
   log = a.log ++ r ∷ [];
   keys = slice_set a.keys block (key_of r);
-  kept = slice_set (passed a.kept found) slot (Newest block);
+  kept = slice_set (without_old a.kept found) slot (Newest block);
 }
 
 -- why what is kept of a slot can't be committed to a block, given the newest record of the block: last of all the log is full

@@ -40,22 +40,22 @@ pub record IsUnclaimed {C : Type 0} (names : C → ℕ) (claims : List C) (M : �
   pub lowest : (b : ℕ) → 0 < M b → (record_of b (M b)).place < slot → 0 < how_many names claims (record_of b (M b)).place
 
 -- the block whose place the slot is in a list of records; none if it is no record's place
-abbrev pub IsWanted : List Record → ℕ → Option ℕ → Type 0
-IsWanted records slot None = (r : Record) → Contains records r → r.place ≡ slot → ⊥
-IsWanted records slot (Some b) = (r : Record) × Contains records r × (r.block ≡ b) × (r.place ≡ slot)
+abbrev pub IsExpected : List Record → ℕ → Option ℕ → Type 0
+IsExpected records slot None = (r : Record) → Contains records r → r.place ≡ slot → ⊥
+IsExpected records slot (Some b) = (r : Record) × Contains records r × (r.block ≡ b) × (r.place ≡ slot)
 
 -- the block that a table has for a slot: none past its end
-abbrev pub wanted_at : List (Option ℕ) → ℕ → Option ℕ
-wanted_at wanted slot = slice_index_or wanted slot None
+abbrev pub expected_at : List (Option ℕ) → ℕ → Option ℕ
+expected_at expected slot = slice_index_or expected slot None
 
 -- each record's place is one of the first `slots` slots
 abbrev pub LieBelow : ℕ → List Record → Type 0
 LieBelow slots records = (r : Record) → Contains records r → r.place < slots
 
 -- a table for the first `slots` slots; no slot past them is wanted
-pub record AreWanted (records : List Record) (slots : ℕ) (wanted : List (Option ℕ)) : Type 0 where
-  pub many : length wanted ≡ slots
-  pub each : (slot : ℕ) → IsWanted records slot (wanted_at wanted slot)
+pub record AreExpected (records : List Record) (slots : ℕ) (expected : List (Option ℕ)) : Type 0 where
+  pub many : length expected ≡ slots
+  pub each : (slot : ℕ) → IsExpected records slot (expected_at expected slot)
 
 -- what is kept of a slot that a block wants
 abbrev pub kept_for : Option ℕ → Kept
@@ -64,13 +64,13 @@ kept_for (Some b) = Newest b
 
 -- each slot that is wanted has a claim; the lowest slot that has none
 abbrev pub IsClaimed : {C : Type 0} → (C → ℕ) → List C → List (Option ℕ) → ℕ → Type 0
-IsClaimed names claims wanted slot = (b : ℕ) → wanted_at wanted slot ≡ Some b → 0 < how_many names claims slot
+IsClaimed names claims expected slot = (b : ℕ) → expected_at expected slot ≡ Some b → 0 < how_many names claims slot
 
-pub record IsLowestUnclaimed {C : Type 0} (names : C → ℕ) (claims : List C) (wanted : List (Option ℕ)) (slot : ℕ) : Type 0 where
+pub record IsLowestUnclaimed {C : Type 0} (names : C → ℕ) (claims : List C) (expected : List (Option ℕ)) (slot : ℕ) : Type 0 where
   pub block : ℕ
-  pub wants : wanted_at wanted slot ≡ Some block
+  pub needs : expected_at expected slot ≡ Some block
   pub none : how_many names claims slot ≡ 0
-  pub lowest : (s : ℕ) → s < slot → IsClaimed names claims wanted s
+  pub lowest : (s : ℕ) → s < slot → IsClaimed names claims expected s
 
 -- the claims are those of the map's places, one of each
 pub record AreOfPlaces {C : Type 0} (names : C → ℕ) (M : ℕ → ℕ) (claims : List C) : Type 0 where
@@ -86,7 +86,7 @@ pub record IsKey (key : ℕ) : Type 0 where
 pub record AreKeys (blocks : ℕ) (M : ℕ → ℕ) (keys : List ℕ) : Type 0 where
   pub many : length keys ≡ blocks
   pub same : (b : ℕ) → b < blocks → slice_index keys b ≡ M b
-  pub told : (b : ℕ) → b < blocks → IsKey (M b)
+  pub reported : (b : ℕ) → b < blocks → IsKey (M b)
 
 -- `slots` places that are free, and room for `count` claims
 pub record HasRoom {C : Type 0} (slots count : ℕ) (room : Room C) : Type 0 where
@@ -110,18 +110,18 @@ IsNotRestarted {C} names a M (NoClaim slot) = (claims : List C) × AreClaimsOf n
 -- and of places are as short as the groups allow.
 pub record AreReady {C : Type 0} (names : C → ℕ) (groups : Groups) (M : ℕ → ℕ) (claims : List C) (ready : Ready C) : Type 0 where
   pub log : IsListOf M ready.log.items
-  pub wanted : AreWanted ready.log.items (vec_len ready.room.places) ready.wanted.items
-  pub claimed : (slot : ℕ) → IsClaimed names claims ready.wanted.items slot
+  pub expected : AreExpected ready.log.items (vec_len ready.room.places) ready.expected.items
+  pub claimed : (slot : ℕ) → IsClaimed names claims ready.expected.items slot
   pub keys : AreKeys groups.blocks M ready.keys.items
   pub room : HasRoom (vec_len ready.room.places) (length claims) ready.room
   pub places : HavePlaces groups (vec_len ready.room.places)
   pub fewest : (n : ℕ) → HavePlaces groups n → vec_len ready.room.places ≤ n
 
 -- no worker holds a slot, or has a ticket of one
-abbrev pub IsIdle : Flat → Type 0
-IsIdle F = (s w : ℕ) → (F.held s (Worker w) ≡ false) × (F.held s (Ticket w) ≡ false)
+abbrev pub IsWorkerFree : Flat → Type 0
+IsWorkerFree F = (s w : ℕ) → (F.held s (Worker w) ≡ false) × (F.held s (Ticket w) ≡ false)
 
 -- the world represents the state F restarted with this map
 pub record WasRestarted (F : Flat) (M : ℕ → ℕ) (w : WorldView) : Type 0 where
   pub log : IsListOf M w.array.log
-  pub stands : Represents w (restarted F M w.array.log)
+  pub matches : Represents w (restarted F M w.array.log)

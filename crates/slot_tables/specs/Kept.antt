@@ -14,16 +14,16 @@ kept_of (state.Newest block claim) = Newest block
 kept_of (state.Unmade claim) = Unmade
 
 -- the claim of a place, if it has one, is of that slot
-abbrev pub IsOf : {C : Type 0} → (C → ℕ) → ℕ → SlotState C → Type 0
-IsOf names slot state.Free = (Unit {0})
-IsOf names slot (state.Pending k claim) = names claim ≡ slot
-IsOf names slot (state.Moving r k claim) = names claim ≡ slot
-IsOf names slot (state.Newest block claim) = names claim ≡ slot
-IsOf names slot (state.Unmade claim) = names claim ≡ slot
+abbrev pub IsClaimOf : {C : Type 0} → (C → ℕ) → ℕ → SlotState C → Type 0
+IsClaimOf names slot state.Free = (Unit {0})
+IsClaimOf names slot (state.Pending k claim) = names claim ≡ slot
+IsClaimOf names slot (state.Moving r k claim) = names claim ≡ slot
+IsClaimOf names slot (state.Newest block claim) = names claim ≡ slot
+IsClaimOf names slot (state.Unmade claim) = names claim ≡ slot
 
 -- each place's claim is of its slot
 abbrev pub AreOf : {C : Type 0} → (C → ℕ) → List (SlotState C) → Type 0
-AreOf names places = (slot : ℕ) → slot < length places → IsOf names slot (slice_index_or places slot state.Free)
+AreOf names places = (slot : ℕ) → slot < length places → IsClaimOf names slot (slice_index_or places slot state.Free)
 
 -- what is kept of each of the 65,536 slots: of those past the table's end nothing
 unfoldable pub kepts_of : {C : Type 0} → List (SlotState C) → List Kept

@@ -3,17 +3,17 @@ use Rattle.std.specs.Prelude.{List, length, Option, Some, None}
 use Rattle.extent_groups.specs.declared.class.Member.{Member}
 use Rattle.extent_groups.specs.declared.refusal.GroupRefusal.{GroupRefusal}
 use Rattle.extent_groups.specs.declared.refusal.GroupRefusal.TheVariants as fault
-use Rattle.array_parts.specs.Views.{lost_of}
+use Rattle.unit_store.specs.Views.{lost_of}
 use Rattle.flat_machine.specs.declared.refusal.Refusal.{Refusal}
 use Rattle.flat_machine.specs.declared.refusal.Refusal.TheVariants.{BadMember, SameDrive, ExtentTaken, DriveLost}
 use Rattle.flat_machine.specs.Groups.{AreMembers, AreApart, AreUnowned, ArePresent, IsFirstLost}
 use Rattle.slot_tables.specs.Views.{ArrayView}
 
 -- a fault of the members as a refusal of the array, where they are three to eight
-abbrev pub told_of : Option GroupRefusal → Option Refusal
-told_of None = None
-told_of (Some fault.SameDrive) = Some SameDrive
-told_of (Some _) = Some ExtentTaken
+abbrev pub reported_of : Option GroupRefusal → Option Refusal
+reported_of None = None
+reported_of (Some fault.SameDrive) = Some SameDrive
+reported_of (Some _) = Some ExtentTaken
 
 -- why members make no group, lost drives aside
 abbrev pub IsPutReason : ArrayView → List Member → Option Refusal → Type 0

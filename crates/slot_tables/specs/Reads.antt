@@ -1,7 +1,7 @@
 -- What a read of the drives says of an array.
 use Rattle.std.specs.Prelude.{◌≡◌, ◌⊎◌, ℕ, None}
 use Rattle.map_join.specs.declared.records.Record.{Record}
-use Rattle.array_parts.specs.Views.{FoundGone, SawUnit}
+use Rattle.unit_store.specs.Views.{FoundGone, SawUnit}
 use Rattle.flat_machine.specs.Groups.{class_at}
 use Rattle.flat_machine.specs.Steps.{Seen, Stale}
 use Rattle.flat_machine.specs.declared.refusal.Refusal.{Refusal}

@@ -1,7 +1,7 @@
 -- When an array or a world represents a flat state: what holds of that state alone, and how their tables agree with it.
 use Rattle.std.specs.Prelude.{◌≡◌, ℕ, length, ◌==◌, ◌/◌, Bool, false, Option, Some, None}
 use Rattle.flat_machine.specs.Flat.{Flat, Content, Holder, Worker, Ticket, Block, Shut, Waiting, Fresh, Moved, kind_of}
-use Rattle.array_parts.specs.Views.{Shows, lost_of, failed_of}
+use Rattle.unit_store.specs.Views.{Shows, lost_of, failed_of}
 use Rattle.flat_machine.specs.History.{IsHistory, AreHeld}
 use Rattle.slot_tables.specs.declared.hand.Hand.{Hand}
 use Rattle.slot_tables.specs.declared.hand.Hand.TheVariants.{Holds, Waits}

@@ -15,8 +15,8 @@ abbrev pub one_of : ℕ → ℕ → ℕ → ℕ
 one_of g count slot = if (slot / 128 == g) && nat_lt (slot % 128) count then 1 else 0
 
 -- how many slots the group has
-abbrev pub count_in : ArrayView → ℕ → ℕ
-count_in a g = slots_in a.parts.groups.segments (group_at a.parts.groups g)
+abbrev pub slots_in_group : ArrayView → ℕ → ℕ
+slots_in_group a g = slots_in a.parts.groups.segments (group_at a.parts.groups g)
 
 -- how many claims are kept of a slot for the number of a dissolved group
 abbrev pub shut_of : ℕ → ℕ → Kept → ℕ
@@ -34,13 +34,13 @@ AreShutOf names a g claims = (slot : ℕ) → how_many names claims slot ≡ shu
 -- the claims are one of each of the group's slots, all of which are free in the array
 pub record CanUnmake {C : Type 0} (names : C → ℕ) (a : ArrayView) (g : ℕ) (claims : List C) : Type 0 where
   pub made : group_at a.parts.groups g ≢ None
-  pub all : (slot : ℕ) → how_many names claims slot ≡ one_of g (count_in a g) slot
-  pub free : (slot : ℕ) → 0 < one_of g (count_in a g) slot → kept_at a slot ≡ Nothing
+  pub all : (slot : ℕ) → how_many names claims slot ≡ one_of g (slots_in_group a g) slot
+  pub free : (slot : ℕ) → 0 < one_of g (slots_in_group a g) slot → kept_at a slot ≡ Nothing
 
 -- there is a claim of no slot of the group's, or a second one of a slot
 pub record HasStranger {C : Type 0} (names : C → ℕ) (a : ArrayView) (g : ℕ) (claims : List C) : Type 0 where
   pub slot : ℕ
-  pub more : one_of g (count_in a g) slot < how_many names claims slot
+  pub more : one_of g (slots_in_group a g) slot < how_many names claims slot
 
 -- a slot of which there is a claim, and which is free in the array
 abbrev pub IsGiven : {C : Type 0} → (C → ℕ) → ArrayView → List C → ℕ → Type 0
@@ -49,10 +49,10 @@ IsGiven names a claims slot = (0 < how_many names claims slot) × (kept_at a slo
 -- the group's lowest slot that isn't given
 pub record IsFirstUngiven {C : Type 0} (names : C → ℕ) (a : ArrayView) (g : ℕ) (claims : List C) (slot : ℕ) : Type 0 where
   pub made : group_at a.parts.groups g ≢ None
-  pub known : (other : ℕ) → how_many names claims other ≤ one_of g (count_in a g) other
-  pub is : 0 < one_of g (count_in a g) slot
+  pub known : (other : ℕ) → how_many names claims other ≤ one_of g (slots_in_group a g) other
+  pub is : 0 < one_of g (slots_in_group a g) slot
   pub not_given : IsGiven names a claims slot → ⊥
-  pub below : (other : ℕ) → other < slot → 0 < one_of g (count_in a g) other → IsGiven names a claims other
+  pub below : (other : ℕ) → other < slot → 0 < one_of g (slots_in_group a g) other → IsGiven names a claims other
 
 -- why a group can't be dissolved with these claims
 abbrev pub IsUnmakeReason : {C : Type 0} → (C → ℕ) → ArrayView → ℕ → List C → Refusal → Type 0
@@ -72,5 +72,5 @@ pub record IsFirstNotHeld (hands : List Hand) (w g count slot : ℕ) : Type 0 wh
   pub below : (other : ℕ) → other < slot → 0 < one_of g count other → is_claim (hand_at hands other) w ≡ true
 
 -- what is in hand of a slot after the first `count` slots of a group were given away
-abbrev pub emptied : ℕ → ℕ → ℕ → Hand → Hand
-emptied g count slot hand = if (slot / 128 == g) && nat_lt (slot % 128) count then Empty else hand
+abbrev pub hand_emptied : ℕ → ℕ → ℕ → Hand → Hand
+hand_emptied g count slot hand = if (slot / 128 == g) && nat_lt (slot % 128) count then Empty else hand

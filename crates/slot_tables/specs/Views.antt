@@ -5,7 +5,7 @@ use Rattle.map_join.specs.Record.{record_of}
 use Rattle.extents.specs.declared.header.Kind.{Kind}
 use Rattle.extent_groups.specs.Groups.{Agree, group_at}
 use Rattle.extent_groups.specs.Stores.{AreDrives}
-use Rattle.array_parts.specs.Views.{PartsView, drive_units}
+use Rattle.unit_store.specs.Views.{PartsView, drive_units}
 use Rattle.flat_machine.specs.Groups.{IsEmpty, GroupsStand, class_at}
 use Rattle.slot_tables.specs.declared.hand.Hand.{Hand}
 use Rattle.slot_tables.specs.declared.hand.Hand.TheVariants.{Empty, Holds, Waits}
@@ -28,12 +28,12 @@ is_kept (Newest block) = true
 is_kept Unmade = true
 
 -- the block whose newest place the slot is, if any
-abbrev pub block_in : Kept → Option ℕ
-block_in Nothing = None
-block_in (Pending k) = None
-block_in (Moving r k) = None
-block_in (Newest block) = Some block
-block_in Unmade = None
+abbrev pub newest_block_in : Kept → Option ℕ
+newest_block_in Nothing = None
+newest_block_in (Pending k) = None
+newest_block_in (Moving r k) = None
+newest_block_in (Newest block) = Some block
+newest_block_in Unmade = None
 
 -- a ticket waits at the slot
 abbrev pub is_waiting : Kept → Bool

@@ -1,8 +1,8 @@
 // All that an array takes and tests before it is put together from parts, a map and claims.
 ghost use Rattle.std.specs.Prelude.{ℕ, ◌*◌, ◌<◌, ◌≤◌, IfOk, IfErr};
 ghost use Rattle.map_join.specs.Maps.{at};
-ghost use Rattle.array_parts.specs.Fit.{IsFit};
-ghost use Rattle.flat_machine.specs.Restarted.{HasPlaces};
+ghost use Rattle.unit_store.specs.Fit.{IsFit};
+ghost use Rattle.flat_machine.specs.Restarted.{HasDistinctSlots};
 ghost use Rattle.slot_tables.specs.Kept.{HavePlaces};
 ghost use Rattle.slot_tables.specs.Claims.{AreReady, AreKeys, HasRoom, IsNotAdopted};
 
@@ -10,11 +10,11 @@ use crate::hold::Hold;
 use crate::seats::{blocks_by_slot, first_unclaimed};
 use crate::slot_state::SlotState;
 use crate::tables::free_places;
-use array_parts::Parts;
 use extent_groups::{GROUPS, GroupTable, SLOTS};
 use extents::Drive;
 use map_join::{BlockMap, Record};
 use std::alloc::{AllocError, Global};
+use unit_store::Parts;
 
 /// Why no array is put together.
 #[derive(Clone, Copy, Debug, PartialEq, Eq)]
@@ -35,7 +35,7 @@ pub struct Room<C: Hold> {
 #[derive(Drop)]
 pub struct Ready<C: Hold> {
     pub log: Vec<Record>,
-    pub wanted: Vec<Option<u32>>,
+    pub expected: Vec<Option<u32>>,
     pub keys: Vec<u64>,
     pub room: Room<C>,
 }
@@ -90,7 +90,7 @@ pub fn prepare<D: Drive, C: Hold>(
     claims: &[C],
 ) -> Result<Ready<C>, NotAdopted>
     requires fit { IsFit D.units parts.now }
-    requires places { HasPlaces parts.now.groups (at map.now) }
+    requires places { HasDistinctSlots parts.now.groups (at map.now) }
     ensures ok { IfOk result (AreReady C.names parts.now.groups (at map.now) claims.now) }
     ensures err { IfErr result (IsNotAdopted C.names claims.now (at map.now)) }
 {
@@ -101,10 +101,10 @@ pub fn prepare<D: Drive, C: Hold>(
         return Err(NotAdopted::Memory);
     };
     let slots = places_for(&parts.groups);
-    let Ok(wanted) = blocks_by_slot(alloc, &log, slots) else {
+    let Ok(expected) = blocks_by_slot(alloc, &log, slots) else {
         return Err(NotAdopted::Memory);
     };
-    match first_unclaimed(alloc, &wanted, claims) {
+    match first_unclaimed(alloc, &expected, claims) {
         Ok(None) => {}
         Ok(Some(slot)) => return Err(NotAdopted::NoClaim(slot)),
         Err(_) => return Err(NotAdopted::Memory),
@@ -112,7 +112,7 @@ pub fn prepare<D: Drive, C: Hold>(
     match new_room(alloc, slots, claims.len()) {
         Ok(room) => Ok(Ready {
             log,
-            wanted,
+            expected,
             keys,
             room,
         }),

@@ -2,8 +2,8 @@
 ghost use Rattle.std.specs.Prelude.{◌≡◌, ℕ, ◌+◌, ◌<◌, ◌≤◌, length, replicate, slice_index_or, slice_set};
 ghost use Rattle.std.specs.Prelude.{vec_len, vec_capacity, IfOk, MatchOption, IsTrue, ◌↔◌, true, false, Some, None};
 ghost use Rattle.slot_tables.specs.Views.{Nothing, Newest};
-ghost use Rattle.slot_tables.specs.Kept.{kept_of, kepts_of, IsOf, AreOf};
-ghost use Rattle.slot_tables.specs.Claims.{how_many, claims_in, AreWanted, IsClaimed, IsLowestUnclaimed, LieBelow, kept_for, wanted_at};
+ghost use Rattle.slot_tables.specs.Kept.{kept_of, kepts_of, IsClaimOf, AreOf};
+ghost use Rattle.slot_tables.specs.Claims.{how_many, claims_in, AreExpected, IsClaimed, IsLowestUnclaimed, LieBelow, kept_for, expected_at};
 
 use crate::hold::Hold;
 use crate::slot_state::{SlotState, put_in};
@@ -11,7 +11,7 @@ use map_join::Record;
 use std::alloc::{AllocError, Global};
 
 fn no_blocks(alloc: Global, count: usize) -> Result<Vec<Option<u32>>, AllocError>
-    ensures { IfOk result (λ wanted. wanted.items ≡ replicate count None) }
+    ensures { IfOk result (λ expected. expected.items ≡ replicate count None) }
 {
     vec![in alloc; None; count]
 }
@@ -29,14 +29,14 @@ pub(crate) fn blocks_by_slot(
     slots: usize,
 ) -> Result<Vec<Option<u32>>, AllocError>
     requires { LieBelow slots records.now }
-    ensures { IfOk result (λ wanted. AreWanted records.now slots wanted.items) }
+    ensures { IfOk result (λ expected. AreExpected records.now slots expected.items) }
 {
-    let mut wanted = no_blocks(alloc, slots)?;
+    let mut expected = no_blocks(alloc, slots)?;
     for index in 0..records.len() {
         let record = &records[index];
-        wanted[usize::from(record.place)] = Some(record.block);
+        expected[usize::from(record.place)] = Some(record.block);
     }
-    Ok(wanted)
+    Ok(expected)
 }
 
 // Marks a slot, if the table has a mark for it.
@@ -63,16 +63,16 @@ fn claimed<C: Hold>(alloc: Global, claims: &[C], slots: usize) -> Result<Vec<boo
 // The lowest slot that is wanted and of which there is no claim.
 pub(crate) fn first_unclaimed<C: Hold>(
     alloc: Global,
-    wanted: &[Option<u32>],
+    expected: &[Option<u32>],
     claims: &[C],
 ) -> Result<Option<u16>, AllocError>
-    requires { length wanted.now ≤ 65536 }
-    ensures { IfOk result (λ found. MatchOption found ((slot : ℕ) → IsClaimed C.names claims.now wanted.now slot)
-        (IsLowestUnclaimed C.names claims.now wanted.now)) }
+    requires { length expected.now ≤ 65536 }
+    ensures { IfOk result (λ found. MatchOption found ((slot : ℕ) → IsClaimed C.names claims.now expected.now slot)
+        (IsLowestUnclaimed C.names claims.now expected.now)) }
 {
-    let marks = claimed(alloc, claims, wanted.len())?;
-    for slot in 0..wanted.len() {
-        if wanted[slot].is_some() && !marks[slot] {
+    let marks = claimed(alloc, claims, expected.len())?;
+    for slot in 0..expected.len() {
+        if expected[slot].is_some() && !marks[slot] {
             return Ok(Some(slot as u16));
         }
     }
@@ -80,11 +80,11 @@ pub(crate) fn first_unclaimed<C: Hold>(
 }
 
 // The block that wants a slot; past the table's end there is none.
-fn block_of(wanted: &[Option<u32>], slot: u16) -> Option<u32>
-    ensures { result ≡ wanted_at wanted.now slot }
+fn block_of(expected: &[Option<u32>], slot: u16) -> Option<u32>
+    ensures { result ≡ expected_at expected.now slot }
 {
-    if usize::from(slot) < wanted.len() {
-        wanted[usize::from(slot)]
+    if usize::from(slot) < expected.len() {
+        expected[usize::from(slot)]
     } else {
         None
     }
@@ -92,28 +92,28 @@ fn block_of(wanted: &[Option<u32>], slot: u16) -> Option<u32>
 
 // Takes a claim into the place that wants it, or returns it.
 fn seat<C: Hold>(
-    wanted: &mut Vec<Option<u32>>,
+    expected: &mut Vec<Option<u32>>,
     places: &mut Vec<SlotState<C>>,
     claim: C,
 ) -> Option<C>
-    requires many { vec_len wanted.old ≡ vec_len places.old }
+    requires many { vec_len expected.old ≡ vec_len places.old }
     requires claims { AreOf C.names places.old.items }
-    requires free { (b : ℕ) → wanted_at wanted.old.items (C.names claim) ≡ Some b
+    requires free { (b : ℕ) → expected_at expected.old.items (C.names claim) ≡ Some b
         → slice_index_or (kepts_of places.old.items) (C.names claim) Nothing ≡ Nothing }
-    ensures seated { (b : ℕ) → wanted_at wanted.old.items (C.names claim) ≡ Some b
-        → (result ≡ None) × (wanted.new.items ≡ slice_set wanted.old.items (C.names claim) None)
+    ensures seated { (b : ℕ) → expected_at expected.old.items (C.names claim) ≡ Some b
+        → (result ≡ None) × (expected.new.items ≡ slice_set expected.old.items (C.names claim) None)
         × (kepts_of places.new.items ≡ slice_set (kepts_of places.old.items) (C.names claim) (Newest b)) }
-    ensures left { wanted_at wanted.old.items (C.names claim) ≡ None → (result ≡ Some claim) × (wanted.new.items ≡ wanted.old.items)
+    ensures left { expected_at expected.old.items (C.names claim) ≡ None → (result ≡ Some claim) × (expected.new.items ≡ expected.old.items)
         × (kepts_of places.new.items ≡ kepts_of places.old.items) }
     ensures claims { AreOf C.names places.new.items }
     ensures room { vec_len places.new ≡ vec_len places.old }
     ensures slot { C.names claim < 65536 }
 {
     let slot = claim.slot();
-    match block_of(wanted, slot) {
+    match block_of(expected, slot) {
         None => Some(claim),
         Some(block) => {
-            wanted[usize::from(slot)] = None;
+            expected[usize::from(slot)] = None;
             put_in(places, slot, SlotState::Newest(block, claim));
             None
         }
@@ -122,26 +122,26 @@ fn seat<C: Hold>(
 
 // Takes a claim into each place that wants one, and puts the other claims into `others`.
 pub fn seat_all<C: Hold>(
-    mut wanted: Vec<Option<u32>>,
+    mut expected: Vec<Option<u32>>,
     mut claims: Vec<C>,
     places: &mut Vec<SlotState<C>>,
     others: &mut Vec<C>,
 )
-    requires many { vec_len wanted ≡ vec_len places.old }
-    requires all { (slot : ℕ) → IsClaimed C.names claims.items wanted.items slot }
+    requires many { vec_len expected ≡ vec_len places.old }
+    requires all { (slot : ℕ) → IsClaimed C.names claims.items expected.items slot }
     requires free { (slot : ℕ) → slice_index_or (kepts_of places.old.items) slot Nothing ≡ Nothing }
     requires most { vec_len places.old ≤ 65536 }
     requires claims { AreOf C.names places.old.items }
     requires none { vec_len others.old ≡ 0 }
     requires room { vec_len claims ≤ vec_capacity others.old }
-    ensures kept { (slot : ℕ) → slice_index_or (kepts_of places.new.items) slot Nothing ≡ kept_for (wanted_at wanted.items slot) }
+    ensures kept { (slot : ℕ) → slice_index_or (kepts_of places.new.items) slot Nothing ≡ kept_for (expected_at expected.items slot) }
     ensures shared { (slot : ℕ) → how_many C.names claims.items slot
         ≡ claims_in (slice_index_or (kepts_of places.new.items) slot Nothing) + how_many C.names others.new.items slot }
     ensures claims { AreOf C.names places.new.items }
     ensures places { vec_len places.new ≡ vec_len places.old }
 {
     while let Some(claim) = claims.pop() {
-        match seat(&mut wanted, places, claim) {
+        match seat(&mut expected, places, claim) {
             None => {}
             Some(other) => others.push_reserved(other),
         }
@@ -151,7 +151,7 @@ pub fn seat_all<C: Hold>(
 
 // The claim of a place, if it has one.
 fn unseated<C: Hold>(place: SlotState<C>) -> Option<C>
-    ensures { (slot : ℕ) → IsOf C.names slot place
+    ensures { (slot : ℕ) → IsClaimOf C.names slot place
         → MatchOption result (claims_in (kept_of place) ≡ 0) (λ claim. (C.names claim ≡ slot) × (claims_in (kept_of place) ≡ 1)) }
 {
     match place {

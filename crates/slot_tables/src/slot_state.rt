@@ -1,7 +1,7 @@
 // What the array keeps of a slot, claims included. No claim can be lost: it goes in by `put_in`, and
 // comes out by `take_out`.
 ghost use Rattle.std.specs.Prelude.{◌≡◌, ◌+◌, ◌*◌, ◌<◌, ◌≤◌, vec_len, vec_capacity, slice_index_or, slice_set, true, MatchOption, IsOk, OnOk};
-ghost use Rattle.slot_tables.specs.Kept.{kept_of, kepts_of, IsOf, AreOf};
+ghost use Rattle.slot_tables.specs.Kept.{kept_of, kepts_of, IsClaimOf, AreOf};
 ghost use Rattle.slot_tables.specs.Views.{Nothing, is_waiting};
 
 use crate::hold::Hold;
@@ -42,7 +42,7 @@ pub fn state_at<C: Hold>(places: &[SlotState<C>], slot: u16) -> Option<&SlotStat
 pub fn take_out<C: Hold>(places: &mut Vec<SlotState<C>>, slot: u16) -> SlotState<C>
     requires claims { AreOf C.names places.old.items }
     ensures taken { kept_of result ≡ slice_index_or (kepts_of places.old.items) slot Nothing }
-    ensures of { IsOf C.names slot result }
+    ensures of { IsClaimOf C.names slot result }
     ensures left { kepts_of places.new.items ≡ slice_set (kepts_of places.old.items) slot Nothing }
     ensures claims { AreOf C.names places.new.items }
     ensures room { vec_len places.new ≡ vec_len places.old }
@@ -58,7 +58,7 @@ pub fn take_out<C: Hold>(places: &mut Vec<SlotState<C>>, slot: u16) -> SlotState
 pub fn put_in<C: Hold>(places: &mut Vec<SlotState<C>>, slot: u16, place: SlotState<C>)
     requires inside { slot < vec_len places.old }
     requires free { slice_index_or (kepts_of places.old.items) slot Nothing ≡ Nothing }
-    requires of { IsOf C.names slot place }
+    requires of { IsClaimOf C.names slot place }
     requires claims { AreOf C.names places.old.items }
     ensures kept { kepts_of places.new.items ≡ slice_set (kepts_of places.old.items) slot (kept_of place) }
     ensures claims { AreOf C.names places.new.items }

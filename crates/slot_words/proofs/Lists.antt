@@ -21,10 +21,10 @@ module _ {A : Type 0} where
       (at_append xs m i a e)
 
   -- an element of the second of two lists
-  pub at_behind : (l m : List A) (j : ℕ) (a : A) → get_elem? m j ≡ some a → get_elem? (l ++ m) (length l + j) ≡ some a
-  at_behind [] m j a e = let same : j ≡ 0 + j = omega arith in subst (λ (i : ℕ). get_elem? m i ≡ some a) same e
-  at_behind (x ∷ xs) m j a e = let same : suc (length xs + j) ≡ length (x ∷ xs) + j = omega arith in
-      subst (λ (i : ℕ). get_elem? (x ∷ (xs ++ m)) i ≡ some a) same (at_behind xs m j a e)
+  pub at_following : (l m : List A) (j : ℕ) (a : A) → get_elem? m j ≡ some a → get_elem? (l ++ m) (length l + j) ≡ some a
+  at_following [] m j a e = let same : j ≡ 0 + j = omega arith in subst (λ (i : ℕ). get_elem? m i ≡ some a) same e
+  at_following (x ∷ xs) m j a e = let same : suc (length xs + j) ≡ length (x ∷ xs) + j = omega arith in
+      subst (λ (i : ℕ). get_elem? (x ∷ (xs ++ m)) i ≡ some a) same (at_following xs m j a e)
 
   -- an empty list has no element at any place
   pub nowhere : (l : List A) (i : ℕ) (a : A) → l ≡ [] → get_elem? l i ≡ some a → ⊥

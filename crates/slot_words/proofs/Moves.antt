@@ -9,9 +9,9 @@ use Rattle.slot_words.specs.declared.view.Kind.TheVariants.{Exchange, Store}
 use Rattle.slot_words.specs.declared.view.Sight.{Sight}
 use Rattle.slot_words.specs.declared.view.View.{View}
 use Rattle.slot_words.specs.Places.{word_of}
-use Rattle.slot_words.specs.ClaimRule.{sight_at, Stands, steps, generation_at, IsMove, IsShared, ClaimRule}
+use Rattle.slot_words.specs.ClaimRule.{sight_at, HoldsPair, steps, generation_at, IsTransition, IsShared, ClaimRule}
 use Rattle.slot_words.proofs.Lists.{nowhere, alone}
-use Rattle.slot_words.proofs.Views.{stands_set, stands_again, still_stands}
+use Rattle.slot_words.proofs.Views.{matches_set, matches_again, still_matches}
 use Rattle.slot_words.proofs.Timed.{timed_next}
 use Rattle.slot_words.proofs.Winning.{won_next, won_still}
 
@@ -35,23 +35,23 @@ claimed n ws vs id g p v w rule here has wins more sees shared inside free next 
   current = λ s k q st. ⊎_elim
       (λ (h : (s ≡ id) × (get_elem? w.pairs k ≡ some q)).
       subst (λ (r : Held). get_or words (word_of r.slot) 0 ≡ 2 * r.generation + 1) (alone w.pairs k p q has h.1).1 (get_or-set_same ws (word_of p.slot) (2 * p.generation + 1) 0 within))
-      (λ (h : (s ≢ id) × Stands vs s k q).
+      (λ (h : (s ≢ id) × HoldsPair vs s k q).
       get_or-set_other ws (word_of p.slot) (word_of q.slot) (2 * p.generation + 1) 0 (other_word q.slot p.slot (apart s k q h.1)) ∙ rule.current s k q h.1)
-      (stands_set (λ (u : View). u.pairs) vs id w s k q st);
+      (matches_set (λ (u : View). u.pairs) vs id w s k q st);
   once = λ s k t l q r st su e. ⊎_elim
       (λ (h : (s ≡ id) × (get_elem? w.pairs k ≡ some q)). ⊎_elim
       (λ (i : (t ≡ id) × (get_elem? w.pairs l ≡ some r)). (h.0 ∙ sym i.0, (alone w.pairs k p q has h.1).0 ∙ sym (alone w.pairs l p r has i.1).0))
-      (λ (i : (t ≢ id) × Stands vs t l r). absurd (apart t l r i.1 (sym e ∙ sym (ap (λ (x : Held). x.slot) (alone w.pairs k p q has h.1).1))))
-      (stands_set (λ (u : View). u.pairs) vs id w t l r su))
-      (λ (h : (s ≢ id) × Stands vs s k q). ⊎_elim
+      (λ (i : (t ≢ id) × HoldsPair vs t l r). absurd (apart t l r i.1 (sym e ∙ sym (ap (λ (x : Held). x.slot) (alone w.pairs k p q has h.1).1))))
+      (matches_set (λ (u : View). u.pairs) vs id w t l r su))
+      (λ (h : (s ≢ id) × HoldsPair vs s k q). ⊎_elim
       (λ (i : (t ≡ id) × (get_elem? w.pairs l ≡ some r)). absurd (apart s k q h.1 (e ∙ sym (ap (λ (x : Held). x.slot) (alone w.pairs l p r has i.1).1))))
-      (λ (i : (t ≢ id) × Stands vs t l r). rule.once s k t l q r h.1 i.1 e)
-      (stands_set (λ (u : View). u.pairs) vs id w t l r su))
-      (stands_set (λ (u : View). u.pairs) vs id w s k q st);
+      (λ (i : (t ≢ id) × HoldsPair vs t l r). rule.once s k t l q r h.1 i.1 e)
+      (matches_set (λ (u : View). u.pairs) vs id w t l r su))
+      (matches_set (λ (u : View). u.pairs) vs id w s k q st);
   won = won_next n ws vs id p v w rule.won here wins within (let e : generation_at ws p.slot ≡ g = omega arith in omega arith);
   timed = timed_next ws words vs id v w rule.timed here more (ap (λ (s : Sight). s.time) sees)
       (subst (λ (s : Sight). s.found ≡ get_or ws s.place 0) (sym sees) (sym free))
-      (subst (λ (s : Sight). IsMove s.kind s.found s.left) (sym sees) (inr (even, omega arith)))
+      (subst (λ (s : Sight). IsTransition s.kind s.found s.left) (sym sees) (inr (even, omega arith)))
       (subst (λ (s : Sight). get_or words s.place 0 ≡ s.left) (sym sees) (get_or-set_same ws (word_of p.slot) (2 * p.generation + 1) 0 within))
       (subst (λ (s : Sight). (place : ℕ) → place ≢ s.place → get_or words place 0 ≡ get_or ws place 0) (sym sees) (λ place ne. get_or-set_other ws (word_of p.slot) place (2 * p.generation + 1) 0 ne));
   shared = shared;
@@ -66,7 +66,7 @@ claimed n ws vs id g p v w rule here has wins more sees shared inside free next 
     even : (2 * g) % 2 ≡ 0
     even = omega arith
 
-    apart : (s k : ℕ) (q : Held) → Stands vs s k q → q.slot ≢ p.slot
+    apart : (s k : ℕ) (q : Held) → HoldsPair vs s k q → q.slot ≢ p.slot
     apart s k q st e = let odd = rule.current s k q st in
         let even : get_or ws (word_of q.slot) 0 ≡ 2 * g = subst (λ (x : ℕ). get_or ws (word_of x) 0 ≡ 2 * g) (sym e) free in
         let clash : 2 * q.generation + 1 ≡ 2 * g = sym odd ∙ even in omega arith
@@ -82,11 +82,11 @@ freed n ws vs id p v w rule here has none won more sees shared inside = record {
       get_or-set_other ws (word_of p.slot) (word_of q.slot) (2 * p.generation) 0 (other_word q.slot p.slot (λ e. old.0 (rule.once s k id 0 q p old.1 mine e).0)) ∙ rule.current s k q old.1;
   once = λ s k t l q r st su e. rule.once s k t l q r (stood s k q st).1 (stood t l r su).1 e;
   won = won_still n ws words vs (set vs id w) rule.won same_generation stays_above
-      (stands_again (λ (u : View). u.won) vs id v w here won)
-      (still_stands (λ (u : View). u.won) vs id v w [] here (won ∙ sym (append-nil v.won)));
+      (matches_again (λ (u : View). u.won) vs id v w here won)
+      (still_matches (λ (u : View). u.won) vs id v w [] here (won ∙ sym (append-nil v.won)));
   timed = timed_next ws words vs id v w rule.timed here more (ap (λ (s : Sight). s.time) sees)
       (subst (λ (s : Sight). s.found ≡ get_or ws s.place 0) (sym sees) (sym (rule.current id 0 p mine)))
-      (subst (λ (s : Sight). IsMove s.kind s.found s.left) (sym sees) (odd, refl))
+      (subst (λ (s : Sight). IsTransition s.kind s.found s.left) (sym sees) (odd, refl))
       (subst (λ (s : Sight). get_or words s.place 0 ≡ s.left) (sym sees) (get_or-set_same ws (word_of p.slot) (2 * p.generation) 0 within))
       (subst (λ (s : Sight). (place : ℕ) → place ≢ s.place → get_or words place 0 ≡ get_or ws place 0) (sym sees) (λ place ne. get_or-set_other ws (word_of p.slot) place (2 * p.generation) 0 ne));
   shared = shared;
@@ -101,17 +101,17 @@ freed n ws vs id p v w rule here has none won more sees shared inside = record {
     odd : (2 * p.generation + 1) % 2 ≡ 1
     odd = omega arith
 
-    mine : Stands vs id 0 p
+    mine : HoldsPair vs id 0 p
     mine = (v, here, ap (λ (l : List Held). get_elem? l 0) has)
 
     small : 2 * p.generation ≤ 2 ^ 63 + 1
     small = let is = rule.current id 0 p mine in let low = rule.low (word_of p.slot) in omega arith
 
-    stood : (s k : ℕ) (q : Held) → Stands (set vs id w) s k q → (s ≢ id) × Stands vs s k q
+    stood : (s k : ℕ) (q : Held) → HoldsPair (set vs id w) s k q → (s ≢ id) × HoldsPair vs s k q
     stood s k q st = ⊎_elim
         (λ (h : (s ≡ id) × (get_elem? w.pairs k ≡ some q)). absurd (nowhere w.pairs k q none h.1))
-        (λ (h : (s ≢ id) × Stands vs s k q). h)
-        (stands_set (λ (u : View). u.pairs) vs id w s k q st)
+        (λ (h : (s ≢ id) × HoldsPair vs s k q). h)
+        (matches_set (λ (u : View). u.pairs) vs id w s k q st)
 
     stays_above : (slot : ℕ) → 0 < get_or words (word_of slot) 0 → 0 < get_or ws (word_of slot) 0
     stays_above slot above = dite (ℕ_discrete slot p.slot)

@@ -15,7 +15,7 @@ use Rattle.slot_words.specs.declared.view.Kind.TheVariants.{Look, Exchange, Stor
 use Rattle.slot_words.specs.declared.view.Sight.{Sight}
 use Rattle.slot_words.specs.declared.view.View.{View}
 use Rattle.slot_words.specs.Places.{word_of}
-use Rattle.slot_words.specs.ClaimRule.{sight_at, blank, opening, held, steps, StandsIn, Stands, MadeBy, IsMove, IsShared, ClaimRule}
+use Rattle.slot_words.specs.ClaimRule.{sight_at, blank, opening, held_pair, steps, RepresentsIn, HoldsPair, MadeBy, IsTransition, IsShared, ClaimRule}
 use Rattle.slot_words.specs.Steps.{after_step, Sat, Looked, Taken, Freed, Differed, both_pairs, pair_part, step_part, kept_half, given_half}
 use Rattle.slot_words.proofs.Lists.{nowhere, alone}
 use Rattle.slot_words.proofs.Timed.{timed_next}
@@ -55,7 +55,7 @@ shares_on kind n ws vs id v place found left pairs won rule here live = shared_n
 
 -- a step that finds this word, and changes nothing
 sees : (kind : Kind) (n : ℕ) (ws : List ℕ) (vs : List View) (id place : ℕ) (v : View) → ClaimRule n ws vs → get_elem? vs id ≡ some v → 0 < length v.shares
-    → IsMove kind (get_or ws place 0) (get_or ws place 0) → ClaimRule n ws (set vs id (after kind vs v place (get_or ws place 0) (get_or ws place 0) v.pairs v.won))
+    → IsTransition kind (get_or ws place 0) (get_or ws place 0) → ClaimRule n ws (set vs id (after kind vs v place (get_or ws place 0) (get_or ws place 0) v.pairs v.won))
 sees kind n ws vs id place v rule here live stays = noted n ws vs id v w rule here refl refl (timed_next ws ws vs id v w rule.timed here refl refl refl stays refl (λ other ne. refl))
     (shares_on kind n ws vs id v place (get_or ws place 0) (get_or ws place 0) v.pairs v.won rule here live)
   where
@@ -89,7 +89,7 @@ takes {S} n slots id slot g sought put me inside below seeks puts bare away live
     x = get_or s.words (word_of slot) 0
 
     p : Held
-    p = held slot (g + 1)
+    p = held_pair slot (g + 1)
 
     won : View
     won = after Exchange s.views me.0 (word_of slot) x put (p ∷ []) (me.0.won ++ p ∷ [])
@@ -148,8 +148,8 @@ differs {S} n slots id place me s rule homes here fits = (
   tt,
   rw (set-get_or s.words place 0, set_again s.views id me.0 here) rule,
   λ p q two same.
-      let first : Stands s.views id 0 p = (me.0, here, ap (λ (l : List Held). get_elem? l 0) two) in
-      let second : Stands s.views id 1 q = (me.0, here, ap (λ (l : List Held). get_elem? l 1) two) in
+      let first : HoldsPair s.views id 0 p = (me.0, here, ap (λ (l : List Held). get_elem? l 0) two) in
+      let second : HoldsPair s.views id 1 q = (me.0, here, ap (λ (l : List Held). get_elem? l 1) two) in
       let clash : 0 ≡ 1 = (rule.once id 0 id 1 p q first second same).1 in absurd (omega arith),
 )
 
@@ -172,7 +172,7 @@ begins n ws all = record {
     exact = λ s by. absurd (unmade s by);
     moves = λ s by. absurd (unmade s by);
     current = λ place. let zero = zeros place in record {
-      told = λ above. absurd (omega arith);
+      reported = λ above. absurd (omega arith);
       most = λ s l. absurd (unmade s l.made);
     };
     seen = λ s v at. subst (λ (u : View). u.sight.time ≤ 0) (alone (opening ∷ []) s opening v refl at).1 (omega arith);
@@ -191,7 +191,7 @@ begins n ws all = record {
         (λ (small : i < n + 8). ap (λ (l : List ℕ). get_or l i 0) all ∙ get_or-replicate (n + 8) i 0 0 small)
         (λ (high : i < n + 8 → ⊥). get_or_past ws i 0 (let is = long in omega arith))
 
-    without : (part : View → List Held) → part opening ≡ [] → (s k : ℕ) (p : Held) → StandsIn part (opening ∷ []) s k p → ⊥
+    without : (part : View → List Held) → part opening ≡ [] → (s k : ℕ) (p : Held) → RepresentsIn part (opening ∷ []) s k p → ⊥
     without part bare s k p st =
         nowhere (part opening) k p bare (subst (λ (u : View). get_elem? (part u) k ≡ some p) (sym (alone (opening ∷ []) s opening st.0 refl st.1).1) st.2)
 

@@ -8,7 +8,7 @@ use native.Mathlib.Decide.{ℕ_discrete}
 use lib.ListN.{get_elem?}
 use Rattle.slot_words.specs.declared.view.Sight.{Sight}
 use Rattle.slot_words.specs.declared.view.View.{View}
-use Rattle.slot_words.specs.ClaimRule.{steps, blank, MadeBy, IsLast, IsLeft, IsMove, IsTimed}
+use Rattle.slot_words.specs.ClaimRule.{steps, blank, MadeBy, IsLast, IsLastLeft, IsTransition, IsTimed}
 use Rattle.slot_words.specs.Sight.{later}
 use Rattle.slot_words.specs.Steps.{pair_part, step_part}
 use Rattle.slot_words.proofs.Sums.{total_set, total_push}
@@ -36,9 +36,9 @@ last_again P Q place time s to from l = record {
 }
 
 -- and so does what is left
-left_again : (P Q : Sight → Type 0) (place time word : ℕ) → ((t : Sight) → P t → Q t) → ((t : Sight) → Q t → P t) → IsLeft P place time word → IsLeft Q place time word
+left_again : (P Q : Sight → Type 0) (place time word : ℕ) → ((t : Sight) → P t → Q t) → ((t : Sight) → Q t → P t) → IsLastLeft P place time word → IsLastLeft Q place time word
 left_again P Q place time word to from is = record {
-  told = λ above. let t = is.told above in (t.0, last_again P Q place time t.0 to from t.1, t.2);
+  reported = λ above. let t = is.reported above in (t.0, last_again P Q place time t.0 to from t.1, t.2);
   most = λ s l. is.most s (last_again Q P place time s from to l);
 }
 
@@ -49,13 +49,13 @@ timed_again ws vs xs so same to from seen = record {
   latest = λ above. let l = so.latest (omega arith) in (l.0, to l.0 l.1, l.2 ∙ sym same);
   exact = λ s by. left_again (MadeBy vs) (MadeBy xs) s.place s.time s.found to from (so.exact s (from s by));
   moves = λ s by. so.moves s (from s by);
-  current = λ place. subst (λ (n : ℕ). IsLeft (MadeBy xs) place (n + 1) (get_or ws place 0)) (sym same)
+  current = λ place. subst (λ (n : ℕ). IsLastLeft (MadeBy xs) place (n + 1) (get_or ws place 0)) (sym same)
       (left_again (MadeBy vs) (MadeBy xs) place (steps vs + 1) (get_or ws place 0) to from (so.current place));
   seen = seen;
 }
 
 -- one seat makes the step e, the last of all
-timed_step : (ws us : List ℕ) (vs xs : List View) (e : Sight) → IsTimed ws vs → steps xs ≡ steps vs + 1 → e.time ≡ steps vs + 1 → e.found ≡ get_or ws e.place 0 → IsMove e.kind e.found e.left
+timed_step : (ws us : List ℕ) (vs xs : List View) (e : Sight) → IsTimed ws vs → steps xs ≡ steps vs + 1 → e.time ≡ steps vs + 1 → e.found ≡ get_or ws e.place 0 → IsTransition e.kind e.found e.left
     → get_or us e.place 0 ≡ e.left → ((place : ℕ) → place ≢ e.place → get_or us place 0 ≡ get_or ws place 0)
     → ((s : Sight) → MadeBy vs s → MadeBy xs s) → MadeBy xs e → ((s : Sight) → MadeBy xs s → MadeBy vs s ⊎ (e ≡ s)) → AreSeen xs → IsTimed us xs
 timed_step ws us vs xs e so more now finds_it moved written unmoved to made from seen = record {
@@ -63,18 +63,18 @@ timed_step ws us vs xs e so more now finds_it moved written unmoved to made from
   latest = λ _. (e, made, now ∙ sym more);
   exact = λ s by. ⊎_elim
       (λ (old : MadeBy vs s). let early = so.past s old in lasting s.place s.time s.found (omega arith) (so.exact s old))
-      (λ (new : e ≡ s). subst (λ (g : Sight). IsLeft (MadeBy xs) g.place g.time g.found) new
+      (λ (new : e ≡ s). subst (λ (g : Sight). IsLastLeft (MadeBy xs) g.place g.time g.found) new
       (lasting e.place e.time e.found (omega arith)
-      (subst (λ (k : ℕ). IsLeft (MadeBy vs) e.place e.time k) (sym finds_it) (subst (λ (t : ℕ). IsLeft (MadeBy vs) e.place t (get_or ws e.place 0)) (sym now) (so.current e.place)))))
+      (subst (λ (k : ℕ). IsLastLeft (MadeBy vs) e.place e.time k) (sym finds_it) (subst (λ (t : ℕ). IsLastLeft (MadeBy vs) e.place t (get_or ws e.place 0)) (sym now) (so.current e.place)))))
       (from s by);
   moves = λ s by. ⊎_elim
       (λ (old : MadeBy vs s). so.moves s old)
-      (λ (new : e ≡ s). subst (λ (g : Sight). IsMove g.kind g.found g.left) new moved)
+      (λ (new : e ≡ s). subst (λ (g : Sight). IsTransition g.kind g.found g.left) new moved)
       (from s by);
   current = λ place. dite (ℕ_discrete place e.place)
-      (λ (same : place ≡ e.place). subst (λ (p : ℕ). IsLeft (MadeBy xs) p (steps xs + 1) (get_or us p 0)) (sym same)
-      (subst (λ (k : ℕ). IsLeft (MadeBy xs) e.place (steps xs + 1) k) (sym written) here))
-      (λ (ne : place ≢ e.place). subst (λ (k : ℕ). IsLeft (MadeBy xs) place (steps xs + 1) k) (sym (unmoved place ne)) (elsewhere place ne));
+      (λ (same : place ≡ e.place). subst (λ (p : ℕ). IsLastLeft (MadeBy xs) p (steps xs + 1) (get_or us p 0)) (sym same)
+      (subst (λ (k : ℕ). IsLastLeft (MadeBy xs) e.place (steps xs + 1) k) (sym written) here))
+      (λ (ne : place ≢ e.place). subst (λ (k : ℕ). IsLastLeft (MadeBy xs) place (steps xs + 1) k) (sym (unmoved place ne)) (elsewhere place ne));
   seen = seen;
 }
   where
@@ -85,9 +85,9 @@ timed_step ws us vs xs e so more now finds_it moved written unmoved to made from
         (from s by)
 
     -- what was left before a time up to now is left before it still
-    lasting : (place time word : ℕ) → time ≤ steps vs + 1 → IsLeft (MadeBy vs) place time word → IsLeft (MadeBy xs) place time word
+    lasting : (place time word : ℕ) → time ≤ steps vs + 1 → IsLastLeft (MadeBy vs) place time word → IsLastLeft (MadeBy xs) place time word
     lasting place time word past is = record {
-      told = λ above. let t = is.told above in (t.0, still t.0 t.1, t.2);
+      reported = λ above. let t = is.reported above in (t.0, still t.0 t.1, t.2);
       most = λ s l. is.most s (was s l);
     }
       where
@@ -116,18 +116,18 @@ timed_step ws us vs xs e so more now finds_it moved written unmoved to made from
           most = λ t by at early. l.most t (to t by) at early;
         }
 
-    here : IsLeft (MadeBy xs) e.place (steps xs + 1) e.left
+    here : IsLastLeft (MadeBy xs) e.place (steps xs + 1) e.left
     here = record {
-      told = λ above. (e, record { made = made; here = refl; early = omega arith; most = λ t by at early. let old = before t by in omega arith }, refl);
+      reported = λ above. (e, record { made = made; here = refl; early = omega arith; most = λ t by at early. let old = before t by in omega arith }, refl);
       most = λ s l. ⊎_elim
           (λ (old : MadeBy vs s). let late = l.most e made refl (omega arith) in let early = so.past s old in absurd (omega arith))
           (λ (new : e ≡ s). sym (ap (λ (g : Sight). g.left) new))
           (from s l.made);
     }
 
-    elsewhere : (place : ℕ) → place ≢ e.place → IsLeft (MadeBy xs) place (steps xs + 1) (get_or ws place 0)
+    elsewhere : (place : ℕ) → place ≢ e.place → IsLastLeft (MadeBy xs) place (steps xs + 1) (get_or ws place 0)
     elsewhere place ne = record {
-      told = λ above. let t = (so.current place).told above in (t.0, still t.0 t.1, t.2);
+      reported = λ above. let t = (so.current place).reported above in (t.0, still t.0 t.1, t.2);
       most = λ s l. (so.current place).most s (was s l);
     }
       where
@@ -161,7 +161,7 @@ timed_step ws us vs xs e so more now finds_it moved written unmoved to made from
 
 -- a seat makes a step
 pub timed_next : (ws us : List ℕ) (vs : List View) (id : ℕ) (v w : View) → IsTimed ws vs → get_elem? vs id ≡ some v → w.steps ≡ v.steps ++ w.sight ∷ []
-    → w.sight.time ≡ steps vs + 1 → w.sight.found ≡ get_or ws w.sight.place 0 → IsMove w.sight.kind w.sight.found w.sight.left
+    → w.sight.time ≡ steps vs + 1 → w.sight.found ≡ get_or ws w.sight.place 0 → IsTransition w.sight.kind w.sight.found w.sight.left
     → get_or us w.sight.place 0 ≡ w.sight.left → ((place : ℕ) → place ≢ w.sight.place → get_or us place 0 ≡ get_or ws place 0) → IsTimed us (set vs id w)
 timed_next ws us vs id v w so here more now finds_it moved written unmoved = timed_step ws us vs (set vs id w) w.sight so sum now finds_it moved written unmoved
     (next_to vs id v w here w.sight more)

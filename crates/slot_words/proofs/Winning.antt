@@ -8,9 +8,9 @@ use lib.ListN.{get_elem?}
 use Rattle.slot_words.specs.declared.view.Held.{Held}
 use Rattle.slot_words.specs.declared.view.View.{View}
 use Rattle.slot_words.specs.Places.{word_of}
-use Rattle.slot_words.specs.ClaimRule.{held, Won, generation_at, IsWon}
+use Rattle.slot_words.specs.ClaimRule.{held_pair, Won, generation_at, IsWon}
 use Rattle.slot_words.proofs.Lists.{at_inside, at_append, alone}
-use Rattle.slot_words.proofs.Views.{stands_set, still_stands}
+use Rattle.slot_words.proofs.Views.{matches_set, still_matches}
 
 -- no generation changes, and each pair of the new views is in the old ones, by a relation that is one to one, and none is lost
 pub won_moved : (T : ℕ → ℕ → ℕ → ℕ → Type 0) (n : ℕ) (ws us : List ℕ) (vs xs : List View) → IsWon n ws vs → ((slot : ℕ) → generation_at us slot ≡ generation_at ws slot)
@@ -21,8 +21,8 @@ pub won_moved : (T : ℕ → ℕ → ℕ → ℕ → Type 0) (n : ℕ) (ws us : 
 won_moved T n ws us vs xs won same rose from single to = record {
   begun = λ slot small above.
       let t = won.begun slot small (rose slot above) in
-      let st = to t.0 t.1 (held slot (generation_at ws slot)) t.2 in
-      (st.0, st.1, subst (λ (g : ℕ). Won xs st.0 st.1 (held slot g)) (sym (same slot)) st.2);
+      let st = to t.0 t.1 (held_pair slot (generation_at ws slot)) t.2 in
+      (st.0, st.1, subst (λ (g : ℕ). Won xs st.0 st.1 (held_pair slot g)) (sym (same slot)) st.2);
   counted = λ s k p st. let f = from s k p st in won.counted f.0 f.1 p f.3;
   reached = λ s k p st. let f = from s k p st in subst (λ (g : ℕ). p.generation ≤ g) (sym (same p.slot)) (won.reached f.0 f.1 p f.3);
   single = λ s k t l p q st su e d.
@@ -52,7 +52,7 @@ won_next n ws vs id p v w won here is inside next = record {
         (
           w,
           set_here vs id w (at_inside vs id v here),
-          subst (λ (l : List Held). get_elem? l (length v.won) ≡ some (held slot (generation_at us slot))) (sym is)
+          subst (λ (l : List Held). get_elem? l (length v.won) ≡ some (held_pair slot (generation_at us slot))) (sym is)
               (at_last v.won p (length v.won) refl ∙ ap (λ (q : Held). some q) (pair slot e)),
         ),
       ))
@@ -60,8 +60,8 @@ won_next n ws vs id p v w won here is inside next = record {
       let t = won.begun slot small (subst (λ (x : ℕ). 0 < x) (stays slot ne) above) in (
         t.0,
         t.1,
-        still_stands (λ (u : View). u.won) vs id v w (p ∷ []) here is t.0 t.1 (held slot (generation_at us slot))
-            (subst (λ (g : ℕ). Won vs t.0 t.1 (held slot g)) (sym (elsewhere slot ne)) t.2),
+        still_matches (λ (u : View). u.won) vs id v w (p ∷ []) here is t.0 t.1 (held_pair slot (generation_at us slot))
+            (subst (λ (g : ℕ). Won vs t.0 t.1 (held_pair slot g)) (sym (elsewhere slot ne)) t.2),
       ));
   counted = λ s k q st. ⊎_elim
       (λ (old : Won vs s k q). won.counted s k q old)
@@ -106,8 +106,8 @@ won_next n ws vs id p v w won here is inside next = record {
         (λ (e : slot ≡ p.slot). subst (λ (x : ℕ). generation_at ws x ≤ generation_at us x) (sym e) (let r = reads in omega arith))
         (λ (ne : slot ≢ p.slot). let e = elsewhere slot ne in omega arith)
 
-    pair : (slot : ℕ) → slot ≡ p.slot → p ≡ held slot (generation_at us slot)
-    pair slot e = let g : p.generation ≡ generation_at us slot = sym reads ∙ ap (generation_at us) (sym e) in λ i. held (sym e i) (g i)
+    pair : (slot : ℕ) → slot ≡ p.slot → p ≡ held_pair slot (generation_at us slot)
+    pair slot e = let g : p.generation ≡ generation_at us slot = sym reads ∙ ap (generation_at us) (sym e) in λ i. held_pair (sym e i) (g i)
 
     cases : (s k : ℕ) (q : Held) → Won (set vs id w) s k q → Won vs s k q ⊎ ((s ≡ id) × (k ≡ length v.won) × (p ≡ q))
     cases s k q st = ⊎_elim
@@ -117,7 +117,7 @@ won_next n ws vs id p v w won here is inside next = record {
         let only = alone (p ∷ []) i.0 p q refl i.2 in let first = only.0 in let far = i.1 in inr (h.0, (omega arith), only.1))
         (at_append v.won (p ∷ []) k q (subst (λ (l : List Held). get_elem? l k ≡ some q) is h.1)))
         (λ (h : (s ≢ id) × Won vs s k q). inl h.1)
-        (stands_set (λ (u : View). u.won) vs id w s k q st)
+        (matches_set (λ (u : View). u.won) vs id w s k q st)
 
     fresh : (s k : ℕ) (q : Held) → Won vs s k q → q.slot ≡ p.slot → q.generation ≡ p.generation → ⊥
     fresh s k q old e d = let low : q.generation ≤ generation_at ws p.slot = subst (λ (x : ℕ). q.generation ≤ generation_at ws x) e (won.reached s k q old) in omega arith

@@ -10,8 +10,8 @@ use Rattle.slot_words.specs.declared.view.View.{View}
 use Rattle.slot_words.specs.Places.{word_of}
 
 -- the pair of a slot and a generation
-abbrev pub held : ℕ → ℕ → Held
-held slot generation = record { slot = slot; generation = generation }
+abbrev pub held_pair : ℕ → ℕ → Held
+held_pair slot generation = record { slot = slot; generation = generation }
 
 -- the table's step number `time` did this at this place, found this number there, and left that one
 abbrev pub sight_at : Kind → ℕ → ℕ → ℕ → ℕ → Sight
@@ -60,16 +60,16 @@ weight n [] = 0
 weight n (k ∷ ks) = 2 ^ (n - k) + weight n ks
 
 -- the pair p is in this list of this seat's view, at this place
-abbrev pub StandsIn : (View → List Held) → List View → ℕ → ℕ → Held → Type 0
-StandsIn part views seat place p = (v : View) × (get_elem? views seat ≡ some v) × (get_elem? (part v) place ≡ some p)
+abbrev pub RepresentsIn : (View → List Held) → List View → ℕ → ℕ → Held → Type 0
+RepresentsIn part views seat place p = (v : View) × (get_elem? views seat ≡ some v) × (get_elem? (part v) place ≡ some p)
 
 -- the seat has this pair
-abbrev pub Stands : List View → ℕ → ℕ → Held → Type 0
-Stands views seat place p = StandsIn (λ v. v.pairs) views seat place p
+abbrev pub HoldsPair : List View → ℕ → ℕ → Held → Type 0
+HoldsPair views seat place p = RepresentsIn (λ v. v.pairs) views seat place p
 
 -- the seat once won this pair
 abbrev pub Won : List View → ℕ → ℕ → Held → Type 0
-Won views seat place p = StandsIn (λ v. v.won) views seat place p
+Won views seat place p = RepresentsIn (λ v. v.won) views seat place p
 
 -- the generation of a slot's word
 abbrev pub generation_at : List ℕ → ℕ → ℕ
@@ -78,7 +78,7 @@ generation_at words slot = slice_index words (word_of slot) / 2
 -- Every pair won has a generation above 0, and none was won twice. Where a slot's word isn't 0 its generation was won by
 -- some seat, and none above it.
 pub record IsWon (slots : ℕ) (words : List ℕ) (views : List View) : Type 0 where
-  pub begun : (slot : ℕ) → slot < slots → 0 < slice_index words (word_of slot) → (seat : ℕ) × (place : ℕ) × Won views seat place (held slot (generation_at words slot))
+  pub begun : (slot : ℕ) → slot < slots → 0 < slice_index words (word_of slot) → (seat : ℕ) × (place : ℕ) × Won views seat place (held_pair slot (generation_at words slot))
   pub counted : (seat place : ℕ) (p : Held) → Won views seat place p → 0 < p.generation
   pub reached : (seat place : ℕ) (p : Held) → Won views seat place p → p.generation ≤ generation_at words p.slot
   pub single : (seat place other spot : ℕ) (p q : Held) → Won views seat place p → Won views other spot q → p.slot ≡ q.slot → p.generation ≡ q.generation → (seat ≡ other) × (place ≡ spot)
@@ -95,16 +95,16 @@ pub record IsLast (step : Sight → Type 0) (place time : ℕ) (s : Sight) : Typ
   pub most : (t : Sight) → step t → t.place ≡ place → t.time < time → t.time ≤ s.time
 
 -- this number is what the last step at this place before this time left there, or 0 where there was none
-pub record IsLeft (step : Sight → Type 0) (place time word : ℕ) : Type 0 where
-  pub told : 0 < word → (s : Sight) × IsLast step place time s × (s.left ≡ word)
+pub record IsLastLeft (step : Sight → Type 0) (place time word : ℕ) : Type 0 where
+  pub reported : 0 < word → (s : Sight) × IsLast step place time s × (s.left ≡ word)
   pub most : (s : Sight) → IsLast step place time s → s.left ≡ word
 
 -- What each kind of step does to the number found. A look leaves it. So does an exchange that lost; one that won found a
 -- free word, and left it held at the next generation. A store found a held word, and left it free.
-abbrev pub IsMove : Kind → ℕ → ℕ → Type 0
-IsMove Look found left = left ≡ found
-IsMove Exchange found left = (left ≡ found) ⊎ ((found % 2 ≡ 0) × (left ≡ found + 3))
-IsMove Store found left = (found % 2 ≡ 1) × (found ≡ left + 1)
+abbrev pub IsTransition : Kind → ℕ → ℕ → Type 0
+IsTransition Look found left = left ≡ found
+IsTransition Exchange found left = (left ≡ found) ⊎ ((found % 2 ≡ 0) × (left ≡ found + 3))
+IsTransition Store found left = (found % 2 ≡ 1) × (found ≡ left + 1)
 
 -- All steps have one order: each has a number up to how many there were, and some step has the last one. Each found exactly
 -- what the one before it at its place had left, 0 at first, and did what its kind does; and what the last one left there
@@ -112,9 +112,9 @@ IsMove Store found left = (found % 2 ≡ 1) × (found ≡ left + 1)
 pub record IsTimed (words : List ℕ) (views : List View) : Type 0 where
   pub past : (s : Sight) → MadeBy views s → s.time ≤ steps views
   pub latest : 0 < steps views → (s : Sight) × MadeBy views s × (s.time ≡ steps views)
-  pub exact : (s : Sight) → MadeBy views s → IsLeft (MadeBy views) s.place s.time s.found
-  pub moves : (s : Sight) → MadeBy views s → IsMove s.kind s.found s.left
-  pub current : (place : ℕ) → IsLeft (MadeBy views) place (steps views + 1) (slice_index words place)
+  pub exact : (s : Sight) → MadeBy views s → IsLastLeft (MadeBy views) s.place s.time s.found
+  pub moves : (s : Sight) → MadeBy views s → IsTransition s.kind s.found s.left
+  pub current : (place : ℕ) → IsLastLeft (MadeBy views) place (steps views + 1) (slice_index words place)
   pub seen : (seat : ℕ) (v : View) → get_elem? views seat ≡ some v → v.sight.time ≤ steps views
 
 -- All shares together are at most the whole right. Who has none made no step.
@@ -127,8 +127,8 @@ pub record IsShared (views : List View) : Type 0 where
 pub record ClaimRule (slots : ℕ) (words : List ℕ) (views : List View) : Type 0 where
   pub wide : length words ≡ slots + 8
   pub low : (i : ℕ) → slice_index words i ≤ 2 ^ 63 + 1
-  pub current : (seat place : ℕ) (p : Held) → Stands views seat place p → slice_index words (word_of p.slot) ≡ 2 * p.generation + 1
-  pub once : (seat place other spot : ℕ) (p q : Held) → Stands views seat place p → Stands views other spot q → p.slot ≡ q.slot → (seat ≡ other) × (place ≡ spot)
+  pub current : (seat place : ℕ) (p : Held) → HoldsPair views seat place p → slice_index words (word_of p.slot) ≡ 2 * p.generation + 1
+  pub once : (seat place other spot : ℕ) (p q : Held) → HoldsPair views seat place p → HoldsPair views other spot q → p.slot ≡ q.slot → (seat ≡ other) × (place ≡ spot)
   pub won : IsWon slots words views
   pub timed : IsTimed words views
   pub shared : IsShared views

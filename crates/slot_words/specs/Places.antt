@@ -7,8 +7,8 @@ abbrev pub word_of : ℕ → ℕ
 word_of slot = slot + 8
 
 -- how many slots a table has
-abbrev pub slots_of : TableId → ℕ
-slots_of table = table.words - 8
+abbrev pub table_slots : TableId → ℕ
+table_slots table = table.words - 8
 
 -- a table that does not exist, for a name that no table has been given yet
 abbrev pub no_table : TableId

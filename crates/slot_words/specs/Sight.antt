@@ -29,5 +29,5 @@ pub record HasTried (slot : ℕ) (before after : View) : Type 0 where
   pub newer : before.sight.time < after.look.time
   pub did : after.sight.kind ≡ Exchange
   pub place : after.sight.place ≡ word_of slot
-  pub behind : after.look.time < after.sight.time
+  pub following : after.look.time < after.sight.time
   pub noted : after.steps ≡ (before.steps ++ after.look ∷ []) ++ after.sight ∷ []

@@ -1,6 +1,6 @@
 // What a claim is, and why one is refused.
 ghost use Rattle.std.specs.Prelude.{◌≡◌, ◌<◌, ◌≤◌, [], ◌∷◌};
-ghost use Rattle.slot_words.specs.Places.{slots_of};
+ghost use Rattle.slot_words.specs.Places.{table_slots};
 ghost use Rattle.slot_words.specs.Refused.{number_of};
 
 use crate::naming::Naming;
@@ -18,15 +18,15 @@ pub struct Claim<N: Naming> {
 impl<N: Naming> Model for Claim<N> {
     ghost use Rattle.std.specs.Prelude.{◌≡◌, ◌<◌, ◌≤◌, ◌^◌, [], ◌∷◌, Contains};
     ghost use Rattle.slot_words.specs.declared.view.Held.{Held};
-    ghost use Rattle.slot_words.specs.ClaimRule.{held, no_sight};
-    ghost use Rattle.slot_words.specs.Places.{slots_of};
+    ghost use Rattle.slot_words.specs.ClaimRule.{held_pair, no_sight};
+    ghost use Rattle.slot_words.specs.Places.{table_slots};
 
     ghost Value = { Held };
 
-    ghost view = { λ c. held c.slot c.generation };
+    ghost view = { λ c. held_pair c.slot c.generation };
 
-    ghost invariant = { λ c. (c.slot < slots_of N.table) × (0 < c.generation) × (c.generation ≤ 2 ^ 62) × (c.seat.table_id ≡ N.table)
-        × (c.seat.me.0.pairs ≡ held c.slot c.generation ∷ []) × (c.seat.me.1 ≡ []) × Contains c.seat.me.0.won (held c.slot c.generation)
+    ghost invariant = { λ c. (c.slot < table_slots N.table) × (0 < c.generation) × (c.generation ≤ 2 ^ 62) × (c.seat.table_id ≡ N.table)
+        × (c.seat.me.0.pairs ≡ held_pair c.slot c.generation ∷ []) × (c.seat.me.1 ≡ []) × Contains c.seat.me.0.won (held_pair c.slot c.generation)
         × (c.seat.me.0.sight ≡ no_sight) × (c.seat.me.0.steps ≡ []) × (c.seat.me.0.shares ≡ []) };
 }
 
@@ -34,7 +34,7 @@ impl<N: Naming> Claim<N> {
     /// The slot's number.
     pub fn slot(&self) -> u16
         ensures same { result ≡ self.now.slot }
-        ensures below { result < slots_of N.table }
+        ensures below { result < table_slots N.table }
     {
         self.slot
     }

@@ -16,11 +16,11 @@ pub struct Pass<N: Naming> {
 
 impl<N: Naming> Model for Pass<N> {
     ghost use Rattle.slot_words.specs.declared.view.View.{View};
-    ghost use Rattle.slot_words.specs.Idle.{IsIdle};
+    ghost use Rattle.slot_words.specs.Idle.{IsIdleSeat};
 
     ghost Value = { View };
 
     ghost view = { λ p. p.seat.me.0 };
 
-    ghost invariant = { λ p. IsIdle N.table p.seat };
+    ghost invariant = { λ p. IsIdleSeat N.table p.seat };
 }

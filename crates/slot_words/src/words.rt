@@ -1,12 +1,12 @@
 // The table of words, and the steps on it.
 ghost use Rattle.std.specs.Prelude.{◌≡◌, ◌≢◌, ◌↔◌, ℕ, ◌+◌, ◌*◌, ◌/◌, ◌%◌, ◌^◌, ◌<◌, ◌≤◌, [], ◌∷◌, length, All, Contains, IfOk, IfErr, None};
-ghost use Rattle.slot_words.specs.Places.{word_of, slots_of};
+ghost use Rattle.slot_words.specs.Places.{word_of, table_slots};
 ghost use Rattle.slot_words.specs.ClaimRule.{opening};
 ghost use Rattle.slot_words.specs.Sight.{HasStepped};
 ghost use Rattle.slot_words.specs.Steps.{kept_half, given_half, both_pairs};
-ghost use Rattle.slot_words.specs.Refused.{HasFreed, IsClaimed, IsRefused, WereRefused, IsFirst, IsMissed};
+ghost use Rattle.slot_words.specs.Refused.{HasFreed, IsAcquired, IsClaimRefused, WereRefused, IsFirstClaim, IsMissed};
 ghost use Rattle.slot_words.specs.declared.view.Kind.TheVariants.{Exchange};
-ghost use Rattle.slot_words.specs.Idle.{IsIdle};
+ghost use Rattle.slot_words.specs.Idle.{IsIdleSeat};
 
 use crate::claim::{Claim, ClaimRefusal, NoneFree};
 use crate::naming::Naming;
@@ -72,7 +72,7 @@ impl TableRefusal {
 impl SlotWords<Brand> {
     /// A table of `slots` slots, all free at generation 0, without a name. No other call allocates.
     pub fn new(alloc: Global, slots: u32) -> Result<Unnamed, TableRefusal>
-        ensures { IfOk result (λ table. slots_of table ≡ slots) }
+        ensures { IfOk result (λ table. table_slots table ≡ slots) }
     {
         let Ok(words) = vec![in alloc; 0; slots as usize + FIRST] else {
             return Err(TableRefusal::Memory);
@@ -134,11 +134,11 @@ impl<N: Naming> SlotWords<N> {
     /// Claims the slot: loads its word once and, where that is free and not spent, tries one compare-exchange to the next
     /// generation, held.
     pub fn claim(&self, pass: &mut Pass<N>, slot: u16) -> Result<Claim<N>, ClaimRefusal>
-        requires { slot < slots_of N.table }
+        requires { slot < table_slots N.table }
         // one look more, and then one exchange, which won the next generation
-        ensures ok { IfOk result (IsClaimed slot pass.old pass.new) }
+        ensures ok { IfOk result (IsAcquired slot pass.old pass.new) }
         // the reason is what one look found, or what one exchange found after it
-        ensures err { IfErr result (IsRefused slot pass.old pass.new) }
+        ensures err { IfErr result (IsClaimRefused slot pass.old pass.new) }
         // the Pass keeps its whole right to step
         ensures shares { pass.new.shares ≡ pass.old.shares }
     {
@@ -157,16 +157,16 @@ impl<N: Naming> SlotWords<N> {
 
     // Where the exchange wins, the claim gets the seat, and another seat that remembers its steps takes its place.
     fn exchange(&self, seat: &mut Sitting, slot: u16, seen: u64) -> Result<Claim<N>, ClaimRefusal>
-        requires slot { slot < slots_of N.table }
+        requires slot { slot < table_slots N.table }
         requires free { seen % 2 ≡ 0 }
         requires lasting { seen < 2 ^ 63 }
-        requires seat { IsIdle N.table seat.old }
+        requires seat { IsIdleSeat N.table seat.old }
         ensures ok { IfOk result (λ c. (c.slot ≡ slot) × (2 * c.generation ≡ seen + 2) × (seat.new.me.0.sight.found ≡ seen)
             × (seat.new.me.0.sight.left ≡ 2 * c.generation + 1)) }
         ensures err { IfErr result (IsMissed seen seat.new.me.0.sight) }
         ensures tried { HasStepped Exchange slot seat.old.me.0 seat.new.me.0 }
         ensures look { seat.new.me.0.look ≡ seat.old.me.0.look }
-        ensures idle { IsIdle N.table seat.new }
+        ensures idle { IsIdleSeat N.table seat.new }
         ensures shares { seat.new.me.0.shares ≡ seat.old.me.0.shares }
     {
         let generation = seen / 2 + 1;
@@ -193,9 +193,9 @@ impl<N: Naming> SlotWords<N> {
 
     /// Tries the listed slots in order, each once, until one is claimed.
     pub fn claim_first(&self, pass: &mut Pass<N>, slots: &[u16]) -> Result<Claim<N>, NoneFree>
-        requires { All (λ s. s < slots_of N.table) slots.now }
+        requires { All (λ s. s < table_slots N.table) slots.now }
         // those before the claimed slot were tried and refused, in order
-        ensures ok { IfOk result (IsFirst slots.now pass.old pass.new) }
+        ensures ok { IfOk result (IsFirstClaim slots.now pass.old pass.new) }
         // all listed slots were tried and refused, and the last refusal is returned
         ensures err { IfErr result (λ e. WereRefused slots.now (length slots.now) pass.old pass.new e.0) }
         ensures empty { IfErr result (λ e. e.0 ≡ None ↔ slots.now ≡ []) }

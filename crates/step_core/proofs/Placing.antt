@@ -11,8 +11,8 @@ use Rattle.flat_machine.specs.declared.refusal.Refusal.TheVariants.{Memory, Gone
 use Rattle.flat_machine.specs.Flat.{Flat, Content, Stored, Holder, Worker, Ticket, Block, IsNewest, same_holder, turned}
 use Rattle.flat_machine.specs.Steps.{Claimed, Released, Committed, Discarded, Refused, Claim, Commit}
 use Rattle.flat_machine.specs.Steps as step
-use Rattle.flat_machine.specs.Cases.{Case, Runs, IsWanted, ClaimCase, FillCase, CopyCase, CommitCase, DiscardCase, ReleaseCase}
-use Rattle.flat_machine.specs.History.{IsStep}
+use Rattle.flat_machine.specs.Cases.{Case, Runs, IsAllocating, ClaimCase, FillCase, CopyCase, CommitCase, DiscardCase, ReleaseCase}
+use Rattle.flat_machine.specs.History.{IsValidStep}
 use Rattle.flat_machine.proofs.Newest.{place_small}
 use Rattle.flat_machine.proofs.Holding.{once_any}
 use Rattle.flat_machine.proofs.Pairs.{Any, IsOnce, equal, itself, turned_here}
@@ -22,7 +22,7 @@ use Rattle.slot_tables.specs.declared.hand.Hand.TheVariants.{Empty, Holds, Waits
 use Rattle.slot_tables.specs.Changes.{IsPlaceOf, MayRefuse, passed_hands, fill_view, copy_view}
 use Rattle.disk_array.specs.Refused.{IsRefused, IsUnplaced}
 use Rattle.extents.specs.declared.header.Kind.{Kind}
-use Rattle.array_parts.specs.Views.{WasPut, WasCopied}
+use Rattle.unit_store.specs.Views.{WasPut, WasCopied}
 use Rattle.slot_tables.specs.Views.{Kept, ArrayView, WorldView, kept_at, hand_at, key_at, has_no_holder, with_parts, SameSizes}
 use Rattle.slot_tables.specs.Represents.{HandSlot, ShowsArray, Represents, is_claim, is_ticket}
 use Rattle.slot_tables.proofs.Hands.{claim_case, release_case, with_hand}
@@ -37,8 +37,8 @@ use Rattle.step_core.specs.declared.place.Given.{Given}
 use Rattle.step_core.specs.declared.place.Given.TheVariants as given
 use Rattle.step_core.specs.declared.claimed.What.{What}
 use Rattle.step_core.specs.declared.claimed.What.TheVariants as what
-use Rattle.step_core.specs.Placing.{Put, Fresh, Again, IsNotPlaced, IsPlaced, IsSizedFor, IsStill, IsWhatFor, IsWhatOf, Places, PutTells, Puts, PutsAtOnce, Denies, Commits, block_for, place_of, put_for, put_of, what_of, put_step, put_answer, back_steps, back_answers}
-use Rattle.step_core.proofs.Worlds.{Stands, fill_hands, fill_world, copy_hands, copy_world, commit_stands, discard_world, refused_world}
+use Rattle.step_core.specs.Placing.{Put, Fresh, Again, IsNotPlaced, IsRelocated, IsSizedFor, IsStill, IsWhatFor, IsWhatOf, Places, PutReports, Puts, PutsAtOnce, Denies, Commits, block_for, record_slot, put_for, put_of, what_of, put_step, put_answer, back_steps, back_answers}
+use Rattle.step_core.proofs.Worlds.{Matches, fill_hands, fill_world, copy_hands, copy_world, commit_matches, discard_world, refused_world}
 
 -- a slot that nobody holds is in nobody's hand
 pub free_hand : (k : Kept) (h : Hand) → has_no_holder k h ≡ true → h ≡ Empty
@@ -85,7 +85,7 @@ goes_back F w s a h k long small held is rep =
     (release_case (record { array = a; hands = h }) F w s (below (length h) s long small) held rep)
 
 -- what a fill or a copy leaves
-put_world : (v : WorldView) (F : Flat) (what : Put) (w s b : ℕ) (a : ArrayView) → s < length v.hands → IsStep F.groups (put_step what w s b) → Represents v F
+put_world : (v : WorldView) (F : Flat) (what : Put) (w s b : ℕ) (a : ArrayView) → s < length v.hands → IsValidStep F.groups (put_step what w s b) → Represents v F
     → is_claim (hand_at v.hands s) w ≡ true → (G : Flat) × (Case F (put_step what w s b) (put_answer what s) G) × (ShowsArray a G)
     → (G : Flat) × (Case F (put_step what w s b) (put_answer what s) G) × (Represents (record { array = a; hands = set v.hands s (Waits w) }) G)
 put_world v F (Fresh x) w s b a inside fits rep held y = fill_world v F w s x a inside fits rep held s refl y
@@ -105,9 +105,9 @@ put_hands v F G (Fresh x) w s b inside rep held case = fill_hands v F G w s x in
 put_hands v F G Again w s b inside rep held case = copy_hands v F G w s b inside rep held case
 
 -- the state that it leaves, though the array needn't show it
-put_stands : (v : WorldView) (F G : Flat) (what : Put) (w s b : ℕ) → s < length v.hands → IsStep F.groups (put_step what w s b) → Represents v F
-    → is_claim (hand_at v.hands s) w ≡ true → Case F (put_step what w s b) (put_answer what s) G → Stands (set v.hands s (Waits w)) v.array G
-put_stands v F G what w s b inside fits rep held case = record {
+put_matches : (v : WorldView) (F G : Flat) (what : Put) (w s b : ℕ) → s < length v.hands → IsValidStep F.groups (put_step what w s b) → Represents v F
+    → is_claim (hand_at v.hands s) w ≡ true → Case F (put_step what w s b) (put_answer what s) G → Matches (set v.hands s (Waits w)) v.array G
+put_matches v F G what w s b inside fits rep held case = record {
   history = step_keeps F G (key_at v.array) (key_at v.array) (put_step what w s b) (put_answer what s) rep.array.history fits case
       (subst (λ rs. IsMapOf rs (key_at v.array)) (sym (put_emits F G what w s b case)) rep.array.history.map);
   groups = put_groups F G what w s b case ∙ rep.array.tables.groups;
@@ -127,7 +127,7 @@ pub record IsOpen (v : WorldView) (what : Put) (s b : ℕ) : Type 0 where
   pub small : s < 65536
   pub long : length v.hands ≡ 65536
   pub free : has_no_holder (kept_at v.array s) (hand_at v.hands s) ≡ true
-  pub fits : (w : ℕ) → IsStep v.array.parts.groups (put_step what w s b)
+  pub fits : (w : ℕ) → IsValidStep v.array.parts.groups (put_step what w s b)
   pub block : b < v.array.parts.groups.blocks
 
 empty_of : (v : WorldView) (what : Put) (s b : ℕ) → IsOpen v what s b → hand_at v.hands s ≡ Empty
@@ -137,19 +137,19 @@ empty_of v what s b ready = free_hand (kept_at v.array s) (hand_at v.hands s) re
 record IsClaimed (v : WorldView) (F : Flat) (what : Put) (w s b : ℕ) : Type 0 where
   state : Flat
   claim : ClaimCase F w s (Claimed s) state
-  stands : Represents (record { array = v.array; hands = claimed_hands v w s }) state
+  matches : Represents (record { array = v.array; hands = claimed_hands v w s }) state
   hand : is_claim (hand_at (claimed_hands v w s) s) w ≡ true
   held : state.held s (Worker w) ≡ true
-  fits : IsStep state.groups (put_step what w s b)
+  fits : IsValidStep state.groups (put_step what w s b)
 
 claimed : (v : WorldView) (F : Flat) (what : Put) (w s b : ℕ) → IsOpen v what s b → Represents v F → IsClaimed v F what w s b
 claimed v F what w s b ready rep = record {
   state = c.0;
   claim = c.1;
-  stands = c.2;
+  matches = c.2;
   hand = hand;
   held = (c.2.hands s).claims w ∙ hand;
-  fits = subst (λ (z : Groups). IsStep z (put_step what w s b)) (sym c.2.array.tables.groups) (ready.fits w);
+  fits = subst (λ (z : Groups). IsValidStep z (put_step what w s b)) (sym c.2.array.tables.groups) (ready.fits w);
 }
   where
     inside : s < length v.hands
@@ -166,7 +166,7 @@ record IsWaiting (v : WorldView) (F : Flat) (a : ArrayView) (what : Put) (w s b 
   before : IsClaimed v F what w s b
   state : Flat
   put : Case before.state (put_step what w s b) (put_answer what s) state
-  stands : Represents (record { array = a; hands = waiting_hands v w s }) state
+  matches : Represents (record { array = a; hands = waiting_hands v w s }) state
   hand : is_ticket (hand_at (waiting_hands v w s) s) w ≡ true
   held : state.held s (Ticket w) ≡ true
   emitted : state.emitted ≡ F.emitted
@@ -176,7 +176,7 @@ waiting v F a what w s b ready rep puts = record {
   before = c;
   state = p.0;
   put = p.1;
-  stands = p.2;
+  matches = p.2;
   hand = hand;
   held = (p.2.hands s).tickets w ∙ hand;
   emitted = put_emits c.state p.0 what w s b p.1 ∙ ap (λ (x : Flat). x.emitted) c.claim.2.same;
@@ -189,7 +189,7 @@ waiting v F a what w s b ready rep puts = record {
     inside = below (length (claimed_hands v w s)) s (many v.hands s (Holds w) ready.long) ready.small
 
     p : (G : Flat) × (Case c.state (put_step what w s b) (put_answer what s) G) × (Represents (record { array = a; hands = waiting_hands v w s }) G)
-    p = put_world (record { array = v.array; hands = claimed_hands v w s }) c.state what w s b a inside c.fits c.stands c.hand (puts c.state w c.stands.array c.held)
+    p = put_world (record { array = v.array; hands = claimed_hands v w s }) c.state what w s b a inside c.fits c.matches c.hand (puts c.state w c.matches.array c.held)
 
     hand : is_ticket (hand_at (waiting_hands v w s) s) w ≡ true
     hand = waits_it (claimed_hands v w s) s w inside
@@ -207,14 +207,14 @@ record IsBetween (v : WorldView) (F : Flat) (a : ArrayView) (what : Put) (w s b 
   before : IsClaimed v F what w s b
   state : Flat
   put : Case before.state (put_step what w s b) (put_answer what s) state
-  stands : Stands (waiting_hands v w s) a state
+  matches : Matches (waiting_hands v w s) a state
   hand : is_ticket (hand_at (waiting_hands v w s) s) w ≡ true
   emitted : state.emitted ≡ F.emitted
 
 -- a commit that was carried out: the old place is released, if the block had one
 commits_then : (v : WorldView) (F : Flat) (a e : ArrayView) (what : Put) (w s b : ℕ) (r : Record) → IsOpen v what s b → b < a.parts.groups.blocks
     → (x : IsBetween v F a what w s b) → (G : Flat) × (CommitCase x.state w s b (Committed r) G) × (ShowsArray e G)
-    → (G : Flat) × ((is : IsPlaced F w s b what r G) × (is.old ≡ record_at b (key_at a b))) × (Represents (record { array = e; hands = v.hands }) G)
+    → (G : Flat) × ((is : IsRelocated F w s b what r G) × (is.old ≡ record_at b (key_at a b))) × (Represents (record { array = e; hands = v.hands }) G)
 commits_then v F a e what w s b r ready block x commits = (
   g.0,
   (
@@ -238,16 +238,16 @@ commits_then v F a e what w s b r ready block x commits = (
     found = record_at b (key_at a b)
 
     newest : IsNewest x.state.emitted b found
-    newest = flat.newest_told x.state.emitted (key_at a) b x.stands.history.records x.stands.history.map
+    newest = flat.newest_reported x.state.emitted (key_at a) b x.matches.history.records x.matches.history.map
 
     there : b < x.state.groups.blocks
-    there = subst (λ (z : Groups). b < z.blocks) (sym x.stands.groups) block
+    there = subst (λ (z : Groups). b < z.blocks) (sym x.matches.groups) block
 
     c : (G : Flat) × (CommitCase x.state w s b (Committed r) G) × (Represents (record { array = e; hands = passed_hands hands s w found }) G)
-    c = commit_stands hands a x.state w s b r e ready.small there long x.stands x.hand commits
+    c = commit_matches hands a x.state w s b r e ready.small there long x.matches x.hand commits
 
     passes : Passes Any x.state w s b found
-    passes = passed Any x.state (key_at a) w s b found (once_any x.state x.stands.held) tt tt x.stands.history newest ((x.stands.hands s).tickets w ∙ x.hand)
+    passes = passed Any x.state (key_at a) w s b found (once_any x.state x.matches.held) tt tt x.matches.history newest ((x.matches.hands s).tickets w ∙ x.hand)
 
     none : set hands s Empty ≡ v.hands
     none = set_twice (claimed_hands v w s) s (Waits w) Empty ∙ hand_back v.hands s (Holds w) (empty_of v what s b ready)
@@ -255,12 +255,12 @@ commits_then v F a e what w s b r ready block x commits = (
     old : (q : Record) → found ≡ Some q → hand_at v.hands q.place ≡ Empty
     old q is =
         sym (get_or-set_other (claimed_hands v w s) s q.place (Waits w) Empty (passes.apart q is) ∙ get_or-set_other v.hands s q.place (Holds w) Empty (passes.apart q is))
-        ∙ block_hand (hand_at hands q.place) (x.state.held q.place) b (x.stands.hands q.place) (once_any x.state x.stands.held q.place) (passes.held q is)
+        ∙ block_hand (hand_at hands q.place) (x.state.held q.place) b (x.matches.hands q.place) (once_any x.state x.matches.held q.place) (passes.held q is)
 
     back : (o : Option Record) → found ≡ o → Represents (record { array = e; hands = passed_hands hands s w o }) c.0
         → (G : Flat) × (Runs c.0 (back_steps w o) (back_answers o) G) × (Represents (record { array = e; hands = v.hands }) G)
-    back None is stands = (c.0, refl, subst (λ (l : List Hand). Represents (record { array = e; hands = l }) c.0) none stands)
-    back (Some q) is stands =
+    back None is matches = (c.0, refl, subst (λ (l : List Hand). Represents (record { array = e; hands = l }) c.0) none matches)
+    back (Some q) is matches =
         let small : q.place < 65536 = place_small b (key_at a b) q is in
         let given = set (set hands s Empty) q.place (Holds w) in
         let room : length (set hands s Empty) ≡ 65536 = many hands s Empty long in
@@ -268,7 +268,7 @@ commits_then v F a e what w s b r ready block x commits = (
         ap (λ (l : List Hand). set (set l q.place (Holds w)) q.place Empty) none ∙ hand_back v.hands q.place (Holds w) (old q is)
         in
         let y = goes_back c.0 w q.place e given v.hands (many (set hands s Empty) q.place (Holds w) room) small
-        (holds_it (set hands s Empty) q.place w (below (length (set hands s Empty)) q.place room small)) gone stands
+        (holds_it (set hands s Empty) q.place w (below (length (set hands s Empty)) q.place room small)) gone matches
         in
         (y.0, (y.0, y.1, refl), y.2)
 
@@ -277,7 +277,7 @@ commits_then v F a e what w s b r ready block x commits = (
 
 -- a put and its commit in one write
 pub places_at_once : (v : WorldView) (F : Flat) (e : ArrayView) (what : Put) (w s b : ℕ) (r : Record) → IsOpen v what s b → Represents v F → PutsAtOnce v.array e what s b r
-    → (G : Flat) × ((is : IsPlaced F w s b what r G) × (is.old ≡ record_at b (key_at v.array b))) × (Represents (record { array = e; hands = v.hands }) G)
+    → (G : Flat) × ((is : IsRelocated F w s b what r G) × (is.old ≡ record_at b (key_at v.array b))) × (Represents (record { array = e; hands = v.hands }) G)
 places_at_once v F e what w s b r ready rep puts = commits_then v F v.array e what w s b r ready ready.block x (p.2.0, p.2.1, p.2.2)
   where
     c : IsClaimed v F what w s b
@@ -287,14 +287,14 @@ places_at_once v F e what w s b r ready rep puts = commits_then v F v.array e wh
     inside = below (length (claimed_hands v w s)) s (many v.hands s (Holds w) ready.long) ready.small
 
     p : ArePutAtOnce c.state (put_step what w s b) (put_answer what s) w s b r e
-    p = puts c.state w c.stands.array c.held
+    p = puts c.state w c.matches.array c.held
 
     x : IsBetween v F v.array what w s b
     x = record {
       before = c;
       state = p.0;
       put = p.1;
-      stands = put_stands (record { array = v.array; hands = claimed_hands v w s }) c.state p.0 what w s b inside c.fits c.stands c.hand p.1;
+      matches = put_matches (record { array = v.array; hands = claimed_hands v w s }) c.state p.0 what w s b inside c.fits c.matches c.hand p.1;
       hand = waits_it (claimed_hands v w s) s w inside;
       emitted = put_emits c.state p.0 what w s b p.1 ∙ ap (λ (x : Flat). x.emitted) c.claim.2.same;
     }
@@ -302,7 +302,7 @@ places_at_once v F e what w s b r ready rep puts = commits_then v F v.array e wh
 -- a fill or a copy that was refused: the claim is released
 pub refused_first : (v : WorldView) (F : Flat) (a : ArrayView) (what : Put) (w s b : ℕ) (r : Refusal) → IsOpen v what s b → Represents v F → Denies v.array a what s b r → r ≢ Memory
     → (G : Flat) × (Places F w s b what (Err (denied.Refused r)) G) × (Represents (record { array = a; hands = v.hands }) G)
-refused_first v F a what w s b r ready rep denies some = go r (denies c.state w c.stands.array c.held) some
+refused_first v F a what w s b r ready rep denies some = go r (denies c.state w c.matches.array c.held) some
   where
     c : IsClaimed v F what w s b
     c = claimed v F what w s b ready rep
@@ -314,24 +314,24 @@ refused_first v F a what w s b r ready rep denies some = go r (denies c.state w 
     gone = hand_back v.hands s (Holds w) (empty_of v what s b ready)
 
     back : (H : Flat) → Represents (record { array = a; hands = hands }) H → (G : Flat) × (ReleaseCase H w s (Released s) G) × (Represents (record { array = a; hands = v.hands }) G)
-    back H stands = goes_back H w s a hands v.hands (many v.hands s (Holds w) ready.long) ready.small c.hand gone stands
+    back H matches = goes_back H w s a hands v.hands (many v.hands s (Holds w) ready.long) ready.small c.hand gone matches
 
     go : (k : Refusal) → MayRefuse k (Unit {0}) ((G : Flat) × (Case c.state (put_step what w s b) (Refused k) G) × (ShowsArray a G)) → k ≢ Memory
         → (G : Flat) × (Places F w s b what (Err (denied.Refused k)) G) × (Represents (record { array = a; hands = v.hands }) G)
     go Memory may ne = absurd (ne refl)
     go k may ne =
-        let d = refused_world (record { array = v.array; hands = hands }) c.state (put_step what w s b) k a c.fits c.stands may in
+        let d = refused_world (record { array = v.array; hands = hands }) c.state (put_step what w s b) k a c.fits c.matches may in
         let y = back d.0 d.2 in
         (y.0, inl (c.state, c.claim, (d.0, d.1, (y.0, y.1, refl))), y.2)
 
 -- a commit that was refused: the ticket is discarded, and its claim is released
 pub refused_last : (v : WorldView) (F : Flat) (a e k : ArrayView) (what : Put) (w s b : ℕ) (r : Refusal) → IsOpen v what s b → b < a.parts.groups.blocks → Represents v F
     → Puts v.array a what s b
-    → ((H : Flat) (u : ℕ) → ShowsArray a H → H.held s (Ticket u) ≡ true → MayRefuse r (IsWanted H (Commit u s b)) ((G : Flat) × (CommitCase H u s b (Refused r) G) × (ShowsArray e G)))
+    → ((H : Flat) (u : ℕ) → ShowsArray a H → H.held s (Ticket u) ≡ true → MayRefuse r (IsAllocating H (Commit u s b)) ((G : Flat) × (CommitCase H u s b (Refused r) G) × (ShowsArray e G)))
     → (r ≡ Memory → e ≡ a)
     → ((H : Flat) (u : ℕ) → ShowsArray e H → H.held s (Ticket u) ≡ true → (G : Flat) × (DiscardCase H u s (Discarded s) G) × (ShowsArray k G))
     → (G : Flat) × (Places F w s b what (Err (denied.Refused r)) G) × (Represents (record { array = k; hands = v.hands }) G)
-refused_last v F a e k what w s b r ready block rep puts denies same ends = go r (denies x.state w x.stands.array x.held) same
+refused_last v F a e k what w s b r ready block rep puts denies same ends = go r (denies x.state w x.matches.array x.held) same
   where
     x : IsWaiting v F a what w s b
     x = waiting v F a what w s b ready rep puts
@@ -343,13 +343,13 @@ refused_last v F a e k what w s b r ready block rep puts denies same ends = go r
     long = long_waiting v w s ready.long
 
     there : b < x.state.groups.blocks
-    there = subst (λ (z : Groups). b < z.blocks) (sym x.stands.array.tables.groups) block
+    there = subst (λ (z : Groups). b < z.blocks) (sym x.matches.array.tables.groups) block
 
     back : (H : Flat) → Represents (record { array = e; hands = hands }) H
         → (M : Flat) × (DiscardCase H w s (Discarded s) M) × ((G : Flat) × (ReleaseCase M w s (Released s) G) × (Represents (record { array = k; hands = v.hands }) G))
-    back H stands =
-        let d = discard_world (record { array = e; hands = hands }) H w s k (below (length hands) s long ready.small) stands x.hand s refl
-        (ends H w stands.array ((stands.hands s).tickets w ∙ x.hand))
+    back H matches =
+        let d = discard_world (record { array = e; hands = hands }) H w s k (below (length hands) s long ready.small) matches x.hand s refl
+        (ends H w matches.array ((matches.hands s).tickets w ∙ x.hand))
         in (
           d.0,
           d.1,
@@ -357,13 +357,13 @@ refused_last v F a e k what w s b r ready block rep puts denies same ends = go r
               (waited v w s (Holds w) (empty_of v what s b ready)) d.2,
         )
 
-    go : (k_is : Refusal) → MayRefuse k_is (IsWanted x.state (Commit w s b)) ((G : Flat) × (CommitCase x.state w s b (Refused k_is) G) × (ShowsArray e G)) → (k_is ≡ Memory → e ≡ a)
+    go : (k_is : Refusal) → MayRefuse k_is (IsAllocating x.state (Commit w s b)) ((G : Flat) × (CommitCase x.state w s b (Refused k_is) G) × (ShowsArray e G)) → (k_is ≡ Memory → e ≡ a)
         → (G : Flat) × (Places F w s b what (Err (denied.Refused k_is)) G) × (Represents (record { array = k; hands = v.hands }) G)
     go Memory may was =
-        let y = back x.state (subst (λ (z : ArrayView). Represents (record { array = z; hands = hands }) x.state) (sym (was refl)) x.stands) in
-        (y.2.0, record { run = (x.before.state, x.before.claim, (x.state, x.put, (y.0, y.1, (y.2.0, y.2.1, refl)))); wanted = may }, y.2.2)
+        let y = back x.state (subst (λ (z : ArrayView). Represents (record { array = z; hands = hands }) x.state) (sym (was refl)) x.matches) in
+        (y.2.0, record { run = (x.before.state, x.before.claim, (x.state, x.put, (y.0, y.1, (y.2.0, y.2.1, refl)))); expected = may }, y.2.2)
     go k_is may was =
-        let d = refused_world (record { array = a; hands = hands }) x.state (Commit w s b) k_is e there x.stands may in
+        let d = refused_world (record { array = a; hands = hands }) x.state (Commit w s b) k_is e there x.matches may in
         let y = back d.0 d.2 in
         (y.2.0, inr (x.before.state, x.before.claim, (x.state, x.put, (d.0, d.1, (y.0, y.1, (y.2.0, y.2.1, refl))))), y.2.2)
 
@@ -381,14 +381,14 @@ given_fits z None b v is block fits = subst (IsWhatFor z.blocks z.payload) (sym 
 pub puts_fill : {C : Type 0} (F : Flat) (w s b : ℕ) (x : Content) (a : ArrayView) (r : Result ℕ (Refusal × C)) (W : Type 0) → IfOk r (λ t. t ≡ s)
     → MatchResult r (λ t. (G : Flat) × (FillCase F w t x (step.Filled t) G) × (ShowsArray a G))
     (λ e. MayRefuse e.0 W ((G : Flat) × (FillCase F w s x (Refused e.0) G) × (ShowsArray a G)))
-    → PutTells r F w (Fresh x) s b a
+    → PutReports r F w (Fresh x) s b a
 puts_fill F w s b x a (Ok t) W is y = subst (λ n. (G : Flat) × (FillCase F w n x (step.Filled n) G) × (ShowsArray a G)) is y
 puts_fill F w s b x a (Err e) W is y = may_less e.0 W ((G : Flat) × (FillCase F w s x (Refused e.0) G) × (ShowsArray a G)) y
 
 pub puts_copy : {C : Type 0} (F : Flat) (w s b : ℕ) (a : ArrayView) (r : Result ℕ (Refusal × C)) (W : Type 0) → IfOk r (λ t. t ≡ s)
     → MatchResult r (λ t. (G : Flat) × (CopyCase F w t b (step.Copied t) G) × (ShowsArray a G))
     (λ e. MayRefuse e.0 W ((G : Flat) × (CopyCase F w s b (Refused e.0) G) × (ShowsArray a G)))
-    → PutTells r F w Again s b a
+    → PutReports r F w Again s b a
 puts_copy F w s b a (Ok t) W is y = subst (λ n. (G : Flat) × (CopyCase F w n b (step.Copied n) G) × (ShowsArray a G)) is y
 puts_copy F w s b a (Err e) W is y = may_less e.0 W ((G : Flat) × (CopyCase F w s b (Refused e.0) G) × (ShowsArray a G)) y
 
@@ -411,7 +411,7 @@ copy_still A B (Ok t) claim a b ok err = record { groups = ok.1.4.rest.groups; k
 copy_still A B (Err e) claim a b ok err = refused_still a b e.0 err.1
 
 -- what is given has numbers in range
-sized : (z : Groups) (x : Option Given) (s b : ℕ) → s < 65536 → b < z.blocks → IsSizedFor z.payload x → (w : ℕ) → IsStep z (put_step (put_of x) w s b)
+sized : (z : Groups) (x : Option Given) (s b : ℕ) → s < 65536 → b < z.blocks → IsSizedFor z.payload x → (w : ℕ) → IsValidStep z (put_step (put_of x) w s b)
 sized z None s b small block fits w = (small, block)
 sized z (Some (given.Payload payload)) s b small block fits w = (small, fits)
 sized z (Some given.Trim) s b small block fits w = (small, tt)
@@ -430,9 +430,9 @@ opened u v x s b is small long free block fits =
 
 -- what was placed, as the call reports it
 pub places_as : {C : Type 0} (names : C → ℕ) (F : Flat) (v : WorldView) (what : Put) (w s b : ℕ) (r n : Record) (claim : Option C) (found : Option Record) (left : Option ℕ) → n ≡ r
-    → ((old : Option Record) → IsPlaceOf names claim old → left ≡ place_of old) → IsPlaceOf names claim found
-    → (G : Flat) × ((is : IsPlaced F w s b what r G) × (is.old ≡ found)) × (Represents v G)
-    → (G : Flat) × ((is : IsPlaced F w s b what n G) × (left ≡ place_of is.old)) × (Represents v G)
+    → ((old : Option Record) → IsPlaceOf names claim old → left ≡ record_slot old) → IsPlaceOf names claim found
+    → (G : Flat) × ((is : IsRelocated F w s b what r G) × (is.old ≡ found)) × (Represents v G)
+    → (G : Flat) × ((is : IsRelocated F w s b what n G) × (left ≡ record_slot is.old)) × (Represents v G)
 places_as names F v what w s b r n claim found left newest is_left at y = (
   y.0,
   (
@@ -450,10 +450,10 @@ places_as names F v what w s b r n claim found left newest is_left at y = (
     old = y.1.0.old
 
 -- what is said of a refusal, if there is one, with nothing said of a call that ran out of memory
-pub less_told : {T C : Type 0} (A : T → Type 0) (W : Type 0) (P : Refusal → Type 0) (r : Result T (Option Refusal × C))
+pub less_reported : {T C : Type 0} (A : T → Type 0) (W : Type 0) (P : Refusal → Type 0) (r : Result T (Option Refusal × C))
     → MatchResult r A (λ e. IfSome e.0 (λ q. MayRefuse q W (P q))) → MatchResult r A (λ e. IfSome e.0 (λ q. MayRefuse q (Unit {0}) (P q)))
-less_told A W P (Ok t) y = y
-less_told A W P (Err e) y = less e.0 y
+less_reported A W P (Ok t) y = y
+less_reported A W P (Err e) y = less e.0 y
   where
     less : (o : Option Refusal) → IfSome o (λ q. MayRefuse q W (P q)) → IfSome o (λ q. MayRefuse q (Unit {0}) (P q))
     less None y = y
@@ -514,10 +514,10 @@ refused_then v F e what w s b q ready rep (inr late) =
 
 -- a put tells the same of the block that it is for
 pub put_of_block : {C : Type 0} (v : What) (b : ℕ) (r : Result ℕ (Refusal × C)) (F : Flat) (w s : ℕ) (a : ArrayView) → IsWhatOf b v
-    → PutTells r F w (put_for v) s (block_for v) a → PutTells r F w (put_for v) s b a
+    → PutReports r F w (put_for v) s (block_for v) a → PutReports r F w (put_for v) s b a
 put_of_block (what.Fresh x) b (Ok t) F w s a of y = y
 put_of_block (what.Fresh x) b (Err e) F w s a of y = y
-put_of_block (what.CopyOf n) b r F w s a of y = subst (λ m. PutTells r F w Again s m a) of y
+put_of_block (what.CopyOf n) b r F w s a of y = subst (λ m. PutReports r F w Again s m a) of y
 
 pub same_block : (b : ℕ) (v : What) (n : ℕ) → v ≡ what.CopyOf n → IsWhatOf b v → n ≡ b
 same_block b v n is of = subst (IsWhatOf b) is of

@@ -6,13 +6,13 @@ use Rattle.map_join.specs.declared.records.Record.{Record}
 use Rattle.extent_groups.specs.Groups.{Groups}
 use Rattle.extent_groups.specs.declared.class.Class.{Class}
 use Rattle.extent_groups.specs.declared.class.Member.{Member}
-use Rattle.array_parts.specs.Views.{Entered}
+use Rattle.unit_store.specs.Views.{Entered}
 use Rattle.flat_machine.specs.declared.refusal.Refusal.{Refusal}
 use Rattle.flat_machine.specs.declared.refusal.Refusal.TheVariants.{Memory, Gone, DriveLost}
 use Rattle.flat_machine.specs.Flat.{Flat}
 use Rattle.flat_machine.specs.Steps.{FlatStep, Seen, Read, Found, MoveExtent, MovedExtent, Refused}
-use Rattle.flat_machine.specs.Cases.{Case, MoveCase, ReadCase, IsWanted}
-use Rattle.flat_machine.specs.History.{IsStep}
+use Rattle.flat_machine.specs.Cases.{Case, MoveCase, ReadCase, IsAllocating}
+use Rattle.flat_machine.specs.History.{IsValidStep}
 use Rattle.slot_tables.specs.Changes.{MayRefuse}
 use Rattle.slot_tables.specs.Reads.{WasNotRead, WasSeen}
 use Rattle.slot_tables.specs.Represents.{ShowsArray, Represents}
@@ -22,7 +22,7 @@ use Rattle.step_core.specs.declared.step.Answer.{Answer}
 use Rattle.step_core.specs.declared.step.Answer.TheVariants as answer
 use Rattle.disk_array.specs.Reads.{WasFound, WasFoundIn, WasNotFound, version_in}
 use Rattle.disk_array.specs.Refused.{IsRefused, OnlyLoses}
-use Rattle.step_core.specs.Told.{flat_answer, read_answer}
+use Rattle.step_core.specs.Reported.{flat_answer, read_answer}
 use Rattle.step_core.proofs.Worlds.{stays_world, refused_world, move_world}
 
 -- what a refusal means, if it is not out of memory, and if it is
@@ -30,8 +30,8 @@ pub refused_of : (r : Refusal) (W P : Type 0) → MayRefuse r W P → r ≢ Memo
 refused_of Memory W P may ne = absurd (ne refl)
 refused_of _ W P may ne = may
 
-pub wanted_of : (r : Refusal) (W P : Type 0) → MayRefuse r W P → r ≡ Memory → W
-wanted_of r W P may is = subst (λ q. MayRefuse q W P) is may
+pub expected_of : (r : Refusal) (W P : Type 0) → MayRefuse r W P → r ≡ Memory → W
+expected_of r W P may is = subst (λ q. MayRefuse q W P) is may
 
 -- a refusal that isn't out of memory is an answer
 pub answered : (result : Result Answer AllocError) (r : Refusal) → OnErr result (r ≡ Memory) → r ≢ Memory → IsOk result
@@ -60,53 +60,53 @@ refused_same a b r is memory = subst (IsRefused a b) memory is
 pub record WasStep (v w : WorldView) (step : FlatStep) (result : Result Answer AllocError) : Type 0 where
   pub ok : IfOk result (λ answer. (F : Flat) → Represents v F → (G : Flat) × (Case F step (flat_answer answer) G) × (Represents w G))
   pub err : OnErr result (w ≡ v)
-  pub wants : OnErr result ((F : Flat) → Represents v F → IsWanted F step)
+  pub needs : OnErr result ((F : Flat) → Represents v F → IsAllocating F step)
   pub room : SameSizes v.array w.array
 
 -- a step that was refused
 pub was_refused : (v w : WorldView) (a : ArrayView) (step : FlatStep) (r : Refusal) (result : Result Answer AllocError) → w ≡ record { array = a; hands = v.hands }
-    → IfOk result (λ told. (told ≡ answer.Refused r) × (r ≢ Memory)) → OnErr result (r ≡ Memory)
-    → ((F : Flat) → Represents v F → IsStep F.groups step)
+    → IfOk result (λ reported. (reported ≡ answer.Refused r) × (r ≢ Memory)) → OnErr result (r ≡ Memory)
+    → ((F : Flat) → Represents v F → IsValidStep F.groups step)
     → SameSizes v.array a → (r ≡ Memory → a ≡ v.array)
-    → ((F : Flat) → Represents v F → MayRefuse r (IsWanted F step) ((G : Flat) × (Case F step (Refused r) G) × (ShowsArray a G)))
+    → ((F : Flat) → Represents v F → MayRefuse r (IsAllocating F step) ((G : Flat) × (Case F step (Refused r) G) × (ShowsArray a G)))
     → WasStep v w step result
-was_refused v w a step r (Ok told) is ok err fits sizes same may = record {
-  ok = λ F rep. as_world (λ G. Case F step (flat_answer told) G) w (record { array = a; hands = v.hands }) is
+was_refused v w a step r (Ok reported) is ok err fits sizes same may = record {
+  ok = λ F rep. as_world (λ G. Case F step (flat_answer reported) G) w (record { array = a; hands = v.hands }) is
       (subst (λ x. (G : Flat) × (Case F step (flat_answer x) G) × (Represents (record { array = a; hands = v.hands }) G)) (sym ok.0)
       (refused_world v F step r a (fits F rep) rep
-      (refused_of r (IsWanted F step) ((G : Flat) × (Case F step (Refused r) G) × (ShowsArray a G)) (may F rep) ok.1)));
+      (refused_of r (IsAllocating F step) ((G : Flat) × (Case F step (Refused r) G) × (ShowsArray a G)) (may F rep) ok.1)));
   err = tt;
-  wants = tt;
+  needs = tt;
   room = subst (λ (x : WorldView). SameSizes v.array x.array) (sym is) sizes;
 }
 was_refused v w a step r (Err e) is ok err fits sizes same may = record {
   ok = tt;
   err = is ∙ ap (λ x. record { array = x; hands = v.hands }) (same err);
-  wants = λ F rep. wanted_of r (IsWanted F step) ((G : Flat) × (Case F step (Refused r) G) × (ShowsArray a G)) (may F rep) err;
+  needs = λ F rep. expected_of r (IsAllocating F step) ((G : Flat) × (Case F step (Refused r) G) × (ShowsArray a G)) (may F rep) err;
   room = subst (λ (x : WorldView). SameSizes v.array x.array) (sym is) sizes;
 }
 
 -- a call of the world itself that was refused
 pub step_refused : (v w : WorldView) (step : FlatStep) (r : Refusal) (result : Result Answer AllocError)
-    → IfOk result (λ told. (told ≡ answer.Refused r) × (r ≢ Memory)) → OnErr result (r ≡ Memory) → SameSizes v.array w.array → (r ≡ Memory → w ≡ v)
-    → ((F : Flat) → Represents v F → MayRefuse r (IsWanted F step) ((G : Flat) × (Case F step (Refused r) G) × (Represents w G)))
+    → IfOk result (λ reported. (reported ≡ answer.Refused r) × (r ≢ Memory)) → OnErr result (r ≡ Memory) → SameSizes v.array w.array → (r ≡ Memory → w ≡ v)
+    → ((F : Flat) → Represents v F → MayRefuse r (IsAllocating F step) ((G : Flat) × (Case F step (Refused r) G) × (Represents w G)))
     → WasStep v w step result
-step_refused v w step r (Ok told) ok err sizes same may = record {
+step_refused v w step r (Ok reported) ok err sizes same may = record {
   ok = λ F rep. subst (λ x. (G : Flat) × (Case F step (flat_answer x) G) × (Represents w G)) (sym ok.0)
-      (refused_of r (IsWanted F step) ((G : Flat) × (Case F step (Refused r) G) × (Represents w G)) (may F rep) ok.1);
+      (refused_of r (IsAllocating F step) ((G : Flat) × (Case F step (Refused r) G) × (Represents w G)) (may F rep) ok.1);
   err = tt;
-  wants = tt;
+  needs = tt;
   room = sizes;
 }
 step_refused v w step r (Err e) ok err sizes same may = record {
   ok = tt;
   err = same err;
-  wants = λ F rep. wanted_of r (IsWanted F step) ((G : Flat) × (Case F step (Refused r) G) × (Represents w G)) (may F rep) err;
+  needs = λ F rep. expected_of r (IsAllocating F step) ((G : Flat) × (Case F step (Refused r) G) × (Represents w G)) (may F rep) err;
   room = sizes;
 }
 
 -- what an array may refuse, its world may
-refused_may : (v : WorldView) (F : Flat) (step : FlatStep) (r : Refusal) (a : ArrayView) (W : Type 0) → IsStep F.groups step → Represents v F
+refused_may : (v : WorldView) (F : Flat) (step : FlatStep) (r : Refusal) (a : ArrayView) (W : Type 0) → IsValidStep F.groups step → Represents v F
     → MayRefuse r W ((G : Flat) × (Case F step (Refused r) G) × (ShowsArray a G))
     → MayRefuse r W ((G : Flat) × (Case F step (Refused r) G) × (Represents (record { array = a; hands = v.hands }) G))
 refused_may v F step Memory a W fits rep may = may
@@ -115,16 +115,16 @@ refused_may v F step r a W fits rep may = refused_world v F step r a fits rep ma
 -- a member that was moved, or wasn't
 pub moves : (u v : WorldView) (a : ArrayView) (g k : ℕ) (to : Member) (result : Result (Unit {0}) Refusal) → u ≡ v
     → ((F : Flat) → ShowsArray u.array F → MatchResult result (λ done. (G : Flat) × (MoveCase F g k to MovedExtent G) × (ShowsArray a G))
-    (λ r. MayRefuse r (IsWanted F (MoveExtent g k to)) ((G : Flat) × (MoveCase F g k to (Refused r) G) × (ShowsArray a G))))
+    (λ r. MayRefuse r (IsAllocating F (MoveExtent g k to)) ((G : Flat) × (MoveCase F g k to (Refused r) G) × (ShowsArray a G))))
     → (F : Flat) → Represents v F
     → MatchResult result (λ done. (G : Flat) × (MoveCase F g k to MovedExtent G) × (Represents (record { array = a; hands = u.hands }) G))
-    (λ r. MayRefuse r (IsWanted F (MoveExtent g k to)) ((G : Flat) × (MoveCase F g k to (Refused r) G) × (Represents (record { array = a; hands = u.hands }) G)))
+    (λ r. MayRefuse r (IsAllocating F (MoveExtent g k to)) ((G : Flat) × (MoveCase F g k to (Refused r) G) × (Represents (record { array = a; hands = u.hands }) G)))
 moves u v a g k to (Ok done) is does F rep =
     let as_u = subst (λ (w : WorldView). Represents w F) (sym is) rep in
     move_world u F g k to a as_u (does F as_u.array)
 moves u v a g k to (Err r) is does F rep =
     let as_u = subst (λ (w : WorldView). Represents w F) (sym is) rep in
-    refused_may u F (MoveExtent g k to) r a (IsWanted F (MoveExtent g k to)) tt as_u (does F as_u.array)
+    refused_may u F (MoveExtent g k to) r a (IsAllocating F (MoveExtent g k to)) tt as_u (does F as_u.array)
 
 -- what is known of a world is known of one that is equal
 sizes_of : (u v : WorldView) (a : ArrayView) → u ≡ v → SameSizes u.array a → SameSizes v.array a
@@ -134,26 +134,26 @@ shows_of : (u v : WorldView) (F : Flat) → u ≡ v → Represents v F → Shows
 shows_of u v F is rep = subst (λ (x : WorldView). ShowsArray x.array F) (sym is) rep.array
 
 -- a step that the array carried out, and the hands stay
-pub array_done : (u v : WorldView) (a : ArrayView) (step : FlatStep) (told : Answer) (result : Result Answer AllocError) → u ≡ v → result ≡ Ok told → SameSizes u.array a
-    → ((F : Flat) → Represents v F → ShowsArray u.array F → (G : Flat) × (Case F step (flat_answer told) G) × (Represents (record { array = a; hands = v.hands }) G))
+pub array_done : (u v : WorldView) (a : ArrayView) (step : FlatStep) (reported : Answer) (result : Result Answer AllocError) → u ≡ v → result ≡ Ok reported → SameSizes u.array a
+    → ((F : Flat) → Represents v F → ShowsArray u.array F → (G : Flat) × (Case F step (flat_answer reported) G) × (Represents (record { array = a; hands = v.hands }) G))
     → WasStep v (record { array = a; hands = u.hands }) step result
-array_done u v a step told result is answered sizes does = subst (WasStep v (record { array = a; hands = u.hands }) step) (sym answered) (record {
-  ok = λ F rep. as_world (λ G. Case F step (flat_answer told) G) (record { array = a; hands = u.hands }) (record { array = a; hands = v.hands })
+array_done u v a step reported result is answered sizes does = subst (WasStep v (record { array = a; hands = u.hands }) step) (sym answered) (record {
+  ok = λ F rep. as_world (λ G. Case F step (flat_answer reported) G) (record { array = a; hands = u.hands }) (record { array = a; hands = v.hands })
       (ap (λ (x : WorldView). record { array = a; hands = x.hands }) is) (does F rep (shows_of u v F is rep));
   err = tt;
-  wants = tt;
+  needs = tt;
   room = sizes_of u v a is sizes;
 })
 
 -- and one that it refused
-pub array_refused : (u v : WorldView) (a : ArrayView) (step : FlatStep) (r : Refusal) (told result : Result Answer AllocError) → u ≡ v → result ≡ told
-    → IfOk told (λ x. (x ≡ answer.Refused r) × (r ≢ Memory)) → OnErr told (r ≡ Memory)
-    → ((F : Flat) → Represents v F → IsStep F.groups step)
+pub array_refused : (u v : WorldView) (a : ArrayView) (step : FlatStep) (r : Refusal) (reported result : Result Answer AllocError) → u ≡ v → result ≡ reported
+    → IfOk reported (λ x. (x ≡ answer.Refused r) × (r ≢ Memory)) → OnErr reported (r ≡ Memory)
+    → ((F : Flat) → Represents v F → IsValidStep F.groups step)
     → SameSizes u.array a → (r ≡ Memory → a ≡ u.array)
-    → ((F : Flat) → Represents v F → ShowsArray u.array F → MayRefuse r (IsWanted F step) ((G : Flat) × (Case F step (Refused r) G) × (ShowsArray a G)))
+    → ((F : Flat) → Represents v F → ShowsArray u.array F → MayRefuse r (IsAllocating F step) ((G : Flat) × (Case F step (Refused r) G) × (ShowsArray a G)))
     → WasStep v (record { array = a; hands = u.hands }) step result
-array_refused u v a step r told result is answered ok err fits sizes same may = subst (WasStep v (record { array = a; hands = u.hands }) step) (sym answered)
-    (was_refused v (record { array = a; hands = u.hands }) a step r told (ap (λ (x : WorldView). record { array = a; hands = x.hands }) is) ok err fits
+array_refused u v a step r reported result is answered ok err fits sizes same may = subst (WasStep v (record { array = a; hands = u.hands }) step) (sym answered)
+    (was_refused v (record { array = a; hands = u.hands }) a step r reported (ap (λ (x : WorldView). record { array = a; hands = x.hands }) is) ok err fits
     (sizes_of u v a is sizes) (λ memory. same memory ∙ ap (λ (x : WorldView). x.array) is) (λ F rep. may F rep (shows_of u v F is rep)))
 
 -- the sizes stay where a group is made
@@ -179,7 +179,7 @@ not_found_sizes a b block r is = unread_sizes a b is.0.place r is.2
 
 unread_same : (a b : ArrayView) (slot : ℕ) (r : Refusal) → WasNotRead a b slot r → r ≡ Memory → b ≡ a
 unread_same a b slot r (inl is) memory = is.1
-unread_same a b slot r (inr gone) memory = let bad : Memory ≡ Gone slot = sym memory ∙ gone.told in absurd (cc)
+unread_same a b slot r (inr gone) memory = let bad : Memory ≡ Gone slot = sym memory ∙ gone.reported in absurd (cc)
 
 pub not_found_same : (a b : ArrayView) (block : ℕ) (r : Refusal) → WasNotFound a b block r → r ≡ Memory → b ≡ a
 not_found_same a b block r is = unread_same a b is.0.place r is.2

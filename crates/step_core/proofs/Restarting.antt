@@ -4,21 +4,21 @@ use Rattle.map_join.specs.Record.{record_of}
 use Rattle.map_join.specs.Maps.{IsMapOf, IsListOf}
 use Rattle.flat_machine.specs.Flat.{Flat, Holder, Worker, Ticket, Block, Shut, IsArrays, for_ticket, for_block, for_shut}
 use Rattle.flat_machine.specs.History.{IsHistory, AreHeld}
-use Rattle.flat_machine.specs.Restarted.{TellMap, restarted}
+use Rattle.flat_machine.specs.Restarted.{ReportMap, restarted}
 use Rattle.flat_machine.proofs.Newest.{map_unique}
-use Rattle.flat_machine.proofs.Restarts.{history_tells}
+use Rattle.flat_machine.proofs.Restarts.{history_reports}
 use Rattle.slot_tables.specs.declared.hand.Hand.{Hand}
 use Rattle.slot_tables.specs.declared.hand.Hand.TheVariants.{Empty}
-use Rattle.array_parts.specs.Views.{PartsView}
+use Rattle.unit_store.specs.Views.{PartsView}
 use Rattle.slot_tables.specs.Views.{Kept, Nothing, Pending, Moving, Newest, Unmade, ArrayView, WorldView, SameSizes, kept_at, key_at, hand_at}
 use Rattle.slot_tables.specs.Represents.{ShowsArray, HandSlot, Represents, is_newest}
 use Rattle.slot_tables.specs.Adopted.{HasParts}
-use Rattle.slot_tables.specs.Claims.{how_many, claims_in, AreClaimsOf, IsIdle, IsNotAdopted, IsNotRestarted, WasRestarted}
+use Rattle.slot_tables.specs.Claims.{how_many, claims_in, AreClaimsOf, IsWorkerFree, IsNotAdopted, IsNotRestarted, WasRestarted}
 use Rattle.slot_tables.specs.declared.ready.NotAdopted.{NotAdopted}
 use Rattle.slot_tables.specs.declared.ready.NotAdopted.TheVariants.{Memory, NoClaim}
 
 -- where no worker has anything, each holder is the array's own, so no slot has two
-idle_held : (F : Flat) (keys : ℕ → ℕ) → IsHistory F keys → IsIdle F → AreHeld F
+idle_held : (F : Flat) (keys : ℕ → ℕ) → IsHistory F keys → IsWorkerFree F → AreHeld F
 idle_held F keys is idle = record {
   once = λ s j k hj hk. (is.holders s).once j k (arrays s j hj) (arrays s k hk) hj hk;
   inside = λ s k h. (is.holders s).inside k (arrays s k h) h;
@@ -31,7 +31,7 @@ idle_held F keys is idle = record {
     arrays s (Shut g) h = for_shut g
 
 -- an array that represents such a state does so in a world with empty hands
-pub idle_world : (a : ArrayView) (hands : List Hand) (F : Flat) → ((s : ℕ) → hand_at hands s ≡ Empty) → ShowsArray a F → IsIdle F → Represents (record { array = a; hands = hands }) F
+pub idle_world : (a : ArrayView) (hands : List Hand) (F : Flat) → ((s : ℕ) → hand_at hands s ≡ Empty) → ShowsArray a F → IsWorkerFree F → Represents (record { array = a; hands = hands }) F
 idle_world a hands F empty shows idle = record {
   array = shows;
   held = idle_held F (key_at a) shows.history idle;
@@ -43,8 +43,8 @@ own_map : (a : ArrayView) (F : Flat) (M : ℕ → ℕ) → ShowsArray a F → Is
 own_map a F M shows map = λ i b. map_unique F.emitted F.emitted (key_at a) M (λ r. ((λ h. h), λ h. h)) shows.history.map map b i
 
 -- and the units have it
-pub tells_map : (a : ArrayView) (F : Flat) (M : ℕ → ℕ) → ShowsArray a F → IsMapOf F.emitted M → TellMap F.groups F.units M
-tells_map a F M shows map = subst (TellMap F.groups F.units) (own_map a F M shows map) (history_tells F (key_at a) shows.history)
+pub reports_map : (a : ArrayView) (F : Flat) (M : ℕ → ℕ) → ShowsArray a F → IsMapOf F.emitted M → ReportMap F.groups F.units M
+reports_map a F M shows map = subst (ReportMap F.groups F.units) (own_map a F M shows map) (history_reports F (key_at a) shows.history)
 
 -- an array that represents a state has its parts
 pub has_parts : (a : ArrayView) (F : Flat) → ShowsArray a F → HasParts a.parts F
@@ -86,10 +86,10 @@ never_refused names a F M (NoClaim slot) shows map (claims, are, is) = none_uncl
 
 -- restarted with its own map, a world represents the restarted state
 pub world_restarted : (v : WorldView) (F : Flat) (M : ℕ → ℕ) (a : ArrayView) (w : WorldView) → w.array ≡ a → IsListOf M a.log → ShowsArray a (restarted F M a.log)
-    → ((G : Flat) → ShowsArray a G → IsIdle G → Represents w G) → WasRestarted F M w
-world_restarted v F M a w is log shows stands = record {
+    → ((G : Flat) → ShowsArray a G → IsWorkerFree G → Represents w G) → WasRestarted F M w
+world_restarted v F M a w is log shows matches = record {
   log = rw (is) log;
-  stands = subst (λ (b : ArrayView). Represents w (restarted F M b.log)) (sym is) (stands (restarted F M a.log) shows (λ s u. (refl, refl)));
+  matches = subst (λ (b : ArrayView). Represents w (restarted F M b.log)) (sym is) (matches (restarted F M a.log) shows (λ s u. (refl, refl)));
 }
 
 -- a world of the same parts has the same sizes

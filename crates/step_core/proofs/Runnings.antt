@@ -5,7 +5,7 @@ use Rattle.std.proofs.lemmas.List.Elements.{All-get_or}
 use Rattle.step_core.specs.declared.step.Step.{Step}
 use Rattle.step_core.specs.declared.step.Step.TheVariants as step
 use Rattle.step_core.specs.declared.step.Answer.{Answer}
-use Rattle.step_core.specs.Told.{flat_step, flat_answer, FitsStep}
+use Rattle.step_core.specs.Reported.{flat_step, flat_answer, FitsStep}
 use Rattle.flat_machine.specs.Steps.{FlatStep, FlatAnswer}
 use Rattle.extent_groups.specs.Groups.{AreGroups}
 use Rattle.flat_machine.specs.Cases.{Case, Runs}
@@ -67,9 +67,9 @@ runs_step F M G steps answers next i step answer inside is grown run case are =
     let more : map flat_step (take (i + 1) steps) ≡ map flat_step (take i steps) ++ flat_step step ∷ [] =
     map_more flat_step steps i step inside ∙ ap (λ s. map flat_step (take i steps) ++ flat_step s ∷ []) (sym is)
     in
-    let told : map flat_answer next ≡ map flat_answer answers ++ flat_answer answer ∷ [] = ap (map flat_answer) grown ∙ map-append flat_answer answers (answer ∷ []) in
+    let reported : map flat_answer next ≡ map flat_answer answers ++ flat_answer answer ∷ [] = ap (map flat_answer) grown ∙ map-append flat_answer answers (answer ∷ []) in
     subst (λ ss. StandingRun F ss (map flat_answer next) G) (sym more)
-    (subst (λ told. StandingRun F (map flat_step (take i steps) ++ flat_step step ∷ []) told G) (sym told)
+    (subst (λ reported. StandingRun F (map flat_step (take i steps) ++ flat_step step ∷ []) reported G) (sym reported)
     (run_more F M G (map flat_step (take i steps)) (map flat_answer answers) (flat_step step) (flat_answer answer) run case are))
 
 -- all of a list
@@ -94,7 +94,7 @@ pub steps_step : (w m v : WorldView) (steps : List Step) (answers next : List An
     → i < length steps → step ≡ get_or steps i step → next ≡ answers ++ answer ∷ [] → StepsTo w (take i steps) answers m → IsStep m step answer v → StepsTo w (take (i + 1) steps) next v
 steps_step w m v steps answers next i step answer inside is grown steps_to one =
     let more : take (i + 1) steps ≡ take i steps ++ step ∷ [] = take_more steps i step inside ∙ ap (λ s. take i steps ++ s ∷ []) (sym is) in
-    subst (λ ss. StepsTo w ss next v) (sym more) (subst (λ told. StepsTo w (take i steps ++ step ∷ []) told v) (sym grown) (steps_more w m v (take i steps) answers step answer steps_to one))
+    subst (λ ss. StepsTo w ss next v) (sym more) (subst (λ reported. StepsTo w (take i steps ++ step ∷ []) reported v) (sym grown) (steps_more w m v (take i steps) answers step answer steps_to one))
 
 pub none_past : (n : ℕ) → n ≡ 0 → {X : Type 0} (xs : List X) → take n xs ≡ []
 none_past n none xs = ap (λ k. take k xs) none ∙ go xs where

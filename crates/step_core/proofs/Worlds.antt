@@ -19,20 +19,20 @@ use Rattle.flat_machine.specs.Moves.{moved_to, with_fuse}
 use Rattle.flat_machine.specs.Steps.{FlatStep, FlatAnswer, Filled, Copied, Committed, Discarded, MadeGroup, MovedExtent, LostDrive, Refused, Fill, Copy, Commit, Discard, Make, Unmake, MoveExtent, AddDrive, Read, ReadAt, Lose}
 use Rattle.flat_machine.specs.Cases.{FillCase, CopyCase, ticketed, CommitCase, CommitWith, committed, DiscardCase, discarded, MakeCase, made, MoveCase, LoseCase, Case, Leaves, Fares}
 use Rattle.flat_machine.proofs.Keeps as flat
-use Rattle.flat_machine.proofs.Newest.{newest_told, newest_unique, place_small}
+use Rattle.flat_machine.proofs.Newest.{newest_reported, newest_unique, place_small}
 use Rattle.flat_machine.proofs.Pairs.{turned_else, turned_just, just_one, Any, equal_back}
 use Rattle.flat_machine.proofs.Passing.{Passes, passed, passed_on}
 use Rattle.slot_tables.specs.declared.hand.Hand.{Hand}
 use Rattle.slot_tables.specs.declared.hand.Hand.TheVariants.{Empty, Holds, Waits}
 use Rattle.slot_tables.specs.Changes.{IsPlaceOf, passed_hands}
 use Rattle.slot_tables.specs.declared.hold.Plain.{Plain}
-use Rattle.array_parts.specs.Views.{PartsView}
+use Rattle.unit_store.specs.Views.{PartsView}
 use Rattle.slot_tables.specs.Views.{ArrayView, WorldView, with_parts, hand_at, key_at, SameSizes}
 use Rattle.slot_tables.specs.Represents.{HandSlot, InTables, ShowsArray, Represents, is_claim, is_ticket}
 use Rattle.slot_tables.proofs.Hands.{one_hand}
 use Rattle.slot_tables.proofs.Slots.{worker_hand, ticket_hand, block_hand, one_slot, shows_after}
 use Rattle.flat_machine.proofs.Holding.{step_holds, once_any}
-use Rattle.flat_machine.specs.History.{IsHistory, IsStep, AreHeld}
+use Rattle.flat_machine.specs.History.{IsHistory, IsValidStep, AreHeld}
 use Rattle.slot_tables.proofs.Places.{set_twice}
 use Rattle.disk_array.specs.Losing.{WasLost}
 use Rattle.step_core.specs.Passed.{given_old}
@@ -75,14 +75,14 @@ block_there v F b rep inside = subst (λ (z : Groups). b < z.blocks) (sym rep.ar
 
 -- what a world says of a state that its array needn't show: what holds after any steps, with the array's keys as the map of the log,
 -- and in whose hands the slots are
-pub record Stands (hs : List Hand) (a : ArrayView) (F : Flat) : Type 0 where
+pub record Matches (hs : List Hand) (a : ArrayView) (F : Flat) : Type 0 where
   pub history : IsHistory F (key_at a)
   pub groups : F.groups ≡ a.parts.groups
   pub held : AreHeld F
   pub hands : (s : ℕ) → HandSlot (hand_at hs s) (F.held s)
 
-pub stands_of : (v : WorldView) (F : Flat) → Represents v F → Stands v.hands v.array F
-stands_of v F rep = record { history = rep.array.history; groups = rep.array.tables.groups; held = rep.held; hands = rep.hands }
+pub matches_of : (v : WorldView) (F : Flat) → Represents v F → Matches v.hands v.array F
+matches_of v F rep = record { history = rep.array.history; groups = rep.array.tables.groups; held = rep.held; hands = rep.hands }
 
 -- the hands of a state that another left
 hands_as : (hs : List Hand) (G E : Flat) → Leaves E G → ((t : ℕ) → HandSlot (hand_at hs t) (E.held t)) → (t : ℕ) → HandSlot (hand_at hs t) (G.held t)
@@ -112,7 +112,7 @@ copy_hands v F G w s b inside rep held case =
     let c : Waiting = Moved b case.1.0.version case.1.0.hop case.1.1.content in
     hands_as (set v.hands s (Waits w)) G (ticketed F w s c) case.1.6 (ticket_hands v F w s c inside rep ((rep.hands s).claims w ∙ held))
 
-pub fill_world : (v : WorldView) (F : Flat) (w s : ℕ) (x : Content) (a : ArrayView) → s < length v.hands → IsStep F.groups (Fill w s x) → Represents v F → is_claim (hand_at v.hands s) w ≡ true
+pub fill_world : (v : WorldView) (F : Flat) (w s : ℕ) (x : Content) (a : ArrayView) → s < length v.hands → IsValidStep F.groups (Fill w s x) → Represents v F → is_claim (hand_at v.hands s) w ≡ true
     → (t : ℕ) → t ≡ s → (G : Flat) × (FillCase F w t x (Filled t) G) × (ShowsArray a G)
     → (G : Flat) × (FillCase F w s x (Filled s) G) × (Represents (record { array = a; hands = set v.hands s (Waits w) }) G)
 fill_world v F w s x a inside fits rep held t same z =
@@ -126,7 +126,7 @@ fill_world v F w s x a inside fits rep held t same z =
       },
     )
 
-pub copy_world : (v : WorldView) (F : Flat) (w s b : ℕ) (a : ArrayView) → s < length v.hands → IsStep F.groups (Copy w s b) → Represents v F → is_claim (hand_at v.hands s) w ≡ true
+pub copy_world : (v : WorldView) (F : Flat) (w s b : ℕ) (a : ArrayView) → s < length v.hands → IsValidStep F.groups (Copy w s b) → Represents v F → is_claim (hand_at v.hands s) w ≡ true
     → (t : ℕ) → t ≡ s → (G : Flat) × (CopyCase F w t b (Copied t) G) × (ShowsArray a G)
     → (G : Flat) × (CopyCase F w s b (Copied s) G) × (Represents (record { array = a; hands = set v.hands s (Waits w) }) G)
 copy_world v F w s b a inside fits rep held t same z =
@@ -203,12 +203,12 @@ commit_hands hs F w s b found inside small hands passes = by found refl
             go (inl n) = subst P (sym n) (old q is)
             go (inr away) = same t ne (λ p p_is n. away (n ∙ ap (λ (x : Record). x.place) (same_Some p q (sym p_is ∙ is))))
 
-pub commit_stands : (hs : List Hand) (a : ArrayView) (F : Flat) (w s b : ℕ) (r : Record) (e : ArrayView) → s < 65536 → b < F.groups.blocks → length hs ≡ 65536 → Stands hs a F → is_ticket (hand_at hs s) w ≡ true
+pub commit_matches : (hs : List Hand) (a : ArrayView) (F : Flat) (w s b : ℕ) (r : Record) (e : ArrayView) → s < 65536 → b < F.groups.blocks → length hs ≡ 65536 → Matches hs a F → is_ticket (hand_at hs s) w ≡ true
     → (G : Flat) × (CommitCase F w s b (Committed r) G) × (ShowsArray e G)
     → (G : Flat) × (CommitCase F w s b (Committed r) G) × (Represents (record { array = e; hands = passed_hands hs s w (record_at b (key_at a b)) }) G)
-commit_stands hs a F w s b r e inside block room is held y =
+commit_matches hs a F w s b r e inside block room is held y =
     let found = record_at b (key_at a b) in
-    let newest : IsNewest F.emitted b found = newest_told F.emitted (key_at a) b is.history.records is.history.map in
+    let newest : IsNewest F.emitted b found = newest_reported F.emitted (key_at a) b is.history.records is.history.map in
     let leaves = commit_leaves F y.0 w s b found r is.history.records newest y.1 in
     let passes : Passes Any F w s b found = passed Any F (key_at a) w s b found (once_any F is.held) tt tt is.history newest ((is.hands s).tickets w ∙ held) in
     let small : (q : Record) → found ≡ Some q → q.place < length hs = λ q e. let low = place_small b (key_at a b) q e in omega arith in (
@@ -224,7 +224,7 @@ commit_stands hs a F w s b r e inside block room is held y =
 pub commit_world : (v : WorldView) (F : Flat) (w s b : ℕ) (r : Record) (a : ArrayView) → s < 65536 → b < F.groups.blocks → length v.hands ≡ 65536 → Represents v F → is_ticket (hand_at v.hands s) w ≡ true
     → (G : Flat) × (CommitCase F w s b (Committed r) G) × (ShowsArray a G)
     → (G : Flat) × (CommitCase F w s b (Committed r) G) × (Represents (record { array = a; hands = passed_hands v.hands s w (record_at b (key_at v.array b)) }) G)
-commit_world v F w s b r a inside block room rep held y = commit_stands v.hands v.array F w s b r a inside block room (stands_of v F rep) held y
+commit_world v F w s b r a inside block room rep held y = commit_matches v.hands v.array F w s b r a inside block room (matches_of v F rep) held y
 
 -- a commit's case, with slot and record as they are named elsewhere
 pub commit_as : (a : ArrayView) (F : Flat) (w b t s : ℕ) (q r : Record) → t ≡ s → q ≡ r → (G : Flat) × (CommitCase F w t b (Committed q) G) × (ShowsArray a G)
@@ -313,7 +313,7 @@ refused_leaves F G (Lose d) BadMember y = y.1
 refused_leaves F G _ _ y = absurd y
 
 -- a world whose hands stay, after a step that left the state but for drives that failed
-pub stays_world : (v : WorldView) (F : Flat) (step : FlatStep) (answer : FlatAnswer) (a : ArrayView) → IsStep F.groups step → Represents v F
+pub stays_world : (v : WorldView) (F : Flat) (step : FlatStep) (answer : FlatAnswer) (a : ArrayView) → IsValidStep F.groups step → Represents v F
     → (y : (G : Flat) × (Case F step answer G) × (ShowsArray a G)) → Leaves F y.0
     → (G : Flat) × (Case F step answer G) × (Represents (record { array = a; hands = v.hands }) G)
 stays_world v F step answer a fits rep y leaves = (
@@ -326,7 +326,7 @@ stays_world v F step answer a fits rep y leaves = (
   },
 )
 
-pub refused_world : (v : WorldView) (F : Flat) (step : FlatStep) (r : Refusal) (a : ArrayView) → IsStep F.groups step → Represents v F
+pub refused_world : (v : WorldView) (F : Flat) (step : FlatStep) (r : Refusal) (a : ArrayView) → IsValidStep F.groups step → Represents v F
     → (G : Flat) × (Case F step (Refused r) G) × (ShowsArray a G)
     → (G : Flat) × (Case F step (Refused r) G) × (Represents (record { array = a; hands = v.hands }) G)
 refused_world v F step r a fits rep y = stays_world v F step (Refused r) a fits rep y (refused_leaves F y.0 step r y.1)

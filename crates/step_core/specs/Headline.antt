@@ -8,26 +8,26 @@ use Rattle.map_join.specs.Maps.{IsSame, IsMapOf, HasSameRecords}
 use Rattle.extents.specs.Header.{record_in}
 use Rattle.extent_groups.specs.Missing.{MissAtMostOne}
 use Rattle.extent_groups.specs.Stores.{unit_of}
-use Rattle.array_parts.specs.Shows.{IsUnit}
-use Rattle.array_parts.specs.Views.{PartsView, IsLost, cells_of, lost_of}
+use Rattle.unit_store.specs.Shows.{IsUnit}
+use Rattle.unit_store.specs.Views.{PartsView, IsLost, drive_cells, lost_of}
 use Rattle.flat_machine.specs.Flat.{Flat, Write, HeldOnce, Content, Stored, content_in, last_write}
 use Rattle.flat_machine.specs.Steps.{FlatStep, FlatAnswer}
-use Rattle.flat_machine.specs.Cases.{Case, IsWanted, Runs, NeverMissesTwo, TellsPresent}
+use Rattle.flat_machine.specs.Cases.{Case, IsAllocating, Runs, NeverMissesTwo, ReportsPresent}
 use Rattle.flat_machine.specs.Scanned.{IsScanned}
 use Rattle.slot_tables.specs.Views.{WorldView, SameSizes, key_at}
 use Rattle.slot_tables.specs.Represents.{Represents}
 use Rattle.step_core.specs.declared.step.Answer.{Answer}
 use Rattle.step_core.specs.declared.step.Step.{Step}
-use Rattle.step_core.specs.Told.{flat_answer, flat_step}
+use Rattle.step_core.specs.Reported.{flat_answer, flat_step}
 
 -- what the drives have of a slot: the effective unit, where it exists
-abbrev pub bytes_of : PartsView → ℕ → Option (List ℕ)
-bytes_of v slot = unit_of v.groups (cells_of v) slot
+abbrev pub slot_bytes : PartsView → ℕ → Option (List ℕ)
+slot_bytes v slot = unit_of v.groups (drive_cells v) slot
 
 -- the drives have a unit at a record's place, with that record in its header, and with this content
-pub record LiesAt (v : PartsView) (r : Record) (x : Content) : Type 0 where
+pub record StoresUnit (v : PartsView) (r : Record) (x : Content) : Type 0 where
   pub bytes : List ℕ
-  pub there : bytes_of v r.place ≡ Some bytes
+  pub there : slot_bytes v r.place ≡ Some bytes
   pub unit : Stored
   pub is : IsUnit bytes unit
   pub header : record_in unit.header ≡ Some r
@@ -37,13 +37,13 @@ pub record LiesAt (v : PartsView) (r : Record) (x : Content) : Type 0 where
 -- the place of the record that has the key, under that record, unless this slot is lost
 abbrev pub ReadsThrough : PartsView → Flat → ℕ → ℕ → Type 0
 ReadsThrough v F b key = (key ≡ 0 → last_write F.writes b ≡ None)
-    × (0 < key → (w : Write) × (last_write F.writes b ≡ Some w) × ((IsLost v (record_of b key).place → ⊥) → LiesAt v (record_of b key) w.content))
+    × (0 < key → (w : Write) × (last_write F.writes b ≡ Some w) × ((IsLost v (record_of b key).place → ⊥) → StoresUnit v (record_of b key) w.content))
 
 -- each group misses at most one member: one drive is lost, or none, or several of which no group has two
 abbrev pub IsOneMissed : PartsView → Type 0
 IsOneMissed v = MissAtMostOne v.groups (lost_of v)
 
-pub record Stands (w : WorldView) (F : Flat) : Type 0 where
+pub record Guarantees (w : WorldView) (F : Flat) : Type 0 where
   pub once : HeldOnce F
   -- every map of exactly those records, in any order and with any repeats, is the running array's map
   pub map : IsMapOf F.emitted (key_at w.array)
@@ -51,14 +51,14 @@ pub record Stands (w : WorldView) (F : Flat) : Type 0 where
   pub read : (b : ℕ) → ReadsThrough w.array.parts F b (key_at w.array b)
   -- where each group misses at most one member no slot is lost, and every map of the headers is the array's too
   pub here : IsOneMissed w.array.parts → (slot : ℕ) → IsLost w.array.parts slot → ⊥
-  pub scanned : IsOneMissed w.array.parts → (M : ℕ → ℕ) → IsScanned (bytes_of w.array.parts) M → IsSame M (key_at w.array)
-  pub headers : IsOneMissed w.array.parts → IsScanned (bytes_of w.array.parts) (key_at w.array)
+  pub scanned : IsOneMissed w.array.parts → (M : ℕ → ℕ) → IsScanned (slot_bytes w.array.parts) M → IsSame M (key_at w.array)
+  pub headers : IsOneMissed w.array.parts → IsScanned (slot_bytes w.array.parts) (key_at w.array)
 
 -- the flat machine runs over the steps with these answers; and where no group misses two members in any state of the run, from
 -- the first to the last, none of them is the refusal Gone
 pub record TellingRun (F : Flat) (steps : List FlatStep) (answers : List FlatAnswer) (G : Flat) : Type 0 where
   pub run : Runs F steps answers G
-  pub present : NeverMissesTwo F steps answers G run → All TellsPresent answers
+  pub present : NeverMissesTwo F steps answers G run → All ReportsPresent answers
 
 -- something is true of every state that a world represents
 abbrev pub OfEach : WorldView → (Flat → Type 0) → Type 0
@@ -71,8 +71,8 @@ HasMaps w F = (records : List Record) (M : ℕ → ℕ) → HasSameRecords recor
 -- no slot is lost, and the map of the headers, which is one alone, is the array's
 pub record HasHeaders (w : WorldView) : Type 0 where
   pub here : (slot : ℕ) → IsLost w.array.parts slot → ⊥
-  pub headers : IsScanned (bytes_of w.array.parts) (key_at w.array)
-  pub scanned : (M : ℕ → ℕ) → IsScanned (bytes_of w.array.parts) M → IsSame M (key_at w.array)
+  pub headers : IsScanned (slot_bytes w.array.parts) (key_at w.array)
+  pub scanned : (M : ℕ → ℕ) → IsScanned (slot_bytes w.array.parts) M → IsSame M (key_at w.array)
 
 -- for every block a read through the array's map finds its last write
 abbrev pub ReadsLast : WorldView → Flat → Type 0
@@ -92,5 +92,5 @@ StepsTo w (step ∷ steps) (answer ∷ answers) v = (next : WorldView) × IsStep
 StepsTo w steps answers v = ⊥
 
 -- why a run stops: out of memory before the first step, or at a step all of whose checks before its allocation pass
-abbrev pub IsStop : List Step → ℕ → Flat → Type 0
-IsStop steps at F = (at ≡ 0) ⊎ ((step : Step) × (slice_get steps at ≡ Some step) × IsWanted F (flat_step step))
+abbrev pub IsMemoryStop : List Step → ℕ → Flat → Type 0
+IsMemoryStop steps at F = (at ≡ 0) ⊎ ((step : Step) × (slice_get steps at ≡ Some step) × IsAllocating F (flat_step step))

@@ -1,4 +1,4 @@
-pub mod Told
+pub mod Reported
 pub mod Passed
 pub mod Placing
 pub mod Headline

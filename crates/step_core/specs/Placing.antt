@@ -7,7 +7,7 @@ use Rattle.flat_machine.specs.declared.refusal.Refusal.TheVariants.{Memory}
 use Rattle.flat_machine.specs.Flat.{Flat, Content, Payload, Trim, IsNewest, Worker, Ticket}
 use Rattle.flat_machine.specs.Steps.{FlatStep, FlatAnswer, Claimed, Taken, Released, Filled, Copied, Committed, Discarded}
 use Rattle.flat_machine.specs.Steps as step
-use Rattle.flat_machine.specs.Cases.{Case, CommitCase, DiscardCase, IsWanted, Runs}
+use Rattle.flat_machine.specs.Cases.{Case, CommitCase, DiscardCase, IsAllocating, Runs}
 use Rattle.slot_tables.specs.Changes.{MayRefuse}
 use Rattle.slot_tables.specs.AtOnce.{ArePutAtOnce}
 use Rattle.slot_tables.specs.Represents.{ShowsArray}
@@ -83,8 +83,8 @@ pub record IsStill (a b : ArrayView) : Type 0 where
   pub keys : b.keys ≡ a.keys
 
 -- what a put into a claimed slot answers of a state; it is never out of memory
-abbrev pub PutTells : {C : Type 0} → Result ℕ (Refusal × C) → Flat → ℕ → Put → ℕ → ℕ → ArrayView → Type 0
-PutTells r F w what s b a = MatchResult r
+abbrev pub PutReports : {C : Type 0} → Result ℕ (Refusal × C) → Flat → ℕ → Put → ℕ → ℕ → ArrayView → Type 0
+PutReports r F w what s b a = MatchResult r
     (λ t. (G : Flat) × Case F (put_step what w s b) (put_answer what s) G × ShowsArray a G)
     (λ e. MayRefuse e.0 (Unit {0}) ((G : Flat) × Case F (put_step what w s b) (step.Refused e.0) G × ShowsArray a G))
 
@@ -110,9 +110,9 @@ abbrev pub Commits : ArrayView → ArrayView → ℕ → ℕ → Record → Type
 Commits a e s b r = (F : Flat) (w : ℕ) → ShowsArray a F → HasTicket F w s → (G : Flat) × CommitCase F w s b (Committed r) G × ShowsArray e G
 
 -- its commit is refused
-abbrev pub Refuses : ArrayView → ArrayView → ℕ → ℕ → Refusal → Type 0
-Refuses a e s b q = (F : Flat) (w : ℕ) → ShowsArray a F → HasTicket F w s
-    → MayRefuse q (IsWanted F (step.Commit w s b)) ((G : Flat) × CommitCase F w s b (step.Refused q) G × ShowsArray e G)
+abbrev pub RefusesCommit : ArrayView → ArrayView → ℕ → ℕ → Refusal → Type 0
+RefusesCommit a e s b q = (F : Flat) (w : ℕ) → ShowsArray a F → HasTicket F w s
+    → MayRefuse q (IsAllocating F (step.Commit w s b)) ((G : Flat) × CommitCase F w s b (step.Refused q) G × ShowsArray e G)
 
 -- its ticket ends
 abbrev pub Discards : ArrayView → ArrayView → ℕ → Type 0
@@ -121,7 +121,7 @@ Discards a e s = (F : Flat) (w : ℕ) → ShowsArray a F → F.held s (Ticket w)
 -- its commit is refused, and then its ticket ends
 pub record GivesUp (a e : ArrayView) (s b : ℕ) (q : Refusal) : Type 0 where
   pub between : ArrayView
-  pub refused : Refuses a between s b q
+  pub refused : RefusesCommit a between s b q
   pub same : q ≡ Memory → between ≡ a
   pub ended : Discards between e s
 
@@ -145,7 +145,7 @@ back_answers None = []
 back_answers (Some old) = Released old.place ∷ []
 
 -- the block lies in the slot under the record, and nobody holds its old place
-pub record IsPlaced (F : Flat) (w s b : ℕ) (what : Put) (r : Record) (G : Flat) : Type 0 where
+pub record IsRelocated (F : Flat) (w s b : ℕ) (what : Put) (r : Record) (G : Flat) : Type 0 where
   pub old : Option Record
   pub newest : IsNewest F.emitted b old
   pub run : Runs F (step.Claim w s ∷ put_step what w s b ∷ step.Commit w s b ∷ back_steps w old)
@@ -167,16 +167,16 @@ IsRefusedLate F w s b what k G =
 pub record PlaceStops (F : Flat) (w s b : ℕ) (what : Put) (G : Flat) : Type 0 where
   pub run : Runs F (step.Claim w s ∷ put_step what w s b ∷ step.Discard w s ∷ step.Release w s ∷ [])
       (Claimed s ∷ put_answer what s ∷ Discarded s ∷ Released s ∷ []) G
-  pub wanted : IsWanted run.2.0 (step.Commit w s b)
+  pub expected : IsAllocating run.2.0 (step.Commit w s b)
 
 -- the slot of a record, if there is one
-abbrev pub place_of : Option Record → Option ℕ
-place_of None = None
-place_of (Some r) = Some r.place
+abbrev pub record_slot : Option Record → Option ℕ
+record_slot None = None
+record_slot (Some r) = Some r.place
 
 -- the result of putting a block into a slot, in the steps of any worker: `Taken` where somebody holds the slot
 abbrev pub Places : Flat → ℕ → ℕ → ℕ → Put → Result Placed NotPlaced → Flat → Type 0
-Places F w s b what (Ok placed) G = (is : IsPlaced F w s b what placed.newest G) × (placed.left ≡ place_of is.old)
+Places F w s b what (Ok placed) G = (is : IsRelocated F w s b what placed.newest G) × (placed.left ≡ record_slot is.old)
 Places F w s b what (Err denied.Taken) G = Runs F (step.Claim w s ∷ []) (Taken s ∷ []) G
 Places F w s b what (Err (denied.Refused k)) G =
     MayRefuse k (PlaceStops F w s b what G) (IsRefusedAtOnce F w s b what k G ⊎ IsRefusedLate F w s b what k G)

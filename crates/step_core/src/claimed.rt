@@ -12,7 +12,7 @@ ghost use Rattle.flat_machine.specs.Steps.{Refused};
 ghost use Rattle.slot_tables.specs.AtOnce.{ArePutAtOnce};
 ghost use Rattle.slot_tables.specs.Changes.{MayRefuse};
 ghost use Rattle.disk_array.specs.Refused.{IsUnplaced};
-ghost use Rattle.step_core.specs.Placing.{Commits, Discards, GivesUp, IsNotPlaced, IsStill, IsWhatFor, IsWhatOf, PutTells, PutsAtOnce, block_for, put_answer, put_for, put_step};
+ghost use Rattle.step_core.specs.Placing.{Commits, Discards, GivesUp, IsNotPlaced, IsStill, IsWhatFor, IsWhatOf, PutReports, PutsAtOnce, block_for, put_answer, put_for, put_step};
 
 use crate::place::Given;
 use disk_array::{Array, Done, Ticket};
@@ -49,7 +49,7 @@ pub fn put<D: Drive, C: Hold>(
     ensures err { IfErr result (λ e. (e.1 ≡ claim) × IsRefused array.old array.new e.0) }
     ensures memory { IfErr result (λ e. e.0 ≢ Refusal.Memory) }
     ensures flat { (F : Flat) (w : ℕ) → ShowsArray array.old F → F.held (C.names claim) (Worker w) ≡ true
-        → PutTells result F w (put_for what.entry) (C.names claim) (block_for what.entry) array.new }
+        → PutReports result F w (put_for what.entry) (C.names claim) (block_for what.entry) array.new }
     ensures still { IsStill array.old array.new }
     ensures room { SameSizes array.old array.new }
 {

@@ -1,11 +1,11 @@
 // Adding a drive.
 ghost use Rattle.std.specs.Prelude.{◌≡◌, IfOk, OnErr};
-ghost use Rattle.flat_machine.specs.Cases.{Case, IsWanted};
+ghost use Rattle.flat_machine.specs.Cases.{Case, IsAllocating};
 ghost use Rattle.flat_machine.specs.Flat.{Flat};
 ghost use Rattle.flat_machine.specs.Steps as say;
 ghost use Rattle.slot_tables.specs.Represents.{Represents};
 ghost use Rattle.slot_tables.specs.Views.{SameSizes};
-ghost use Rattle.step_core.specs.Told.{flat_answer};
+ghost use Rattle.step_core.specs.Reported.{flat_answer};
 
 use crate::step::Answer;
 use crate::world::{World, refused};
@@ -20,7 +20,7 @@ impl<D: HotSwap + Drop> World<D> {
         ensures ok { IfOk result (λ answer. (F : Flat) → Represents self.old F
             → (G : Flat) × Case F say.AddDrive (flat_answer answer) G × Represents self.new G) }
         ensures err { OnErr result (self.new ≡ self.old) }
-        ensures wants { OnErr result ((F : Flat) → Represents self.old F → IsWanted F say.AddDrive) }
+        ensures needs { OnErr result ((F : Flat) → Represents self.old F → IsAllocating F say.AddDrive) }
         ensures room { SameSizes self.old.array self.new.array }
     {
         if self.array.drive_count() >= DRIVES {

@@ -12,7 +12,6 @@ mod units;
 mod unmake;
 mod world;
 
-pub use array_parts::Units;
 pub use claimed::{Denied, What, finish, place_at_once, put};
 pub use disk_array::{
     Apart, Array, At, Done, Emitted, Hold, NotAdopted, Plain, Reading, TakeBack, Ticket, Visit,
@@ -22,6 +21,7 @@ pub use extent_groups::GroupTable;
 pub use extents::{Drive, DriveLost, ExtentTable, HotSwap, MemDrive, Shape, ShapeRefusal};
 pub use flat_machine::{Class, Member, Refusal};
 pub use place::{Given, NotPlaced, Placed};
-pub use run::{Run, Stopped, represented_stands, run_fixed, run_steps};
+pub use run::{Run, Stopped, represented_matches, run_fixed, run_steps};
 pub use step::{Answer, Step};
+pub use unit_store::Units;
 pub use world::World;

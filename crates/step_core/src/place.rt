@@ -6,7 +6,7 @@ ghost use Rattle.slot_tables.specs.Changes.{IsPlaceOf};
 ghost use Rattle.slot_tables.specs.Represents.{Represents};
 ghost use Rattle.slot_tables.specs.Views.{SameSizes};
 ghost use Rattle.step_core.specs.Placing as what;
-ghost use Rattle.step_core.specs.Placing.{IsSizedFor, Places, place_of, put_of};
+ghost use Rattle.step_core.specs.Placing.{IsSizedFor, Places, record_slot, put_of};
 
 use crate::claimed::{What, put_and_finish};
 use crate::world::World;
@@ -89,7 +89,7 @@ fn what_of<'a>(block: u32, given: Option<Given<'a>>) -> What<'a>
 // What a commit did; the claim of the old place ends.
 fn placed_by(done: Done<Plain>) -> Placed
     ensures newest { result.newest ≡ done.emitted }
-    ensures left { (old : Option Record) → IsPlaceOf Plain.slot done.old old → result.left ≡ place_of old }
+    ensures left { (old : Option Record) → IsPlaceOf Plain.slot done.old old → result.left ≡ record_slot old }
 {
     let newest = done.emitted.record();
     let left = match done.old {

@@ -1,7 +1,7 @@
 // Moving a member of a group to another extent.
 ghost use Rattle.std.specs.Prelude.{◌≡◌, IfErr, IfOk, MatchResult};
-ghost use Rattle.array_parts.specs.Views.{Shifted};
-ghost use Rattle.flat_machine.specs.Cases.{Case, IsWanted};
+ghost use Rattle.unit_store.specs.Views.{Shifted};
+ghost use Rattle.flat_machine.specs.Cases.{Case, IsAllocating};
 ghost use Rattle.flat_machine.specs.Flat.{Flat};
 ghost use Rattle.flat_machine.specs.Steps as say;
 ghost use Rattle.slot_tables.specs.Changes.{MayRefuse};
@@ -18,7 +18,7 @@ impl<D: Drive> World<D> {
         ensures flat { (F : Flat) → Represents self.old F → MatchResult result
             (λ done. (G : Flat) × Case F (say.MoveExtent group member to) say.MovedExtent G × Represents self.new G)
             (λ refusal. MayRefuse refusal
-            (IsWanted F (say.MoveExtent group member to))
+            (IsAllocating F (say.MoveExtent group member to))
             ((G : Flat) × Case F (say.MoveExtent group member to) (say.Refused refusal) G × Represents self.new G)) }
         ensures err { IfErr result (λ refusal. refusal ≡ Refusal.Memory → self.new ≡ self.old) }
         ensures shifted { IfOk result (λ done. Shifted self.old.array.parts group member to self.new.array.parts) }

@@ -2,10 +2,10 @@
 ghost use Rattle.std.specs.Prelude.{◌≡◌, ℕ, IfOk, IfErr};
 ghost use Rattle.map_join.specs.Maps.{at, IsMapOf};
 ghost use Rattle.flat_machine.specs.Flat.{Flat};
-ghost use Rattle.flat_machine.specs.Restarted.{HasPlaces, restarted};
+ghost use Rattle.flat_machine.specs.Restarted.{HasDistinctSlots, restarted};
 ghost use Rattle.slot_tables.specs.Views.{hand_at, SameSizes};
 ghost use Rattle.slot_tables.specs.Represents.{ShowsArray, Represents};
-ghost use Rattle.slot_tables.specs.Claims.{IsIdle, WasRestarted};
+ghost use Rattle.slot_tables.specs.Claims.{IsWorkerFree, WasRestarted};
 
 use crate::world::World;
 use disk_array::{Array, Hands};
@@ -27,7 +27,7 @@ impl<D: Drive> World<D> {
     pub fn of(alloc: Global, array: Array<D, Plain>) -> Result<World<D>, Array<D, Plain>>
         ensures array { IfOk result (λ world. world.array ≡ array) }
         ensures hands { IfOk result (λ world. (s : ℕ) → hand_at world.hands s ≡ Hand.Empty) }
-        ensures flat { IfOk result (λ world. (F : Flat) → ShowsArray array F → IsIdle F → Represents world F) }
+        ensures flat { IfOk result (λ world. (F : Flat) → ShowsArray array F → IsWorkerFree F → Represents world F) }
         ensures err { IfErr result (λ refused. refused ≡ array) }
     {
         match Hands::new(alloc) {
@@ -40,7 +40,7 @@ impl<D: Drive> World<D> {
     fn at_rest(array: Array<D, Plain>, mut hands: Hands) -> World<D>
         ensures array { result.array ≡ array }
         ensures hands { (s : ℕ) → hand_at result.hands s ≡ Hand.Empty }
-        ensures flat { (F : Flat) → ShowsArray array F → IsIdle F → Represents result F }
+        ensures flat { (F : Flat) → ShowsArray array F → IsWorkerFree F → Represents result F }
     {
         hands.clear_all();
         World { array, hands }
@@ -52,7 +52,7 @@ impl<D: Drive + Drop> World<D> {
     /// slot, and nothing is pending. It allocates about 30 bytes for each slot number up to the last made group's, about half of
     /// it in place of the old tables. If an allocation fails, the world is dropped.
     pub fn restarted(self, alloc: Global, map: BlockMap) -> Result<World<D>, NotAdopted>
-        requires { HasPlaces self.array.parts.groups (at map) }
+        requires { HasDistinctSlots self.array.parts.groups (at map) }
         ensures ok { IfOk result (λ world. (F : Flat) → Represents self F → IsMapOf F.emitted (at map) → WasRestarted F (at map) world) }
         ensures err { IfErr result (λ why. (F : Flat) → Represents self F → IsMapOf F.emitted (at map) → why ≡ NotAdopted.Memory) }
         ensures room { IfOk result (λ world. SameSizes self.array world.array) }

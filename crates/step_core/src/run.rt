@@ -1,13 +1,13 @@
 // Runs of a world over a list of steps.
 ghost use Rattle.std.specs.Prelude.{◌≡◌, ◌⊎◌, ◌<◌, length, take, map, slice_get, All, MatchResult, IsTrue, ◌↔◌, IfOk, IfErr, OnErr, Some};
 ghost use Rattle.flat_machine.specs.Flat.{Flat, HeldOnce};
-ghost use Rattle.flat_machine.specs.Cases.{Case, IsWanted};
-ghost use Rattle.step_core.specs.Told.{flat_answer, flat_step, FitsStep, SwapsNoDrive};
+ghost use Rattle.flat_machine.specs.Cases.{Case, IsAllocating};
+ghost use Rattle.step_core.specs.Reported.{flat_answer, flat_step, FitsStep, SwapsNoDrive};
 ghost use Rattle.step_core.specs.Running.{IsRunOf};
 ghost use Rattle.step_core.specs.declared.step.Step.{Step};
 ghost use Rattle.slot_tables.specs.Views.{WorldView, SameSizes, IsWhole};
 ghost use Rattle.slot_tables.specs.Represents.{Represents};
-ghost use Rattle.step_core.specs.Headline.{Stands, TellingRun, StepsTo, OfEach, HasMaps, IsOneMissed, HasHeaders, ReadsLast, IsStop};
+ghost use Rattle.step_core.specs.Headline.{Guarantees, TellingRun, StepsTo, OfEach, HasMaps, IsOneMissed, HasHeaders, ReadsLast, IsMemoryStop};
 
 use crate::step::{Answer, Step};
 use crate::world::{World, refused};
@@ -35,8 +35,8 @@ pub struct Stopped<D: Drive = MemDrive> {
 /// What is true of every state that a world represents: no slot has two holders; every map of exactly the emitted records is
 /// the running map, and where each group misses at most one member so is the map of the headers; and a read through it finds
 /// each block's last write on the drives.
-pub fn represented_stands()
-    ensures { (world : WorldView) (F : Flat) → IsWhole world.array → Represents world F → Stands world F }
+pub fn represented_matches()
+    ensures { (world : WorldView) (F : Flat) → IsWhole world.array → Represents world F → Guarantees world F }
 {
     // The law is the contract: there is nothing to do.
 }
@@ -95,7 +95,7 @@ impl<D: Drive> World<D> {
         ensures ok { IfOk result (λ answer. (F : Flat) → Represents self.old F
             → (G : Flat) × Case F (flat_step step.now) (flat_answer answer) G × Represents self.new G) }
         ensures err { OnErr result (self.new ≡ self.old) }
-        ensures wants { OnErr result ((F : Flat) → Represents self.old F → IsWanted F (flat_step step.now)) }
+        ensures needs { OnErr result ((F : Flat) → Represents self.old F → IsAllocating F (flat_step step.now)) }
         ensures room { SameSizes self.old.array self.new.array }
     {
         match step {
@@ -139,7 +139,7 @@ impl<D: HotSwap + Drop> World<D> {
         ensures ok { IfOk result (λ answer. (F : Flat) → Represents self.old F
             → (G : Flat) × Case F (flat_step step.now) (flat_answer answer) G × Represents self.new G) }
         ensures err { OnErr result (self.new ≡ self.old) }
-        ensures wants { OnErr result ((F : Flat) → Represents self.old F → IsWanted F (flat_step step.now)) }
+        ensures needs { OnErr result ((F : Flat) → Represents self.old F → IsAllocating F (flat_step step.now)) }
         ensures room { SameSizes self.old.array self.new.array }
     {
         match step {
@@ -158,11 +158,11 @@ pub fn run_steps<D: HotSwap + Drop>(
 ) -> Result<Run<D>, Stopped<D>>
     requires { All (FitsStep world.array.parts.groups) steps.now }
     ensures run { (F : Flat) → Represents world F → MatchResult result
-        (λ run. (G : Flat) × TellingRun F (map flat_step steps.now) (map flat_answer run.answers.items) G × Represents run.world G × Stands run.world G)
+        (λ run. (G : Flat) × TellingRun F (map flat_step steps.now) (map flat_answer run.answers.items) G × Represents run.world G × Guarantees run.world G)
         (λ stop. (G : Flat) × TellingRun F (map flat_step (take stop.at steps.now)) (map flat_answer stop.answers.items) G × Represents stop.world G
-        × Stands stop.world G
+        × Guarantees stop.world G
         × (stop.at < length steps.now)
-        × ((stop.at ≡ 0) ⊎ ((step : Step) × (slice_get steps.now stop.at ≡ Some step) × IsWanted G (flat_step step)))) }
+        × ((stop.at ≡ 0) ⊎ ((step : Step) × (slice_get steps.now stop.at ≡ Some step) × IsAllocating G (flat_step step)))) }
 
     // Step by step: each begins with the world that the one before it left, and one answer is given for each.
     ensures worlds { MatchResult result (λ run. StepsTo world steps.now run.answers.items run.world)
@@ -179,7 +179,7 @@ pub fn run_steps<D: HotSwap + Drop>(
     ensures reads { MatchResult result (λ run. OfEach run.world (ReadsLast run.world)) (λ stop. OfEach stop.world (ReadsLast stop.world)) }
 
     // Why it stopped.
-    ensures stopped { IfErr result (λ stop. (stop.at ≡ 0 → stop.world ≡ world) × OfEach stop.world (IsStop steps.now stop.at)) }
+    ensures stopped { IfErr result (λ stop. (stop.at ≡ 0 → stop.world ≡ world) × OfEach stop.world (IsMemoryStop steps.now stop.at)) }
 {
     run_by::<D, AllSteps>(alloc, world, steps)
 }
@@ -208,7 +208,7 @@ trait Carry<D: Drive> {
         ensures ok { IfOk result (λ answer. (F : Flat) → Represents world.old F
             → (G : Flat) × Case F (flat_step step.now) (flat_answer answer) G × Represents world.new G) }
         ensures err { OnErr result (world.new ≡ world.old) }
-        ensures wants { OnErr result ((F : Flat) → Represents world.old F → IsWanted F (flat_step step.now)) }
+        ensures needs { OnErr result ((F : Flat) → Represents world.old F → IsAllocating F (flat_step step.now)) }
         ensures room { SameSizes world.old.array world.new.array };
 }
 

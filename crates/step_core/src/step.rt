@@ -1,6 +1,6 @@
 // Steps of a world, and their answers.
 ghost use Rattle.std.specs.Prelude.{◌↔◌, IsTrue};
-ghost use Rattle.step_core.specs.Told.{SwapsNoDrive};
+ghost use Rattle.step_core.specs.Reported.{SwapsNoDrive};
 
 use disk_array::At;
 use flat_machine::{Class, Member, Refusal};

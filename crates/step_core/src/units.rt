@@ -1,18 +1,18 @@
 // A world has its array's units, for any caller that scans them.
-ghost use Rattle.array_parts.specs.Views.{cells_of};
+ghost use Rattle.unit_store.specs.Views.{drive_cells};
 ghost use Rattle.disk_array.specs.Refused.{OnlyLosesOf};
 ghost use Rattle.disk_array.specs.Laws.{world_itself, world_more};
 
 use crate::world::World;
-use array_parts::Units;
 use extent_groups::GroupTable;
 use extents::{Drive, HEADER_BYTES};
 use flat_machine::Refusal;
+use unit_store::Units;
 
 impl<D: Drive> Units for World<D> {
     ghost groups = { λ w. w.array.parts.groups };
 
-    ghost cells = { λ w. cells_of w.array.parts };
+    ghost cells = { λ w. drive_cells w.array.parts };
 
     ghost fits = { λ w. Unit {0} };
 

@@ -2,12 +2,12 @@
 ghost use Rattle.std.specs.Prelude.{◌≡◌, ℕ, ◌<◌, ◌≤◌, length, true, IfOk, OnErr, MatchOption};
 ghost use Rattle.flat_machine.specs.Steps as say;
 ghost use Rattle.flat_machine.specs.Flat.{Flat};
-ghost use Rattle.flat_machine.specs.Cases.{Case, IsWanted};
+ghost use Rattle.flat_machine.specs.Cases.{Case, IsAllocating};
 ghost use Rattle.slot_tables.specs.Represents.{Represents, is_claim};
 ghost use Rattle.slot_tables.specs.Views.{hand_at, SameSizes};
 ghost use Rattle.slot_tables.specs.Claims.{how_many};
-ghost use Rattle.slot_tables.specs.Shut.{one_of, IsFirstNotHeld, emptied};
-ghost use Rattle.step_core.specs.Told.{flat_answer};
+ghost use Rattle.slot_tables.specs.Shut.{one_of, IsFirstNotHeld, hand_emptied};
+ghost use Rattle.step_core.specs.Reported.{flat_answer};
 
 use crate::step::Answer;
 use crate::world::{World, refused};
@@ -24,7 +24,7 @@ impl<D: Drive> World<D> {
         ensures ok { IfOk result (λ answer. (F : Flat) → Represents self.old F
             → (G : Flat) × Case F (say.Unmake worker group) (flat_answer answer) G × Represents self.new G) }
         ensures err { OnErr result (self.new ≡ self.old) }
-        ensures wants { OnErr result ((F : Flat) → Represents self.old F → IsWanted F (say.Unmake worker group)) }
+        ensures needs { OnErr result ((F : Flat) → Represents self.old F → IsAllocating F (say.Unmake worker group)) }
         ensures room { SameSizes self.old.array self.new.array }
     {
         let Some(count) = self.array.slots_in(group) else {
@@ -80,7 +80,7 @@ fn empty_first(hands: &mut Hands, group: u16, count: u16)
     requires group { group < 512 }
     requires count { count ≤ 128 }
     requires many { length hands.old ≡ 65536 }
-    ensures value { (slot : ℕ) → hand_at hands.new slot ≡ emptied group count slot (hand_at hands.old slot) }
+    ensures value { (slot : ℕ) → hand_at hands.new slot ≡ hand_emptied group count slot (hand_at hands.old slot) }
     ensures many { length hands.new ≡ 65536 }
 {
     for index in 0..count {

@@ -6,14 +6,14 @@ ghost use Rattle.extents.specs.Shapes.{IsShapeOf};
 ghost use Rattle.flat_machine.specs.Groups.{IsEmpty};
 ghost use Rattle.flat_machine.specs.Steps as say;
 ghost use Rattle.flat_machine.specs.Flat.{Flat, Payload, Trim, new_flat};
-ghost use Rattle.flat_machine.specs.Cases.{Case, IsWanted, Leaves};
+ghost use Rattle.flat_machine.specs.Cases.{Case, IsAllocating, Leaves};
 ghost use Rattle.flat_machine.specs.Moves.{with_fuse};
 ghost use Rattle.flat_machine.specs.Shortened.{IsShortened};
 ghost use Rattle.slot_tables.specs.Views.{kept_at, hand_at, has_no_holder, IsWhole, SameSizes, with_parts};
 ghost use Rattle.disk_array.specs.Losing.{WasFused};
 ghost use Rattle.slot_tables.specs.Represents.{Represents, is_claim};
 ghost use Rattle.step_core.specs.Passed.{given_old};
-ghost use Rattle.step_core.specs.Told.{flat_answer, read_answer};
+ghost use Rattle.step_core.specs.Reported.{flat_answer, read_answer};
 
 use crate::step::Answer;
 use disk_array::{Array, Hands, Visit};
@@ -132,7 +132,7 @@ impl<D: Drive> World<D> {
             → (G : Flat) × Case F (say.Fill worker slot (Payload payload.now)) (flat_answer answer) G × Represents self.new G) }
         ensures succeeds { IsOk result }
         ensures err { OnErr result (self.new ≡ self.old) }
-        ensures wants { OnErr result ((F : Flat) → Represents self.old F → IsWanted F (say.Fill worker slot (Payload payload.now))) }
+        ensures needs { OnErr result ((F : Flat) → Represents self.old F → IsAllocating F (say.Fill worker slot (Payload payload.now))) }
         ensures room { SameSizes self.old.array self.new.array }
     {
         if !self.holds(worker, slot) {
@@ -153,7 +153,7 @@ impl<D: Drive> World<D> {
             → (G : Flat) × Case F (say.Fill worker slot Trim) (flat_answer answer) G × Represents self.new G) }
         ensures succeeds { IsOk result }
         ensures err { OnErr result (self.new ≡ self.old) }
-        ensures wants { OnErr result ((F : Flat) → Represents self.old F → IsWanted F (say.Fill worker slot Trim)) }
+        ensures needs { OnErr result ((F : Flat) → Represents self.old F → IsAllocating F (say.Fill worker slot Trim)) }
         ensures room { SameSizes self.old.array self.new.array }
     {
         if !self.holds(worker, slot) {
@@ -175,7 +175,7 @@ impl<D: Drive> World<D> {
             → (G : Flat) × Case F (say.Copy worker slot block) (flat_answer answer) G × Represents self.new G) }
         ensures succeeds { IsOk result }
         ensures err { OnErr result (self.new ≡ self.old) }
-        ensures wants { OnErr result ((F : Flat) → Represents self.old F → IsWanted F (say.Copy worker slot block)) }
+        ensures needs { OnErr result ((F : Flat) → Represents self.old F → IsAllocating F (say.Copy worker slot block)) }
         ensures room { SameSizes self.old.array self.new.array }
     {
         if !self.holds(worker, slot) {
@@ -202,7 +202,7 @@ impl<D: Drive> World<D> {
         ensures ok { IfOk result (λ answer. (F : Flat) → Represents self.old F
             → (G : Flat) × Case F (say.Commit worker slot block) (flat_answer answer) G × Represents self.new G) }
         ensures err { OnErr result (self.new ≡ self.old) }
-        ensures wants { OnErr result ((F : Flat) → Represents self.old F → IsWanted F (say.Commit worker slot block)) }
+        ensures needs { OnErr result ((F : Flat) → Represents self.old F → IsAllocating F (say.Commit worker slot block)) }
         ensures room { SameSizes self.old.array self.new.array }
     {
         let Some(ticket) = self.hands.take(worker, slot) else {
@@ -247,7 +247,7 @@ impl<D: Drive> World<D> {
         ensures ok { IfOk result (λ answer. (F : Flat) → Represents self.old F
             → (G : Flat) × Case F (say.ReadAt asked) (flat_answer answer) G × Represents self.new G) }
         ensures err { OnErr result (self.new ≡ self.old) }
-        ensures wants { OnErr result ((F : Flat) → Represents self.old F → IsWanted F (say.ReadAt asked)) }
+        ensures needs { OnErr result ((F : Flat) → Represents self.old F → IsAllocating F (say.ReadAt asked)) }
         ensures room { SameSizes self.old.array self.new.array }
     {
         match self.array.read_at(alloc, asked) {
@@ -262,7 +262,7 @@ impl<D: Drive> World<D> {
         ensures ok { IfOk result (λ answer. (F : Flat) → Represents self.old F
             → (G : Flat) × Case F (say.Read block) (flat_answer answer) G × Represents self.new G) }
         ensures err { OnErr result (self.new ≡ self.old) }
-        ensures wants { OnErr result ((F : Flat) → Represents self.old F → IsWanted F (say.Read block)) }
+        ensures needs { OnErr result ((F : Flat) → Represents self.old F → IsAllocating F (say.Read block)) }
         ensures room { SameSizes self.old.array self.new.array }
     {
         match self.array.read(alloc, block) {
@@ -320,7 +320,7 @@ impl<D: Drive> World<D> {
         ensures ok { IfOk result (λ answer. (F : Flat) → Represents self.old F
             → (G : Flat) × Case F (say.Make class members.now) (flat_answer answer) G × Represents self.new G) }
         ensures err { OnErr result (self.new ≡ self.old) }
-        ensures wants { OnErr result ((F : Flat) → Represents self.old F → IsWanted F (say.Make class members.now)) }
+        ensures needs { OnErr result ((F : Flat) → Represents self.old F → IsAllocating F (say.Make class members.now)) }
         ensures room { SameSizes self.old.array self.new.array }
     {
         match self.array.make_group(alloc, class, members) {

@@ -1,1 +1,2 @@
 mod Stormed
+mod Playing

@@ -2,3 +2,4 @@ pub mod Ended
 pub mod Ending
 pub mod Telling
 pub mod Numbers
+pub mod Rounds

@@ -1,9 +1,11 @@
 // The workers of a storm.
-ghost use Rattle.std.specs.Prelude.{◌≡◌, [], ◌∷◌, map, IfOk, IfSome};
+ghost use Rattle.std.specs.Prelude.{◌≡◌, ◌∷◌, [], map, IfOk, IfSome};
+ghost use Rattle.std.specs.List.{All};
 ghost use Rattle.slot_tables.specs.Views.{ArrayView};
 ghost use Rattle.history.specs.Entries.{entry};
 ghost use Rattle.array_book.specs.Acts.{Opens};
 ghost use Rattle.storm.specs.Ending.{HaveBegun};
+ghost use Rattle.storm.specs.Rounds.{AreHired, HaveAllPlayed};
 
 use crate::outcome::{StormFault, Tally};
 use crate::rounds::Rounds;
@@ -37,7 +39,10 @@ pub(crate) fn run_all<
     hands: (Ended<N, A, B>, Vec<Hand<N, Deed>>),
     crew: Crew,
 ) -> Result<(Vec<Ended<N, A, B>>, Tally), StormFault>
-    ensures { (array : ArrayView) → hands.0.hand.seen ≡ entry 0 (Opens array) ∷ [] → IfOk result (λ r. HaveBegun (map (λ e. e.hand) r.0.items) array) }
+    requires sizes { (N.blocks ≡ 16) × (N.payload ≡ crew.payload) }
+    requires none { All (λ hand. hand.mine ≡ []) hands.1.items }
+    ensures begun { (array : ArrayView) → hands.0.hand.seen ≡ entry 0 (Opens array) ∷ [] → IfOk result (λ r. HaveBegun (map (λ e. e.hand) r.0.items) array) }
+    ensures played { IfOk result (λ r. HaveAllPlayed crew.payload crew.writes (map (λ e. e.hand) r.0.items)) }
 {
     let (mut hands, parts) = hands;
     let mut hired = hire(alloc, book, &mut hands, parts, crew.workers)?;
@@ -59,7 +64,9 @@ fn hire<'a, N: slot_words::Naming + Sizes, A: map_words::Naming, B: map_words::N
     parts: Vec<Hand<N, Deed>>,
     count: u8,
 ) -> Result<Vec<Worker<'a, MemDrive, N, A, B>>, StormFault>
-    ensures { hands.new.hand ≡ hands.old.hand }
+    requires { All (λ hand. hand.mine ≡ []) parts.items }
+    ensures hand { hands.new.hand ≡ hands.old.hand }
+    ensures hired { IfOk result (λ hired. AreHired 0 (map (λ w. w.number) hired.items) (map (λ w. w.hand) hired.items)) }
 {
     let mut parts = parts;
     let mut hired = Vec::new(alloc);
@@ -92,7 +99,7 @@ fn dismiss<N: slot_words::Naming + Sizes, A: map_words::Naming, B: map_words::Na
     hands: Ended<N, A, B>,
     hired: Vec<Worker<'_, MemDrive, N, A, B>>,
 ) -> Option<Vec<Ended<N, A, B>>>
-    ensures { (array : ArrayView) → hands.hand.seen ≡ entry 0 (Opens array) ∷ [] → IfSome result (λ all. HaveBegun (map (λ e. e.hand) all.items) array) }
+    ensures { IfSome result (λ all. map (λ e. e.hand) all.items ≡ hands.hand ∷ map (λ w. w.hand) hired.entry.items) }
 {
     let mut ended = Vec::new(alloc);
     if ended.push(hands).is_err() {

@@ -5,11 +5,11 @@ mod crew;
 mod ended;
 mod life;
 mod outcome;
+mod reported;
 mod rounds;
 mod setting;
-mod told;
 
 pub use ended::end_storm;
 pub use life::{Fuse, Orders, run_orders, run_storm};
 pub use outcome::{Storm, StormFault, Tally};
-pub use told::{Told, tell_storm};
+pub use reported::{Reported, report_storm};

@@ -1,5 +1,6 @@
 // The whole life of a storm's tables.
 ghost use Rattle.std.specs.Prelude.{◌≡◌, ◌≢◌, ℕ, ◌+◌, [], ◌∷◌, map, IfOk, IfErr, IfSome};
+ghost use Rattle.std.specs.List.{All};
 ghost use Rattle.array_book.specs.declared.settle_fault.SettleFault.TheVariants as settle_fault;
 ghost use Rattle.slot_tables.specs.Represents.{ShowsArray};
 ghost use Rattle.slot_tables.specs.Views.{ArrayView, key_at};
@@ -7,9 +8,10 @@ ghost use Rattle.history.specs.Entries.{entry};
 ghost use Rattle.array_book.specs.Acts.{Opens};
 ghost use Rattle.flat_machine.specs.Flat.{Flat};
 ghost use Rattle.map_words.specs.Places.{blocks_of};
-ghost use Rattle.slot_words.specs.Places.{slots_of};
+ghost use Rattle.slot_words.specs.Places.{table_slots};
 ghost use Rattle.array_book.specs.Whole.{IsHistoryOf, IsMissing};
-ghost use Rattle.storm.specs.Ending.{IsEnding, IsNew, HaveBegun, HasStormed};
+ghost use Rattle.storm.specs.Rounds.{HaveAllPlayed};
+ghost use Rattle.storm.specs.Ending.{IsEnding, IsFreshArray, HaveBegun, HasStormed};
 
 use crate::crew::{Crew, run_all};
 use crate::outcome::{Storm, StormFault, Tally};
@@ -50,7 +52,7 @@ pub fn run_storm<R: Threads + Wait + Sync>(
     workers: u8,
     writes: u32,
 ) -> Result<Storm, StormFault>
-    ensures { IfOk result (HasStormed (workers + 1) 8) }
+    ensures { IfOk result (HasStormed (workers + 1) 8 writes) }
 {
     run_orders(
         rt,
@@ -70,20 +72,20 @@ pub fn run_orders<R: Threads + Wait + Sync>(
     alloc: Global,
     orders: Orders,
 ) -> Result<Storm, StormFault>
-    ensures { IfOk result (HasStormed (orders.workers + 1) orders.payload) }
+    ensures { IfOk result (HasStormed (orders.workers + 1) orders.payload orders.writes) }
 {
-    let wanted = StormFault::Setup(Refusal::Memory);
+    let expected = StormFault::Setup(Refusal::Memory);
     let Ok(slots) = SlotWords::new(alloc, 65_536) else {
-        return Err(wanted);
+        return Err(expected);
     };
     let Ok(even) = MapWords::new(alloc, BLOCKS) else {
-        return Err(wanted);
+        return Err(expected);
     };
     let Ok(odd) = MapWords::new(alloc, BLOCKS) else {
-        return Err(wanted);
+        return Err(expected);
     };
     let Ok(opened) = Opened::new(alloc) else {
-        return Err(wanted);
+        return Err(expected);
     };
     play_out::<Brand, Brand, Brand, R>(rt, alloc, slots, (even, odd), opened, orders)
 }
@@ -104,9 +106,9 @@ fn play_out<
     requires names { (slots ≡ N.table) × (maps.0 ≡ A.table) × (maps.1 ≡ B.table) × (opened ≡ N.chronicle) }
     requires sizes { (N.blocks ≡ 16) × (N.payload ≡ orders.payload) }
     requires hands { N.hands ≡ orders.workers + 1 }
-    requires slots { slots_of slots ≡ 65536 }
+    requires slots { table_slots slots ≡ 65536 }
     requires blocks { (blocks_of maps.0 ≡ 16) × (blocks_of maps.1 ≡ 16) }
-    ensures { IfOk result (HasStormed N.hands N.payload) }
+    ensures { IfOk result (HasStormed N.hands N.payload orders.writes) }
 {
     let (words, mut pass) = slots.named::<N>();
     let (even, one) = maps.0.named::<A>();
@@ -125,9 +127,9 @@ fn play_out<
         payload: orders.payload,
     };
     match run_all(rt, alloc, &book, (hands, parts), crew) {
-        Ok((ended, tally)) => close(alloc, book, ended, tally, &mut spare),
+        Ok((ended, tally)) => close(alloc, book, ended, tally, crew.writes, &mut spare),
         Err(fault) => {
-            let _ = close(alloc, book, Vec::new(alloc), Tally::new(), &mut spare);
+            let _ = close(alloc, book, Vec::new(alloc), Tally::new(), 0, &mut spare);
             Err(fault)
         }
     }
@@ -144,10 +146,11 @@ fn open<N: slot_words::Naming + Sizes, A: map_words::Naming, B: map_words::Namin
 ) -> Result<(Book<MemDrive, N, A, B>, Hand<N, Deed>, Vec<Hand<N, Deed>>), StormFault>
     requires sizes { (N.blocks ≡ 16) × (N.payload ≡ orders.payload) }
     requires hands { N.hands ≡ orders.workers + 1 }
-    requires slots { slots_of N.table ≡ 65536 }
+    requires slots { table_slots N.table ≡ 65536 }
     requires blocks { (blocks_of A.table ≡ 16) × (blocks_of B.table ≡ 16) }
     requires name { opened ≡ N.chronicle }
-    ensures { IfOk result (λ r. (first : ArrayView) × IsNew N.payload first × (r.1.seen ≡ entry 0 (Opens first) ∷ [])) }
+    ensures first { IfOk result (λ r. (first : ArrayView) × IsFreshArray N.payload first × (r.1.seen ≡ entry 0 (Opens first) ∷ [])) }
+    ensures parts { IfOk result (λ r. All (λ hand. hand.mine ≡ []) r.2.items) }
 {
     let mut array = match storm_array(alloc, &words, spare, orders.payload) {
         Ok(array) => array,
@@ -180,6 +183,7 @@ fn hire_hands<N: Chronicle>(
 ) -> Option<Vec<Hand<N, Deed>>>
     ensures log { keeper.new.log ≡ keeper.old.log }
     ensures hired { IfSome result (λ hands. keeper.new.hired ≡ keeper.old.hired + count) }
+    ensures none { IfSome result (λ hands. All (λ hand. hand.mine ≡ []) hands.items) }
 {
     let mut hands = Vec::new(alloc);
     for _ in 0..count {
@@ -197,11 +201,13 @@ fn close<N: slot_words::Naming + Sizes, A: map_words::Naming, B: map_words::Nami
     book: Book<MemDrive, N, A, B>,
     ended: Vec<Ended<N, A, B>>,
     tally: Tally,
+    rounds: u32,
     spare: &mut Pass<N>,
 ) -> Result<Storm, StormFault>
-    ensures { (first : ArrayView) → IsNew N.payload first → HaveBegun (map (λ e. e.hand) ended.items) first → IfOk result (HasStormed N.hands N.payload) }
+    ensures { (first : ArrayView) → IsFreshArray N.payload first → HaveBegun (map (λ e. e.hand) ended.items) first
+        → HaveAllPlayed N.payload rounds (map (λ e. e.hand) ended.items) → IfOk result (HasStormed N.hands N.payload rounds) }
 {
-    let (told, settled) = conclude(alloc, book, ended, tally);
+    let (reported, settled) = conclude(alloc, book, ended, tally);
     let Settled {
         array,
         words,
@@ -211,7 +217,7 @@ fn close<N: slot_words::Naming + Sizes, A: map_words::Naming, B: map_words::Nami
         missing,
     } = settled;
     release_all(&words, spare, array);
-    let storm = told?;
+    let storm = reported?;
     match missing {
         None => Ok(storm),
         Some(hand) => Err(StormFault::Missing(hand)),

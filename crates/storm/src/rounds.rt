@@ -1,4 +1,8 @@
 // What each worker of a storm does.
+ghost use Rattle.std.specs.Prelude.{◌≡◌, ◌*◌, ◌-◌, ◌++◌, length, drop, replicate, OnOk, IfOk};
+ghost use Rattle.std.specs.Int.{w32, to_be_bytes};
+ghost use Rattle.storm.specs.Rounds.{GoesOn, HasPlayed, IsRound};
+
 use crate::outcome::Tally;
 use crate::setting::BLOCKS;
 use array_book::{Controller, Job, Migration, NoGate, Sizes, WorkFault, Worker};
@@ -24,7 +28,9 @@ pub(crate) struct Rounds {
 }
 
 impl Rounds {
-    pub(crate) fn new(writes: u32, payload: u32) -> Rounds {
+    pub(crate) fn new(writes: u32, payload: u32) -> Rounds
+        ensures { (result.writes ≡ writes) × (result.payload ≡ payload) }
+    {
         Rounds {
             writes,
             payload,
@@ -61,6 +67,8 @@ impl<D: Drive, N: slot_words::Naming + Sizes, A: map_words::Naming, B: map_words
     A,
     B,
 > for Rounds {
+    ghost leaves = { λ job number v w. HasPlayed (record { blocks = N.blocks; payload = N.payload }) job.payload job.writes number v w };
+
     fn work<R: Wait>(
         &self,
         rt: &R,
@@ -94,7 +102,12 @@ fn play<
     payload: &mut [u8],
     round: u32,
     tally: &mut Tally,
-) -> Result<(), WorkFault> {
+) -> Result<(), WorkFault>
+    requires { drop 8 payload.old ≡ replicate (length payload.old - 8) 0 }
+    ensures played { OnOk result (IsRound (record { blocks = N.blocks; payload = N.payload }) (length payload.old) worker.old.number round worker.old.hand worker.new.hand) }
+    ensures number { worker.new.number ≡ worker.old.number }
+    ensures payload { (length payload.new ≡ length payload.old) × (drop 8 payload.new ≡ drop 8 payload.old) }
+{
     let number = worker.number();
     if worker.blocks() != BLOCKS
         || worker.payload() as usize != payload.len()
@@ -119,20 +132,20 @@ fn play<
 }
 
 // Two numbers, each with its highest byte first.
-fn numbers_of(number: u32, round: u32) -> [u8; 8] {
+fn numbers_of(number: u32, round: u32) -> [u8; 8]
+    ensures { result ≡ to_be_bytes w32 number ++ to_be_bytes w32 round }
+{
     let mut numbers = [0; 8];
-    let one = number.to_be_bytes();
-    let other = round.to_be_bytes();
-    for at in 0..4 {
-        numbers[at] = one[at];
-        numbers[at + 4] = other[at];
-    }
+    numbers[..4].copy_from_slice(&number.to_be_bytes());
+    numbers[4..].copy_from_slice(&round.to_be_bytes());
     numbers
 }
 
 // What a call returns; none where no slot was free or a record was ahead of the array, after which a worker goes on.
-fn passed_over<T: Drop>(told: Result<T, WorkFault>) -> Result<Option<T>, WorkFault> {
-    match told {
+fn passed_over<T: Drop>(reported: Result<T, WorkFault>) -> Result<Option<T>, WorkFault>
+    ensures { OnOk result (GoesOn reported) }
+{
+    match reported {
         Ok(answer) => Ok(Some(answer)),
         Err(WorkFault::NoRoom) => Ok(None),
         Err(WorkFault::Core(Refusal::Ahead(_))) => Ok(None),

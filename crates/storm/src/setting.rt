@@ -2,7 +2,7 @@
 ghost use Rattle.std.specs.Prelude.{◌≡◌, [], IfOk, length};
 ghost use Rattle.slot_tables.specs.Represents.{ShowsArray};
 ghost use Rattle.flat_machine.specs.Flat.{Flat};
-ghost use Rattle.storm.specs.Ending.{IsNew};
+ghost use Rattle.storm.specs.Ending.{IsFreshArray};
 
 use array_book::Claim;
 use extents::{MemDrive, Shape};
@@ -51,7 +51,7 @@ pub(crate) fn storm_array<N: Naming>(
     payload: u32,
 ) -> Result<Array<MemDrive, Claim<N>>, Refusal>
     ensures shows { IfOk result (λ array. (F : Flat) × ShowsArray array F) }
-    ensures new { IfOk result (IsNew payload) }
+    ensures new { IfOk result (IsFreshArray payload) }
 {
     let Ok(shape) = Shape::new(8, 8, payload, BLOCKS) else {
         return Err(Refusal::BadMember);

@@ -1,9 +1,9 @@
 -- Lists of single writes, entry by entry.
 use Rattle.std.proofs.Common.{◌≡◌, ℕ, zero, suc, Some, List, [], ◌∷◌, slice_get, refl, arith}
-use Rattle.array_parts.specs.declared.micro.Micro.{Micro}
-use Rattle.array_parts.specs.declared.micro.Micro.TheVariants.{NoteSet, Write, NoteClear}
-use Rattle.array_parts.specs.declared.parts.Parts.{Parts}
-use Rattle.array_parts.specs.Micros.{AreWrites}
+use Rattle.unit_store.specs.declared.micro.Micro.{Micro}
+use Rattle.unit_store.specs.declared.micro.Micro.TheVariants.{NoteSet, Write, NoteClear}
+use Rattle.unit_store.specs.declared.parts.Parts.{Parts}
+use Rattle.unit_store.specs.Micros.{AreWrites}
 
 -- where each entry alone writes only whole units to existing places, so does the list
 pub each_write : {D : Type 0} (units : D → List (List ℕ)) (parts : Parts D) (list : List Micro)

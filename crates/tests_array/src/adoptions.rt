@@ -1,20 +1,20 @@
 // An array put together again from its parts, their map and its claims.
 ghost use Rattle.std.specs.Prelude.{ℕ};
 ghost use Rattle.map_join.specs.Maps.{at};
-ghost use Rattle.flat_machine.specs.Restarted.{HasPlaces};
-ghost use Rattle.array_parts.specs.Fit.{IsFit};
-ghost use Rattle.array_parts.specs.Memory.{held_units};
-ghost use Rattle.slot_tables.specs.Adopted.{IsPlaced};
+ghost use Rattle.flat_machine.specs.Restarted.{HasDistinctSlots};
+ghost use Rattle.unit_store.specs.Fit.{IsFit};
+ghost use Rattle.unit_store.specs.Memory.{held_units};
+ghost use Rattle.slot_tables.specs.Adopted.{IsKeptByMap};
 ghost use Rattle.slot_tables.specs.Views.{kept_at};
 
 use crate::restarts::{is_as_written, written};
 use crate::rig::{Memory, Rig};
-use array_parts::Parts;
 use header_scan::scan;
 use map_join::BlockMap;
 use std::alloc::Global;
 use std::process::Abort;
 use step_core::{Array, MemDrive, NotAdopted, Plain};
+use unit_store::Parts;
 
 // The array's parts, the map that their headers hold, and its claims.
 fn taken_apart(
@@ -23,7 +23,7 @@ fn taken_apart(
     array: Memory,
 ) -> (Parts<MemDrive>, BlockMap, Vec<Plain>)
     ensures fit { IsFit held_units result.0 }
-    ensures places { HasPlaces result.0.groups (at result.1) }
+    ensures places { HasDistinctSlots result.0.groups (at result.1) }
 {
     let Ok((mut parts, claims)) = array.into_parts(alloc) else {
         panic!(rt; "not taken apart")
@@ -43,9 +43,9 @@ fn put_together(
     claims: Vec<Plain>,
 ) -> Memory
     requires fit { IsFit held_units parts }
-    requires places { HasPlaces parts.groups (at map) }
-    ensures places { HasPlaces result.parts.groups (at map) }
-    ensures kept { (s : ℕ) → IsPlaced (at map) s (kept_at result s) }
+    requires places { HasDistinctSlots parts.groups (at map) }
+    ensures places { HasDistinctSlots result.parts.groups (at map) }
+    ensures kept { (s : ℕ) → IsKeptByMap (at map) s (kept_at result s) }
 {
     assert!(rt; parts.note.is_none());
     let Ok((array, others)) = Array::adopt_among(alloc, parts, map, claims) else {
@@ -57,8 +57,8 @@ fn put_together(
 
 // Takes the array apart and puts it together: the array, in which nothing is pending, and a second map of it.
 fn adopted(rt: &impl Abort, alloc: Global, array: Memory) -> (Memory, BlockMap)
-    ensures places { HasPlaces result.0.parts.groups (at result.1) }
-    ensures kept { (s : ℕ) → IsPlaced (at result.1) s (kept_at result.0 s) }
+    ensures places { HasDistinctSlots result.0.parts.groups (at result.1) }
+    ensures kept { (s : ℕ) → IsKeptByMap (at result.1) s (kept_at result.0 s) }
 {
     let (parts, map, claims) = taken_apart(rt, alloc, array);
     let Ok(copy) = map.copied(alloc) else {
@@ -69,8 +69,8 @@ fn adopted(rt: &impl Abort, alloc: Global, array: Memory) -> (Memory, BlockMap)
 
 // Takes an array apart in which nothing is pending, and puts it together from all of its claims.
 fn adopted_again(rt: &impl Abort, alloc: Global, array: Memory, map: BlockMap) -> Memory
-    requires places { HasPlaces array.parts.groups (at map) }
-    requires kept { (s : ℕ) → IsPlaced (at map) s (kept_at array s) }
+    requires places { HasDistinctSlots array.parts.groups (at map) }
+    requires kept { (s : ℕ) → IsKeptByMap (at map) s (kept_at array s) }
 {
     let Ok((parts, claims)) = array.into_parts(alloc) else {
         panic!(rt; "not taken apart")
@@ -104,9 +104,9 @@ fn refused_without_last(
     lowest: u16,
 ) -> (Parts<MemDrive>, BlockMap, Vec<Plain>)
     requires fit { IsFit held_units whole.0 }
-    requires places { HasPlaces whole.0.groups (at whole.1) }
+    requires places { HasDistinctSlots whole.0.groups (at whole.1) }
     ensures fit { IsFit held_units result.0 }
-    ensures places { HasPlaces result.0.groups (at result.1) }
+    ensures places { HasDistinctSlots result.0.groups (at result.1) }
 {
     let (parts, map, mut claims) = whole;
     let Some(last) = claims.pop() else {

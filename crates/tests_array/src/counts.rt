@@ -70,7 +70,7 @@ fn step(rt: &impl Abort, rig: &mut Rig, places: &mut [Option<u16>; 16], turn: u3
 }
 
 // The array rebuilt from its headers.
-fn made_anew(rt: &impl Abort, rig: Rig) -> Rig {
+fn made_afresh(rt: &impl Abort, rig: Rig) -> Rig {
     let Rig { array, alloc } = rig;
     let Ok((parts, claims)) = array.into_parts(alloc) else {
         panic!(rt; "not taken apart")
@@ -91,10 +91,10 @@ fn each_group_counts_the_blocks_that_lie_there(rt: HostRuntime) {
         assert!(rt; counts_all(&rig, &places));
     }
     assert!(rt; rig.array.record_count() > 200);
-    let mut anew = made_anew(&rt, rig);
-    assert!(rt; counts_all(&anew, &places));
-    step(&rt, &mut anew, &mut places, STEPS);
-    assert!(rt; counts_all(&anew, &places));
+    let mut afresh = made_afresh(&rt, rig);
+    assert!(rt; counts_all(&afresh, &places));
+    step(&rt, &mut afresh, &mut places, STEPS);
+    assert!(rt; counts_all(&afresh, &places));
 }
 
 // Whether the array counts `first` live slots in group 0, and `third` in group 2.

@@ -1,6 +1,6 @@
 // A stop after n entries of a step's list, told apart by the calls of the two drives that the step writes.
 use crate::rig::{Rig, record};
-use single_writes::{Intent, stop_after};
+use crash_points::{Intent, stop_after};
 use std::alloc::Global;
 use std::process::Abort;
 use step_core::Class;
@@ -51,8 +51,8 @@ fn calls(rt: &impl Abort, alloc: Global, n: usize, drive: u8) -> u64 {
 // Whether stops after 1, 2, 3, 4 and 9 entries make these many calls more of a drive than a stop before the first entry.
 fn makes_more(rt: &impl Abort, alloc: Global, drive: u8, more: [u64; 5]) -> bool {
     let none = calls(rt, alloc, 0, drive);
-    for (n, wanted) in [1, 2, 3, 4, 9].into_iter().zip(more) {
-        if calls(rt, alloc, n, drive) != none.saturating_add(wanted) {
+    for (n, expected) in [1, 2, 3, 4, 9].into_iter().zip(more) {
+        if calls(rt, alloc, n, drive) != none.saturating_add(expected) {
             return false;
         }
     }

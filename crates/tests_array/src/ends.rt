@@ -55,8 +55,8 @@ fn each_claim_of_an_array_comes_back_once_at_its_end(rt: HostRuntime) {
     let parts = rig.array.end(&mut returned);
     assert!(rt; parts.drives.len() == 4);
     for (slot, count) in returned.slots.iter().enumerate() {
-        let wanted = slot == 1 || slot == 2 || slot == 4 || slot == 128;
-        assert!(rt; *count == u8::from(wanted));
+        let expected = slot == 1 || slot == 2 || slot == 4 || slot == 128;
+        assert!(rt; *count == u8::from(expected));
     }
     assert!(rt; returned.others == 6);
 }

@@ -35,7 +35,7 @@ fn the_newest_record_is_learned_where_another_lies(rt: HostRuntime) {
 }
 
 #[test]
-fn the_newest_place_is_told_gone_where_another_record_lies(rt: HostRuntime) {
+fn the_newest_place_is_reported_gone_where_another_record_lies(rt: HostRuntime) {
     let mut rig = written_over(&rt, rt.alloc());
     rig.lose(&rt, 0);
     rig.lose(&rt, 2);

@@ -2,14 +2,13 @@
 ghost use Rattle.std.specs.Prelude.{◌≡◌, ℕ, Some, [], ◌∷◌, length, slice_get, IsTrue};
 ghost use Rattle.extent_groups.specs.declared.class.Class.TheVariants.{Mirrored, Parity};
 ghost use Rattle.extent_groups.specs.Stores.{IsSlotOf};
-ghost use Rattle.array_parts.specs.Fit.{IsFit};
-ghost use Rattle.array_parts.specs.Memory.{held_units};
-ghost use Rattle.array_parts.specs.Micros.{AreWrites};
-ghost use Rattle.array_parts.specs.declared.micro.Micro.{Micro};
+ghost use Rattle.unit_store.specs.Fit.{IsFit};
+ghost use Rattle.unit_store.specs.Memory.{held_units};
+ghost use Rattle.unit_store.specs.Micros.{AreWrites};
+ghost use Rattle.unit_store.specs.declared.micro.Micro.{Micro};
 
 use crate::rig::{Rig, payload_of, record};
 use crate::units::{UNIT, header_of, is_slot, unit_with};
-use array_parts::{Micro, Note, Parts, run_micro};
 use extent_groups::{GroupTable, Planned, SLOTS};
 use extents::Drive;
 use header_scan::{ScanFault, restart};
@@ -17,6 +16,7 @@ use map_join::Record;
 use std::alloc::Global;
 use std::process::Abort;
 use step_core::{Class, MemDrive, Plain};
+use unit_store::{Micro, Note, Parts, run_micro};
 
 /// Units of a drive: eight extents of four.
 const DRIVE_UNITS: u32 = 32;
@@ -38,8 +38,8 @@ pub(crate) fn both_of(one: [u8; UNIT], other: [u8; UNIT]) -> [u8; UNIT] {
 }
 
 /// The unit of a record with a payload that this byte names.
-pub(crate) fn unit_of(told: Record, byte: u8) -> [u8; UNIT] {
-    unit_with(header_of(told, 0), payload_of(byte))
+pub(crate) fn unit_of(reported: Record, byte: u8) -> [u8; UNIT] {
+    unit_with(header_of(reported, 0), payload_of(byte))
 }
 
 /// A unit under a blank header, with a payload that this byte names.
@@ -244,7 +244,7 @@ impl Stop {
             return false;
         };
         let same = match (&note.parity, parity) {
-            (Some(sum), Some(wanted)) => sum.as_slice() == wanted,
+            (Some(sum), Some(expected)) => sum.as_slice() == expected,
             (None, None) => true,
             _ => false,
         };

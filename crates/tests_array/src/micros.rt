@@ -1,9 +1,9 @@
 // Lists of single writes that were made manually, carried out in part or as a whole.
 use crate::lists::{Stop, blank_of, bytes_of, unit_of};
 use crate::rig::record;
-use array_parts::{Micro, Note};
 use std::alloc::Global;
 use std::process::Abort;
+use unit_store::{Micro, Note};
 
 /// The list with one entry more.
 fn with(rt: &impl Abort, list: Vec<Micro>, entry: Micro) -> Vec<Micro> {

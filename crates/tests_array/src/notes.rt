@@ -2,10 +2,10 @@
 use crate::lists::{Stop, blank_of, both_of, bytes_of, unit_of};
 use crate::rig::{Rig, record};
 use crate::units::UNIT;
-use array_parts::Note;
 use header_scan::ScanFault;
 use std::alloc::Global;
 use std::process::Abort;
+use unit_store::Note;
 
 /// A note over what `Stop::written` leaves: the drives that are lost before the restart, the slot, bytes of the unit, and bytes of
 /// the parity, if there is one.
@@ -134,11 +134,11 @@ fn is_bad(rt: &impl Abort, alloc: Global, row: &Row) {
 
 /// Whether the array's log has block 3 at this slot and hop, and block 4 at slot 130, with their payloads.
 fn reads_both(rt: &impl Abort, rig: &mut Rig, hop: u16, slot: u16) -> bool {
-    let wanted = [record(3, 1, hop, slot), record(4, 1, 1, 130)];
+    let expected = [record(3, 1, hop, slot), record(4, 1, 1, 130)];
     let Ok(log) = rig.array.records_from(rig.alloc, 0) else {
         return false;
     };
-    log.as_slice() == wanted.as_slice() && rig.reads(rt, 3, 1, 0x11) && rig.reads(rt, 4, 1, 0x44)
+    log.as_slice() == expected.as_slice() && rig.reads(rt, 3, 1, 0x11) && rig.reads(rt, 4, 1, 0x44)
 }
 
 /// A restart over the note of a row finishes it.

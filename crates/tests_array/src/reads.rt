@@ -37,7 +37,7 @@ fn mapped(rt: &impl Abort, rig: &Rig, block: u32) -> Option<Record> {
 }
 
 #[test]
-fn an_array_tells_its_log_its_map_and_its_slots(rt: HostRuntime) {
+fn an_array_reports_its_log_its_map_and_its_slots(rt: HostRuntime) {
     let rig = written(&rt, rt.alloc());
     assert!(rt; count_from(&rt, &rig, 0) == 1 && count_from(&rt, &rig, 2) == 0);
     assert!(rt; mapped(&rt, &rig, 3) == Some(FIRST));

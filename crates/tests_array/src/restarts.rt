@@ -62,13 +62,13 @@ fn are_of(claims: &[Plain], slots: &[u16]) -> bool {
 
 // Takes the array apart, which held these slots, and rebuilds it with claims of some others in addition: the array, and the
 // claims that it doesn't take.
-fn restarted(rt: &impl Abort, rig: Rig, held: &[u16], beside: &[u16]) -> (Rig, Vec<Plain>) {
+fn restarted(rt: &impl Abort, rig: Rig, held: &[u16], nearby: &[u16]) -> (Rig, Vec<Plain>) {
     let Rig { array, alloc } = rig;
     let Ok((parts, mut claims)) = array.into_parts(alloc) else {
         panic!(rt; "not taken apart")
     };
     assert!(rt; are_of(&claims, held));
-    for slot in beside {
+    for slot in nearby {
         assert!(rt; claims.push(Plain { slot: *slot }).is_ok());
     }
     let Ok((array, others)) = restart(alloc, parts, claims) else {
@@ -83,20 +83,20 @@ fn a_restart_forgets_tickets_and_old_places(rt: HostRuntime) {
     assert!(rt; rig.fill(&rt, 3, 0x55).is_ok());
     assert!(rt; rig.array.is_held(3));
     rig.lose(&rt, 1);
-    let (mut anew, others) = restarted(&rt, rig, &[2, 3, 4, 130], &[0, 129]);
+    let (mut afresh, others) = restarted(&rt, rig, &[2, 3, 4, 130], &[0, 129]);
     assert!(rt; are_of(&others, &[0, 3, 129]));
-    assert!(rt; anew.array.is_lost(1) && !anew.array.is_lost(0));
-    assert!(rt; anew.array.record_count() == 3 && is_as_written(&rt, &mut anew));
+    assert!(rt; afresh.array.is_lost(1) && !afresh.array.is_lost(0));
+    assert!(rt; afresh.array.record_count() == 3 && is_as_written(&rt, &mut afresh));
 }
 
 #[test]
 fn writes_go_on_after_a_restart(rt: HostRuntime) {
-    let (mut anew, others) = restarted(&rt, written(&rt, rt.alloc()), &[2, 4, 130], &[]);
+    let (mut afresh, others) = restarted(&rt, written(&rt, rt.alloc()), &[2, 4, 130], &[]);
     assert!(rt; others.is_empty());
-    assert!(rt; anew.write(&rt, 0, 3, 0x66) == record(3, 3, 0, 0));
-    assert!(rt; anew.carry(&rt, 1, 5) == record(5, 1, 2, 1));
-    assert!(rt; anew.write(&rt, 2, 7, 0x77) == record(7, 1, 0, 2));
-    assert!(rt; anew.array.record_count() == 6);
+    assert!(rt; afresh.write(&rt, 0, 3, 0x66) == record(3, 3, 0, 0));
+    assert!(rt; afresh.carry(&rt, 1, 5) == record(5, 1, 2, 1));
+    assert!(rt; afresh.write(&rt, 2, 7, 0x77) == record(7, 1, 0, 2));
+    assert!(rt; afresh.array.record_count() == 6);
 }
 
 // A world of an array, whose workers' hands are empty.
@@ -121,9 +121,9 @@ fn fused(rt: &impl Abort, alloc: Global, drive: u8, call: u64) -> Rig {
 // Whether a drive is lost at a call of a restart.
 fn burns(rt: &impl Abort, alloc: Global, drive: u8, call: u64) -> bool {
     let rig = fused(rt, alloc, drive, call);
-    let (mut anew, others) = restarted(rt, rig, &[2, 4, 130], &[]);
-    let burnt = anew.array.is_lost(drive);
-    assert!(rt; others.is_empty() && is_as_written(rt, &mut anew));
+    let (mut afresh, others) = restarted(rt, rig, &[2, 4, 130], &[]);
+    let burnt = afresh.array.is_lost(drive);
+    assert!(rt; others.is_empty() && is_as_written(rt, &mut afresh));
     burnt
 }
 
@@ -138,7 +138,7 @@ fn burns_until_its_last(rt: &impl Abort, alloc: Global, drive: u8) -> bool {
 }
 
 #[test]
-fn a_restart_tells_the_same_whichever_drive_is_lost_at_whichever_call(rt: HostRuntime) {
+fn a_restart_reports_the_same_whichever_drive_is_lost_at_whichever_call(rt: HostRuntime) {
     for drive in 0..4u8 {
         assert!(rt; burns_until_its_last(&rt, rt.alloc(), drive));
     }

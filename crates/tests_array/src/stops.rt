@@ -3,12 +3,12 @@
 use crate::lists::{Stop, blank_of, both_of, unit_of};
 use crate::rig::{Rig, payload_of, record};
 use crate::units::UNIT;
-use array_parts::Micro;
 use header_scan::ScanFault;
 use map_join::Record;
 use std::alloc::Global;
 use std::process::Abort;
 use step_core::{At, Refusal};
+use unit_store::Micro;
 
 /// The drives that are lost after a stop: none, or one of the four.
 const LOSSES: [&[u8]; 5] = [&[], &[0], &[1], &[2], &[3]];
@@ -93,15 +93,15 @@ fn is_settled(rt: &impl Abort, stop: Stop, lowest: u16) -> Stop {
 }
 
 /// Whether the array's log is these two records.
-fn lists(rig: &Rig, wanted: [Record; 2]) -> bool {
+fn lists(rig: &Rig, expected: [Record; 2]) -> bool {
     match rig.array.records_from(rig.alloc, 0) {
-        Ok(log) => log.as_slice() == wanted.as_slice(),
+        Ok(log) => log.as_slice() == expected.as_slice(),
         Err(_) => false,
     }
 }
 
 /// Restarts what was stopped in the commit of block 3, whose newest record then is this one: blocks 3 and 4 have their payloads.
-fn commit_stands(rt: &impl Abort, stop: Stop, newest: Record) {
+fn commit_matches(rt: &impl Abort, stop: Stop, newest: Record) {
     let mut rig = is_settled(rt, stop, newest.place).restarted(rt);
     assert!(rt; lists(&rig, [newest, OTHER]));
     assert!(rt; rig.reads(rt, 3, 1, 0x11) && rig.reads(rt, 4, 1, 0x44));
@@ -121,7 +121,7 @@ fn stops_in_commit(rt: &impl Abort, alloc: Global, between: &[u8], n: usize, los
     stop.run(rt, list, n);
     assert!(rt; stop.parts.note.is_some() == (n > 0 && n < 4));
     stop.lose(rt, lost);
-    commit_stands(rt, stop, if n == 0 { BEFORE } else { AFTER });
+    commit_matches(rt, stop, if n == 0 { BEFORE } else { AFTER });
 }
 
 #[test]
@@ -201,7 +201,7 @@ fn with_its_note_a_copy_leaves_the_payloads_of_others(rt: HostRuntime) {
             let list = stop.plan(&rt, 128, blank_of(0x99));
             stop.run(&rt, list, n);
             stop.lose(&rt, lost);
-            commit_stands(&rt, stop, BEFORE);
+            commit_matches(&rt, stop, BEFORE);
         }
     }
 }
@@ -217,21 +217,21 @@ fn stops_in_fill(rt: &impl Abort, alloc: Global, lost: [&[u8]; 3], n: usize, ent
     stop.lose(rt, between);
     stop.run(rt, list, n);
     stop.lose(rt, then);
-    fill_stands(rt, stop, n > 0);
+    fill_matches(rt, stop, n > 0);
 }
 
 /// Restarts what was stopped in the fill of slot 1: it has the new unit or the old one.
-fn fill_stands(rt: &impl Abort, stop: Stop, filled: bool) {
+fn fill_matches(rt: &impl Abort, stop: Stop, filled: bool) {
     let old = record(4, 1, 0, 1);
     let mut left = is_settled(rt, stop, 0);
-    let wanted = if filled {
+    let expected = if filled {
         blank_of(0xF6)
     } else {
         unit_of(old, 0x44)
     };
     for drive in 0..2 {
         let is_lost = left.peek(rt, drive, 0).is_none();
-        assert!(rt; is_lost || left.holds(rt, drive, 1, wanted));
+        assert!(rt; is_lost || left.holds(rt, drive, 1, expected));
     }
     let mut rig = left.restarted(rt);
     assert!(rt; lists(&rig, [BEFORE, OTHER]));

@@ -1,14 +1,14 @@
 // The units of an array and of a world by slot number, against what was written there.
 ghost use Rattle.std.specs.Prelude.{IsTrue};
-ghost use Rattle.array_parts.specs.Slots.{IsSlot};
+ghost use Rattle.unit_store.specs.Slots.{IsSlot};
 
 use crate::rig::{Rig, payload_of, record};
-use array_parts::Units;
 use extent_groups::{GroupTable, SLOTS};
 use map_join::Record;
 use std::alloc::Global;
 use std::process::Abort;
 use step_core::{Class, Refusal, World};
+use unit_store::Units;
 
 /// Bytes of a unit, header and payload.
 pub(crate) const UNIT: usize = 56;
@@ -36,13 +36,13 @@ fn unit_of<U: Units>(rt: &impl Abort, units: &mut U, slot: u16) -> Result<[u8; U
 }
 
 /// The header of a record in layout 2, of data (0) or of a trim (1).
-pub(crate) fn header_of(told: Record, kind: u8) -> [u8; 32] {
+pub(crate) fn header_of(reported: Record, kind: u8) -> [u8; 32] {
     let mut header = [0; 32];
     header[..4].copy_from_slice(b"RBH2");
-    header[4..8].copy_from_slice(&told.block.to_be_bytes());
-    header[8..12].copy_from_slice(&told.version.to_be_bytes());
-    header[12..14].copy_from_slice(&told.hop.to_be_bytes());
-    header[14..16].copy_from_slice(&told.place.to_be_bytes());
+    header[4..8].copy_from_slice(&reported.block.to_be_bytes());
+    header[8..12].copy_from_slice(&reported.version.to_be_bytes());
+    header[12..14].copy_from_slice(&reported.hop.to_be_bytes());
+    header[14..16].copy_from_slice(&reported.place.to_be_bytes());
     header[16] = kind;
     header
 }
@@ -71,7 +71,7 @@ fn written(rt: &impl Abort, alloc: Global) -> Rig {
 }
 
 // What `written` left in a slot.
-fn wanted(slot: u16) -> [u8; UNIT] {
+fn requested(slot: u16) -> [u8; UNIT] {
     match slot {
         0 => unit_with(header_of(record(3, 1, 0, 0), 0), payload_of(0x11)),
         1 => unit_with(header_of(record(5, 1, 0, 1), 0), payload_of(0x22)),
@@ -93,7 +93,7 @@ fn are_as_written<U: Units>(rt: &impl Abort, units: &mut U, gone: &[u16]) -> boo
         let expected = if gone.contains(&slot) {
             Err(Refusal::Gone(slot))
         } else {
-            Ok(wanted(slot))
+            Ok(requested(slot))
         };
         if unit_of(rt, units, slot) != expected {
             return false;

@@ -22,11 +22,17 @@ fn are_of(claims: &[Plain], slots: &[u16]) -> bool {
 }
 
 // Whether unmaking a group with claims of these slots is refused so, with the claims back in their order.
-fn is_refused(rt: &impl Abort, rig: &mut Rig, group: u16, slots: &[u16], wanted: Refusal) -> bool {
+fn is_refused(
+    rt: &impl Abort,
+    rig: &mut Rig,
+    group: u16,
+    slots: &[u16],
+    expected: Refusal,
+) -> bool {
     let claims = claims_of(rt, rig.alloc, slots);
     match rig.array.unmake_group(group, claims) {
         Ok(()) => false,
-        Err((refusal, claims)) => refusal == wanted && are_of(&claims, slots),
+        Err((refusal, claims)) => refusal == expected && are_of(&claims, slots),
     }
 }
 

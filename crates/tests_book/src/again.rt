@@ -12,7 +12,7 @@ use step_core::MemDrive;
 struct WritesBoth;
 
 impl Story for WritesBoth {
-    fn tell<
+    fn report<
         N: slot_words::Naming + Sizes,
         A: map_words::Naming,
         B: map_words::Naming,
@@ -27,7 +27,7 @@ impl Story for WritesBoth {
 struct MovesBoth;
 
 impl Story for MovesBoth {
-    fn tell<
+    fn report<
         N: slot_words::Naming + Sizes,
         A: map_words::Naming,
         B: map_words::Naming,

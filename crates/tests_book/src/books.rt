@@ -1,7 +1,7 @@
 // Two Books around one array, one after the other.
 ghost use Rattle.std.specs.Prelude.{◌≡◌, ◌≤◌};
 ghost use Rattle.map_words.specs.Places.{blocks_of};
-ghost use Rattle.slot_words.specs.Places.{slots_of};
+ghost use Rattle.slot_words.specs.Places.{table_slots};
 
 use crate::rig::{
     Layout, Story, Tables, hired, laid_out, named, new_history, new_map, new_tables, play,
@@ -24,7 +24,7 @@ fn claimed<N: slot_words::Naming, R: Abort>(
     pass: &mut Pass<N>,
     count: u16,
 ) -> Vec<Claim<N>>
-    requires slots { slots_of N.table ≡ 65536 }
+    requires slots { table_slots N.table ≡ 65536 }
     requires count { count ≤ 48 }
 {
     let mut claims = Vec::new(alloc);

@@ -198,10 +198,10 @@ pub(crate) fn reads_none<
     matches!(read(rt, alloc, worker, controller, block), Ok(None))
 }
 
-/// Waits until the number is at least `wanted`, for a billion loads at most. Returns whether it is.
-pub(crate) fn comes_to(number: &AtomicU64, wanted: u64) -> bool {
+/// Waits until the number is at least `expected`, for a billion loads at most. Returns whether it is.
+pub(crate) fn comes_to(number: &AtomicU64, expected: u64) -> bool {
     for _look in 0..1_000_000_000u32 {
-        if number.load(SeqCst) >= wanted {
+        if number.load(SeqCst) >= expected {
             return true;
         }
         yield_now();

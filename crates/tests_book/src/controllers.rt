@@ -11,7 +11,7 @@ use step_core::{MemDrive, Refusal};
 struct WritesOne;
 
 impl Story for WritesOne {
-    fn tell<
+    fn report<
         N: slot_words::Naming + Sizes,
         A: map_words::Naming,
         B: map_words::Naming,
@@ -28,7 +28,7 @@ impl Story for WritesOne {
 struct IsAhead;
 
 impl Story for IsAhead {
-    fn tell<
+    fn report<
         N: slot_words::Naming + Sizes,
         A: map_words::Naming,
         B: map_words::Naming,

@@ -22,6 +22,8 @@ mod points;
 #[cfg(test)]
 mod refused;
 #[cfg(test)]
+mod reported;
+#[cfg(test)]
 mod rig;
 #[cfg(test)]
 mod room;
@@ -29,8 +31,6 @@ mod room;
 mod rounds;
 #[cfg(test)]
 mod storms;
-#[cfg(test)]
-mod told;
 #[cfg(test)]
 mod trims;
 #[cfg(test)]

@@ -11,7 +11,7 @@ use step_core::MemDrive;
 struct MovesOne;
 
 impl Story for MovesOne {
-    fn tell<
+    fn report<
         N: slot_words::Naming + Sizes,
         A: map_words::Naming,
         B: map_words::Naming,
@@ -39,7 +39,7 @@ impl Story for GathersThem {
         Layout::Short
     }
 
-    fn tell<
+    fn report<
         N: slot_words::Naming + Sizes,
         A: map_words::Naming,
         B: map_words::Naming,
@@ -76,7 +76,7 @@ impl Story for RunsOut {
         Layout::Short
     }
 
-    fn tell<
+    fn report<
         N: slot_words::Naming + Sizes,
         A: map_words::Naming,
         B: map_words::Naming,

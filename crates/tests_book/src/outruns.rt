@@ -133,7 +133,7 @@ impl Story for Halts {
         Ok(())
     }
 
-    fn tell<
+    fn report<
         N: slot_words::Naming + Sizes,
         A: map_words::Naming,
         B: map_words::Naming,

@@ -46,7 +46,7 @@ impl Gate for Reached {
 struct WritesAndMoves(bool);
 
 impl Story for WritesAndMoves {
-    fn tell<
+    fn report<
         N: slot_words::Naming + Sizes,
         A: map_words::Naming,
         B: map_words::Naming,
@@ -100,8 +100,8 @@ impl Watched {
         }
     }
 
-    fn await_that(&self, number: &AtomicU64, wanted: u64) {
-        if !comes_to(number, wanted) {
+    fn await_that(&self, number: &AtomicU64, expected: u64) {
+        if !comes_to(number, expected) {
             self.late.fetch_add(1, SeqCst);
         }
     }
@@ -169,7 +169,7 @@ impl Story for Watched {
 
     // At points 1 and 2 the odd controller reads the old version of block 3, until the slot is filled; worker 2 writes versions 1
     // and 2 of block 9. Version 3 is committed by point 3, and the odd controller has taken it by point 4.
-    fn tell<
+    fn report<
         N: slot_words::Naming + Sizes,
         A: map_words::Naming,
         B: map_words::Naming,

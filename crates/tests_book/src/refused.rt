@@ -1,16 +1,15 @@
 // A Book around a restarted array whose worker's call is refused, and the slot that the call releases.
 ghost use Rattle.std.specs.Prelude.{◌≡◌, None};
-ghost use Rattle.array_parts.specs.Fit.{IsFit};
-ghost use Rattle.array_parts.specs.Memory.{held_lost, held_units};
+ghost use Rattle.unit_store.specs.Fit.{IsFit};
+ghost use Rattle.unit_store.specs.Memory.{held_lost, held_units};
 ghost use Rattle.slot_tables.specs.Represents.{ShowsArray};
 ghost use Rattle.flat_machine.specs.Flat.{Flat};
 ghost use Rattle.header_scan.specs.Restarts.{AreAllSound};
-ghost use Rattle.slot_words.specs.Places.{slots_of};
+ghost use Rattle.slot_words.specs.Places.{table_slots};
 
 use crate::calls::{payload, trim, write};
 use crate::rig::{Story, Tables, grouped, named, new_history, new_tables, play, released};
 use array_book::{Claim, Deed, NoGate, SettleFault, Settled, Sizes, WorkFault, Worker, begin};
-use array_parts::Parts;
 use header_scan::restart;
 use history::Opened;
 use slot_words::{Pass, SlotWords};
@@ -20,6 +19,7 @@ use std::process::Abort;
 use std::sync::Wait;
 use std::thread::Threads;
 use step_core::{Array, Class, MemDrive, Plain, Refusal};
+use unit_store::Parts;
 
 // Slots 0 to 5 are mirrored on drives 0 to 2, slots 0 and 1 on drives 0 and 1. The parity slots begin at 128.
 const GROUPS: [(Class, u16, [u8; 3]); 2] = [
@@ -81,7 +81,7 @@ impl Refused {
 }
 
 impl Story for Refused {
-    fn tell<
+    fn report<
         N: slot_words::Naming + Sizes,
         A: map_words::Naming,
         B: map_words::Naming,
@@ -132,7 +132,7 @@ fn remade<N: slot_words::Naming, R: Abort>(
     pass: &mut Pass<N>,
     case: &Refused,
 ) -> Array<MemDrive, Claim<N>>
-    requires { slots_of N.table ≡ 65536 }
+    requires { table_slots N.table ≡ 65536 }
     ensures shows { (F : Flat) × ShowsArray result F }
     ensures sizes { (result.parts.groups.blocks ≡ 16) × (result.parts.groups.payload ≡ 40) }
 {
@@ -162,7 +162,7 @@ fn failing<N: slot_words::Naming, R: Abort>(
     pass: &mut Pass<N>,
     case: &Refused,
 ) -> Array<MemDrive, Claim<N>>
-    requires { slots_of N.table ≡ 65536 }
+    requires { table_slots N.table ≡ 65536 }
     ensures shows { (F : Flat) × ShowsArray result F }
     ensures sizes { (result.parts.groups.blocks ≡ 16) × (result.parts.groups.payload ≡ 40) }
 {
@@ -181,7 +181,7 @@ fn restarted<N: slot_words::Naming, R: Abort>(
     pass: &mut Pass<N>,
     case: &Refused,
 ) -> Array<MemDrive, Claim<N>>
-    requires { slots_of N.table ≡ 65536 }
+    requires { table_slots N.table ≡ 65536 }
     ensures shows { (F : Flat) × ShowsArray result F }
     ensures sizes { (result.parts.groups.blocks ≡ 16) × (result.parts.groups.payload ≡ 40) }
 {

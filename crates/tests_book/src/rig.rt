@@ -1,10 +1,10 @@
 // The life of a Book over an array of 16 blocks and payloads of 40 bytes: its tables, its workers, who play a story, and how it
 // is settled.
-ghost use Rattle.std.specs.Prelude.{◌≡◌, ◌+◌, ◌-◌, length};
+ghost use Rattle.std.specs.Prelude.{◌≡◌, ◌+◌, ◌-◌, length, ⊤};
 ghost use Rattle.slot_tables.specs.Represents.{ShowsArray};
 ghost use Rattle.flat_machine.specs.Flat.{Flat};
 ghost use Rattle.map_words.specs.Places.{blocks_of};
-ghost use Rattle.slot_words.specs.Places.{slots_of};
+ghost use Rattle.slot_words.specs.Places.{table_slots};
 ghost use Rattle.array_book.specs.Acts.{IsEndOf};
 
 use array_book::{
@@ -28,7 +28,7 @@ pub(crate) struct Tables {
     pub(crate) slots: slot_words::Unnamed,
     pub(crate) even: map_words::Unnamed,
     pub(crate) odd: map_words::Unnamed,
-    pub(crate) ghost many: { slots_of slots ≡ 65536 },
+    pub(crate) ghost many: { table_slots slots ≡ 65536 },
     pub(crate) ghost here: { blocks_of even ≡ 16 },
     pub(crate) ghost there: { blocks_of odd ≡ 16 },
 }
@@ -106,7 +106,7 @@ pub(crate) trait Story {
     }
 
     /// What the first worker does when all threads have ended.
-    fn tell<
+    fn report<
         N: slot_words::Naming + Sizes,
         A: map_words::Naming,
         B: map_words::Naming,
@@ -114,14 +114,14 @@ pub(crate) trait Story {
     >(&self, _rt: &R, _alloc: Global, _worker: &mut Worker<'_, MemDrive, N, A, B>) {}
 
     /// What all workers do, in one thread, when all threads have ended.
-    fn tell_all<
+    fn report_all<
         N: slot_words::Naming + Sizes,
         A: map_words::Naming,
         B: map_words::Naming,
         R: Abort + Wait,
     >(&self, rt: &R, alloc: Global, workers: &mut [Worker<'_, MemDrive, N, A, B>]) {
         if let Some(first) = workers.first_mut() {
-            self.tell(rt, alloc, first);
+            self.report(rt, alloc, first);
         }
     }
 }
@@ -138,6 +138,8 @@ impl<'a, S: Story, N: slot_words::Naming + Sizes, A: map_words::Naming, B: map_w
     A,
     B,
 > for Works<'a, S> {
+    ghost leaves = { λ _ _ _ _. ⊤ };
+
     fn work<R: Wait>(
         &self,
         rt: &R,
@@ -190,7 +192,7 @@ pub(crate) fn named<N: slot_words::Naming, A: map_words::Naming, B: map_words::N
     tables: Tables,
 ) -> Bench<N, A, B>
     requires names { (tables.slots ≡ N.table) × (tables.even ≡ A.table) × (tables.odd ≡ B.table) }
-    ensures many { slots_of N.table ≡ 65536 }
+    ensures many { table_slots N.table ≡ 65536 }
     ensures blocks { (blocks_of A.table ≡ 16) × (blocks_of B.table ≡ 16) }
 {
     let Tables { slots, even, odd } = tables;
@@ -378,7 +380,7 @@ fn played<
     }
     let works = Works { story };
     assert!(rt; run_workers(rt, alloc, &mut workers, &works) == story.ran());
-    story.tell_all(rt, alloc, &mut workers);
+    story.report_all(rt, alloc, &mut workers);
     let mut ended = Vec::new(alloc);
     for worker in workers {
         assert!(rt; ended.push(worker.end()).is_ok());
@@ -412,7 +414,7 @@ pub(crate) fn play<
     requires course { IsEndOf array.2.log array.0 }
     requires sizes { (array.0.parts.groups.blocks ≡ 16) × (array.0.parts.groups.payload ≡ 40) }
     requires named { (N.blocks ≡ 16) × (N.payload ≡ 40) }
-    requires many { slots_of N.table ≡ 65536 }
+    requires many { table_slots N.table ≡ 65536 }
     requires blocks { (blocks_of A.table ≡ 16) × (blocks_of B.table ≡ 16) }
     requires hands { array.2.hired + (length numbers.now - 1) ≡ N.hands }
     ensures course { IsEndOf result.1.keeper.log result.1.array }
@@ -452,7 +454,7 @@ pub(crate) fn released<N: slot_words::Naming, R: Abort>(
     pass: &mut Pass<N>,
     array: Array<MemDrive, Claim<N>>,
 ) -> u32
-    requires { slots_of N.table ≡ 65536 }
+    requires { table_slots N.table ≡ 65536 }
 {
     let mut to = Releases {
         words,

@@ -12,7 +12,7 @@ use step_core::MemDrive;
 struct FindsNone;
 
 impl Story for FindsNone {
-    fn tell<
+    fn report<
         N: slot_words::Naming + Sizes,
         A: map_words::Naming,
         B: map_words::Naming,
@@ -27,7 +27,7 @@ impl Story for FindsNone {
 struct FindsOne;
 
 impl Story for FindsOne {
-    fn tell<
+    fn report<
         N: slot_words::Naming + Sizes,
         A: map_words::Naming,
         B: map_words::Naming,

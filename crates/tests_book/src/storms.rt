@@ -3,8 +3,8 @@ use step_core::Refusal;
 use storm::{Fuse, Orders, Storm, StormFault, Tally, run_orders, run_storm};
 
 // What was carried out, where the maps agree.
-fn tally(told: Result<Storm, StormFault>) -> Option<Tally> {
-    match told {
+fn tally(reported: Result<Storm, StormFault>) -> Option<Tally> {
+    match reported {
         Ok(Storm::Agreed(tally)) => Some(tally),
         _ => None,
     }
@@ -14,39 +14,42 @@ fn tally(told: Result<Storm, StormFault>) -> Option<Tally> {
 // the controller at which worker 0 reads.
 #[test]
 fn a_worker_alone_writes_and_reads_each_round_and_moves_from_the_fifth_on(rt: HostRuntime) {
-    let told = tally(run_storm(&rt, rt.alloc(), 1, 50));
-    let wanted = Tally {
+    let reported = tally(run_storm(&rt, rt.alloc(), 1, 50));
+    let expected = Tally {
         writes: 50,
         moves: 46,
         reads: 0,
         blanks: 50,
         lost: 0,
     };
-    assert!(rt; told == Some(wanted));
+    assert!(rt; reported == Some(expected));
 }
 
 // A write may find no slot while others hold them, but fewer than one in sixteen should.
 #[test]
 fn one_to_eight_workers_of_fifty_rounds_agree(rt: HostRuntime) {
     for workers in 1..9u8 {
-        let Some(told) = tally(run_storm(&rt, rt.alloc(), workers, 50)) else {
+        let Some(reported) = tally(run_storm(&rt, rt.alloc(), workers, 50)) else {
             panic!(rt; "{workers} workers")
         };
         let rounds = 50 * u64::from(workers);
         assert!(rt;
-            told.writes <= rounds && told.writes > rounds - rounds / 16,
+            reported.writes <= rounds && reported.writes > rounds - rounds / 16,
             "{workers} workers"
         );
-        assert!(rt; told.moves > 0 && told.lost == 0, "{workers} workers");
-        assert!(rt; workers == 1 || told.reads > 0, "{workers} workers");
+        assert!(rt;
+            reported.moves > 0 && reported.lost == 0,
+            "{workers} workers"
+        );
+        assert!(rt; workers == 1 || reported.reads > 0, "{workers} workers");
     }
 }
 
 #[test]
 fn two_hundred_storms_in_a_row_agree(rt: HostRuntime) {
     for run in 0..200u8 {
-        let told = tally(run_storm(&rt, rt.alloc(), 1 + run % 8, 4));
-        assert!(rt; told.is_some(), "run {run}");
+        let reported = tally(run_storm(&rt, rt.alloc(), 1 + run % 8, 4));
+        assert!(rt; reported.is_some(), "run {run}");
     }
 }
 
@@ -60,11 +63,11 @@ fn storms_agree_whichever_drive_is_lost_at_whichever_call(rt: HostRuntime) {
                 payload: 8,
                 fuse: Some(Fuse { drive, calls }),
             };
-            let Some(told) = tally(run_orders(&rt, rt.alloc(), orders)) else {
+            let Some(reported) = tally(run_orders(&rt, rt.alloc(), orders)) else {
                 panic!(rt; "drive {drive} at call {calls}")
             };
             assert!(rt;
-                calls > 1 || told.lost == 1,
+                calls > 1 || reported.lost == 1,
                 "drive {drive} at call {calls}"
             );
         }
@@ -81,13 +84,13 @@ fn sixteen_workers_can_be_had_and_no_more(rt: HostRuntime) {
 #[test]
 fn storms_of_long_payloads_agree_and_of_odd_ones_there_are_none(rt: HostRuntime) {
     for payload in [4_096, 65_536] {
-        let told = tally(run_orders(&rt, rt.alloc(), of_payload(payload)));
-        assert!(rt; told.is_some(), "{payload} bytes");
+        let reported = tally(run_orders(&rt, rt.alloc(), of_payload(payload)));
+        assert!(rt; reported.is_some(), "{payload} bytes");
     }
     let none = StormFault::Setup(Refusal::BadMember);
     for payload in [12, 0] {
-        let told = run_orders(&rt, rt.alloc(), of_payload(payload));
-        assert!(rt; told == Err(none), "{payload} bytes");
+        let reported = run_orders(&rt, rt.alloc(), of_payload(payload));
+        assert!(rt; reported == Err(none), "{payload} bytes");
     }
 }
 

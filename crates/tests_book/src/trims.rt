@@ -12,7 +12,7 @@ use step_core::MemDrive;
 struct TrimsInTurn;
 
 impl Story for TrimsInTurn {
-    fn tell_all<
+    fn report_all<
         N: slot_words::Naming + Sizes,
         A: map_words::Naming,
         B: map_words::Naming,
@@ -43,7 +43,7 @@ impl Story for TrimsInTurn {
 struct MovesATrim;
 
 impl Story for MovesATrim {
-    fn tell<
+    fn report<
         N: slot_words::Naming + Sizes,
         A: map_words::Naming,
         B: map_words::Naming,
@@ -68,7 +68,7 @@ impl Story for TrimsInLittleRoom {
         Layout::Small
     }
 
-    fn tell<
+    fn report<
         N: slot_words::Naming + Sizes,
         A: map_words::Naming,
         B: map_words::Naming,

@@ -86,7 +86,7 @@ impl Story for Turns {
         Ok(())
     }
 
-    fn tell<
+    fn report<
         N: slot_words::Naming + Sizes,
         A: map_words::Naming,
         B: map_words::Naming,

@@ -1,10 +1,9 @@
 // Disks of six drives whose backings are in memory and count their syncs.
 ghost use Rattle.std.specs.Prelude.{◌≡◌, ◌+◌, ◌≤◌, None, IsTrue, length};
 ghost use Rattle.extent_groups.specs.Calls.{AreSized};
-ghost use Rattle.array_parts.specs.Fit.{HaveUnits};
+ghost use Rattle.unit_store.specs.Fit.{HaveUnitCount};
 
 use array_store::ArrayStore;
-use background::Tiers;
 use disk_shape::{Plan, class_of, member_at, plan_disk};
 use extents::Shape;
 use file_drive::{Backing, FileDrive, InMemory};
@@ -14,6 +13,7 @@ use std::process::Abort;
 use std::sync::atomic::AtomicU64;
 use std::sync::atomic::Ordering::SeqCst;
 use step_core::{Answer, Array, Drive, World};
+use tiered_array::Tiers;
 
 /// Bytes in memory whose syncs are counted together, and of which each sync is refused where `refuses` is set.
 #[derive(Drop)]
@@ -85,7 +85,7 @@ fn are_sized<D: Drive>(drives: &[D], bytes: usize) -> bool
 }
 
 fn have_units<D: Drive>(drives: &[D], units: u32) -> bool
-    ensures { IsTrue result → HaveUnits D.units drives.now units }
+    ensures { IsTrue result → HaveUnitCount D.units drives.now units }
 {
     drives.iter().all(|drive| drive.units() == units)
 }

@@ -12,9 +12,9 @@ abbrev pub appended : List ℕ → ℕ → Appended
 appended item place = record { item = item; place = place }
 
 -- from these bytes the calls of one thread lead to those: each item lies where the bytes before it end
-abbrev pub Runs : List ℕ → List (Entry Appended) → List ℕ → Type 0
-Runs bytes [] after = after ≡ bytes
-Runs bytes (e ∷ es) after = (e.what.place ≡ length bytes) × Runs (bytes ++ e.what.item) es after
+abbrev pub AppendsAll : List ℕ → List (Entry Appended) → List ℕ → Type 0
+AppendsAll bytes [] after = after ≡ bytes
+AppendsAll bytes (e ∷ es) after = (e.what.place ≡ length bytes) × AppendsAll (bytes ++ e.what.item) es after
 
 -- what lies under the lock
 pub record Shelved : Type 0 where
@@ -24,7 +24,7 @@ pub record Shelved : Type 0 where
 -- the bytes are those of one run, whose calls are exactly two of hand 0, in this order, and two of hand 1
 pub record AreOneRun (a b c d : Appended) (bytes : List ℕ) : Type 0 where
   pub log : List (Entry Appended)
-  pub runs : Runs [] log bytes
+  pub runs : AppendsAll [] log bytes
   pub first : entries_by 0 log ≡ entry 0 a ∷ entry 0 b ∷ []
   pub second : entries_by 1 log ≡ entry 1 c ∷ entry 1 d ∷ []
   pub only : (n : ℕ) → 2 ≤ n → entries_by n log ≡ []

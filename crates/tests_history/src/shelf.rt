@@ -1,7 +1,7 @@
 // Bytes under a lock, to which two threads append.
 ghost use Rattle.std.specs.Prelude.{◌≡◌, ◌++◌, ◌∷◌, [], IfOk, OnErr};
-ghost use Rattle.history.specs.Entries.{entry, Extends, IsWhole};
-ghost use Rattle.tests_history.specs.Calls.{appended, AreOneRun, Runs};
+ghost use Rattle.history.specs.Entries.{entry, Extends, IsCoherent};
+ghost use Rattle.tests_history.specs.Calls.{appended, AreOneRun, AppendsAll};
 
 use history::{Chronicle, Hand, History, Keeper, Opened, Says};
 use std::alloc::{AllocError, Global};
@@ -37,13 +37,13 @@ struct Shelf<N: Chronicle> {
 
 impl<N: Chronicle> Model for Shelf<N> {
     ghost use Rattle.std.specs.Prelude.{[]};
-    ghost use Rattle.tests_history.specs.Calls.{Runs, Shelved};
+    ghost use Rattle.tests_history.specs.Calls.{AppendsAll, Shelved};
 
     ghost Value = { Shelved };
 
     ghost view = { λ s. record { bytes = s.bytes.items; course = s.keeper } };
 
-    ghost invariant = { λ s. Runs [] s.keeper.log s.bytes.items };
+    ghost invariant = { λ s. AppendsAll [] s.keeper.log s.bytes.items };
 }
 
 impl<N: Chronicle> Shelf<N> {
@@ -75,8 +75,8 @@ impl<N: Chronicle> Shelf<N> {
     // The history is whole, as far as this hand can tell.
     fn check(&mut self, history: &History<N, Call>, me: &mut Hand<N, Call>)
         ensures same { (self.new ≡ self.old) × (me.new ≡ me.old) }
-        ensures whole { IsWhole self.old.course me.old }
-        ensures runs { Runs [] self.old.course.log self.old.bytes }
+        ensures whole { IsCoherent self.old.course me.old }
+        ensures runs { AppendsAll [] self.old.course.log self.old.bytes }
     {
         self.keeper.check(history, me);
     }

@@ -51,7 +51,7 @@ pub(crate) struct Refusing {
 }
 
 impl ByteStore for Refusing {
-    ghost use Rattle.byte_store.specs.Flat.{Flat, Sizes};
+    ghost use Rattle.byte_store.specs.Flat.{StoreState, Sizes};
 
     ghost represents = { λ _ _. ⊥ };
 

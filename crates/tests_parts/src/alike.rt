@@ -1,16 +1,16 @@
 // Both classes over drives in memory and over plain ones: what is read and written is the same, with drives lost too.
 ghost use Rattle.std.specs.Prelude.{◌≡◌, ◌*◌, length, IsTrue};
 ghost use Rattle.extent_groups.specs.Stores.{unit_bytes};
-ghost use Rattle.array_parts.specs.Fit.{IsFit};
+ghost use Rattle.unit_store.specs.Fit.{IsFit};
 
 use crate::plain::PlainDrive;
 use crate::rig::{SIZE, byte_at, fill_from, is_of, is_slot, members_on, zeros};
-use array_parts::{Parts, Units};
 use extent_groups::{Class, GroupTable, are_there, put_check};
 use extents::{Drive, ExtentTable, HEADER_BYTES, HotSwap, MemDrive, Shape};
 use flat_machine::Refusal;
 use std::alloc::Global;
 use std::process::Abort;
+use unit_store::{Parts, Units};
 
 /// More calls than a test makes of one drive.
 const CALLS: u64 = 1_000_000;
@@ -251,15 +251,15 @@ impl<D: Tried> Trial<D> {
         drive.lose_it();
     }
 
-    /// Whether one call reads `wanted` headers of a group, each equal to what `header` reads.
-    fn reads_headers(&mut self, rt: &impl Abort, group: u16, wanted: u16) -> bool {
+    /// Whether one call reads `expected` headers of a group, each equal to what `header` reads.
+    fn reads_headers(&mut self, rt: &impl Abort, group: u16, expected: u16) -> bool {
         assert!(rt; self.is_ready());
         let count = self.parts.groups.slots_of(group);
         assert!(rt; group < 2 && count <= 8);
         let mut buffers = [[1; HEADER_BYTES]; 8];
         let headers = &mut buffers[..count as usize];
         let read = self.parts.headers(group, headers, &mut self.scratch);
-        if read != wanted {
+        if read != expected {
             return false;
         }
         for index in 0..read {

@@ -1,6 +1,5 @@
 // Arrays rebuilt from drives that were written manually: the last version, the last hop, and one of each fault.
 use crate::rig::{Restarted, Rig, fill_from, is_of, record, restart_parts};
-use array_parts::Parts;
 use extents::MemDrive;
 use flat_machine::Refusal;
 use header_scan::ScanFault;
@@ -8,6 +7,7 @@ use map_join::Record;
 use std::alloc::Global;
 use std::process::Abort;
 use step_core::{Array, Done, Plain, Ticket};
+use unit_store::Parts;
 
 type Memory = Array<MemDrive, Plain>;
 
@@ -22,8 +22,8 @@ fn mirrored(rt: &impl Abort, alloc: Global) -> Rig {
 /// Slots 0 to 5 are mirrored as in `mirrored`, with a payload at slot 5 and each of these records at a slot.
 fn holding(rt: &impl Abort, alloc: Global, held: &[(u16, Record)]) -> Rig {
     let mut rig = mirrored(rt, alloc);
-    for (slot, told) in held {
-        rig.carry(rt, 5, *slot, *told);
+    for (slot, reported) in held {
+        rig.carry(rt, 5, *slot, *reported);
     }
     rig
 }
@@ -79,8 +79,8 @@ fn fault(rt: &impl Abort, alloc: Global, rig: Rig) -> ScanFault {
 }
 
 /// Whether a restart with a claim of slot 0 returns this fault.
-fn fails(rt: &impl Abort, alloc: Global, rig: Rig, wanted: ScanFault) -> bool {
-    fault(rt, alloc, rig) == wanted
+fn fails(rt: &impl Abort, alloc: Global, rig: Rig, expected: ScanFault) -> bool {
+    fault(rt, alloc, rig) == expected
 }
 
 /// Fills a slot.
@@ -118,7 +118,7 @@ fn copy(rt: &impl Abort, alloc: Global, array: &mut Memory, slot: u16) -> (Refus
 fn reads(rt: &impl Abort, alloc: Global, array: &mut Memory, version: u32, byte: u8) -> bool {
     assert!(rt; array.shape().blocks == 16);
     match array.read(alloc, 3) {
-        Ok(Some((told, payload))) => told == version && is_of(&payload, byte),
+        Ok(Some((reported, payload))) => reported == version && is_of(&payload, byte),
         _ => false,
     }
 }
@@ -152,12 +152,12 @@ fn a_block_found_at_its_last_version_is_not_written(rt: HostRuntime) {
 }
 
 #[test]
-fn the_fault_of_the_lowest_slot_is_told(rt: HostRuntime) {
+fn the_fault_of_the_lowest_slot_is_reported(rt: HostRuntime) {
     let alloc = rt.alloc();
     let mut rig = holding(&rt, alloc, &[(2, record(3, 1, 0, 0))]);
     rig.set(&rt, 4, 20, 1);
-    let told = fault(&rt, alloc, rig);
-    assert!(rt; told == ScanFault::WrongSlot(2, 0) && told.number() == 3);
+    let reported = fault(&rt, alloc, rig);
+    assert!(rt; reported == ScanFault::WrongSlot(2, 0) && reported.number() == 3);
     let mut rig = mirrored(&rt, alloc);
     rig.set(&rt, 4, 20, 1);
     assert!(rt; fails(&rt, alloc, rig, ScanFault::BadHeader(4)));
@@ -166,7 +166,7 @@ fn the_fault_of_the_lowest_slot_is_told(rt: HostRuntime) {
 }
 
 #[test]
-fn a_block_at_two_slots_is_told_with_both(rt: HostRuntime) {
+fn a_block_at_two_slots_is_reported_with_both(rt: HostRuntime) {
     let alloc = rt.alloc();
     let twice = [(0, record(3, 1, 0, 0)), (1, record(3, 1, 0, 1))];
     let rig = holding(&rt, alloc, &twice);

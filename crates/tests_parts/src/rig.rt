@@ -4,20 +4,20 @@ ghost use Rattle.extent_groups.specs.declared.class.Member.{Member};
 ghost use Rattle.extent_groups.specs.Faults.{put_fault};
 ghost use Rattle.extent_groups.specs.Groups.{AreThere, IsFree};
 ghost use Rattle.extent_groups.specs.Stores.{unit_bytes};
-ghost use Rattle.array_parts.specs.Fit.{IsFit};
-ghost use Rattle.array_parts.specs.Memory.{held_units};
-ghost use Rattle.array_parts.specs.Slots.{IsSlot};
+ghost use Rattle.unit_store.specs.Fit.{IsFit};
+ghost use Rattle.unit_store.specs.Memory.{held_units};
+ghost use Rattle.unit_store.specs.Slots.{IsSlot};
 
-use array_parts::{Parts, Sight};
+use consistency_check::{find_unsound, is_sound};
 use extent_groups::{Class, GroupTable, Member, SLOTS, are_there, put_check};
 use extents::{Drive, ExtentTable, Header, Kind, MemDrive, Shape};
 use flat_machine::Refusal;
 use header_scan::{ScanFault, restart, scan, scan_groups};
 use map_join::{BlockMap, Record};
-use soundness::{find_unsound, is_sound};
 use std::alloc::Global;
 use std::process::Abort;
 use step_core::{Array, Plain};
+use unit_store::{Parts, Sight};
 
 /// Bytes of a unit, header and payload.
 pub(crate) const SIZE: usize = 56;
@@ -252,8 +252,8 @@ impl Rig {
 
     /// Carries what a slot holds to another, or the same, each under a record's header.
     pub(crate) fn carry_all(&mut self, rt: &impl Abort, carried: &[(u16, Record)]) {
-        for (from, told) in carried {
-            self.carry(rt, *from, told.place, *told);
+        for (from, reported) in carried {
+            self.carry(rt, *from, reported.place, *reported);
         }
     }
 
@@ -397,9 +397,9 @@ impl Rig {
     }
 
     /// Whether this is the lowest slot of a group that is gone, or none is.
-    pub(crate) fn is_first_gone(&self, rt: &impl Abort, group: u16, wanted: Option<u16>) -> bool {
+    pub(crate) fn is_first_gone(&self, rt: &impl Abort, group: u16, expected: Option<u16>) -> bool {
         assert!(rt; self.is_ready());
-        self.parts.first_gone(group) == wanted
+        self.parts.first_gone(group) == expected
     }
 
     /// Whether this is the first of these drives, in the order given, that is lost, or none is.
@@ -408,11 +408,11 @@ impl Rig {
         rt: &impl Abort,
         alloc: Global,
         drives: &[u8],
-        wanted: Option<u8>,
+        expected: Option<u8>,
     ) -> bool {
         let members = members_on(rt, alloc, drives, 0);
         assert!(rt; are_on(self.parts.drives.len(), &members));
-        self.parts.first_lost(&members) == wanted
+        self.parts.first_lost(&members) == expected
     }
 
     /// Reads the payload of a slot into the buffer, and returns its kind.
@@ -438,10 +438,10 @@ impl Rig {
         rt: &impl Abort,
         drive: u8,
         extent: u16,
-        wanted: Option<u16>,
+        expected: Option<u16>,
     ) -> bool {
         assert!(rt; self.parts.extents.has_extent(drive, extent));
-        self.parts.extents.owner(drive, extent) == wanted
+        self.parts.extents.owner(drive, extent) == expected
     }
 
     /// Whether a group is made, of this class.

@@ -21,41 +21,41 @@ fn two_groups(rt: &impl Abort, alloc: Global) -> Rig {
 }
 
 /// Whether a scan returned exactly these records, in the blocks' order.
-fn tells(alloc: Global, scanned: &Result<BlockMap, ScanFault>, wanted: &[Record]) -> bool {
+fn reports(alloc: Global, scanned: &Result<BlockMap, ScanFault>, expected: &[Record]) -> bool {
     let Ok(map) = scanned else { return false };
     match map.to_list(alloc) {
-        Ok(list) => list.as_slice() == wanted,
+        Ok(list) => list.as_slice() == expected,
         Err(_) => false,
     }
 }
 
 /// Whether a scan of all groups returns exactly these records.
-fn tells_all(rt: &impl Abort, alloc: Global, rig: &mut Rig, wanted: &[Record]) -> bool {
-    tells(alloc, &rig.scan(rt, alloc), wanted)
+fn tells_all(rt: &impl Abort, alloc: Global, rig: &mut Rig, expected: &[Record]) -> bool {
+    reports(alloc, &rig.scan(rt, alloc), expected)
 }
 
 /// Whether a scan of a range of groups returns exactly these records.
-fn tells_of(
+fn reports_of(
     rt: &impl Abort,
     alloc: Global,
     rig: &mut Rig,
     first: u16,
     end: u16,
-    wanted: &[Record],
+    expected: &[Record],
 ) -> bool {
-    tells(alloc, &rig.scan_groups(rt, alloc, first, end), wanted)
+    reports(alloc, &rig.scan_groups(rt, alloc, first, end), expected)
 }
 
 /// Whether a scan of all groups returns this fault.
-fn fails(rt: &impl Abort, alloc: Global, rig: &mut Rig, wanted: ScanFault) -> bool {
+fn fails(rt: &impl Abort, alloc: Global, rig: &mut Rig, expected: ScanFault) -> bool {
     match rig.scan(rt, alloc) {
         Ok(_) => false,
-        Err(fault) => fault == wanted,
+        Err(fault) => fault == expected,
     }
 }
 
 #[test]
-fn a_scan_with_a_drive_lost_tells_the_newest_record_of_each_block(rt: HostRuntime) {
+fn a_scan_with_a_drive_lost_reports_the_newest_record_of_each_block(rt: HostRuntime) {
     let alloc = rt.alloc();
     let mut rig = two_groups(&rt, alloc);
     rig.lose(&rt, 1);
@@ -68,14 +68,14 @@ fn a_scan_with_a_drive_lost_tells_the_newest_record_of_each_block(rt: HostRuntim
 }
 
 #[test]
-fn a_scan_of_some_groups_tells_their_records_alone(rt: HostRuntime) {
+fn a_scan_of_some_groups_reports_their_records_alone(rt: HostRuntime) {
     let alloc = rt.alloc();
     let mut rig = two_groups(&rt, alloc);
     let mirrored = [record(3, 1, 0, 0), record(5, 2, 0, 4)];
-    assert!(rt; tells_of(&rt, alloc, &mut rig, 0, 1, &mirrored));
+    assert!(rt; reports_of(&rt, alloc, &mut rig, 0, 1, &mirrored));
     let parity = [record(3, 1, 1, 130), record(7, 1, 1, 133)];
-    assert!(rt; tells_of(&rt, alloc, &mut rig, 1, 2, &parity));
-    assert!(rt; tells_of(&rt, alloc, &mut rig, 2, 512, &[]));
+    assert!(rt; reports_of(&rt, alloc, &mut rig, 1, 2, &parity));
+    assert!(rt; reports_of(&rt, alloc, &mut rig, 2, 512, &[]));
 }
 
 #[test]
@@ -91,18 +91,18 @@ fn a_scan_reads_each_header_by_one_call(rt: HostRuntime) {
 }
 
 #[test]
-fn the_lowest_slot_that_is_gone_is_told(rt: HostRuntime) {
+fn the_lowest_slot_that_is_gone_is_reported(rt: HostRuntime) {
     let alloc = rt.alloc();
     let mut rig = two_groups(&rt, alloc);
     rig.lose(&rt, 0);
     rig.lose(&rt, 2);
     assert!(rt; fails(&rt, alloc, &mut rig, ScanFault::Gone(2)));
     let parity = [record(3, 1, 1, 130), record(7, 1, 1, 133)];
-    assert!(rt; tells_of(&rt, alloc, &mut rig, 1, 2, &parity));
+    assert!(rt; reports_of(&rt, alloc, &mut rig, 1, 2, &parity));
 }
 
 #[test]
-fn a_block_that_stands_twice_is_told_with_both_slots(rt: HostRuntime) {
+fn a_block_that_matches_twice_is_reported_with_both_slots(rt: HostRuntime) {
     let alloc = rt.alloc();
     let mut rig = two_groups(&rt, alloc);
     rig.carry(&rt, 133, 1, record(7, 1, 1, 1));
@@ -110,7 +110,7 @@ fn a_block_that_stands_twice_is_told_with_both_slots(rt: HostRuntime) {
 }
 
 #[test]
-fn a_record_of_another_slot_and_bytes_that_are_no_header_are_told(rt: HostRuntime) {
+fn a_record_of_another_slot_and_bytes_that_are_no_header_are_reported(rt: HostRuntime) {
     let alloc = rt.alloc();
     let mut rig = two_groups(&rt, alloc);
     rig.carry(&rt, 0, 2, record(9, 1, 0, 3));

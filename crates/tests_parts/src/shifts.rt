@@ -62,8 +62,8 @@ fn is_on(rig: &Rig, members: &[Member]) -> bool {
 }
 
 /// Whether a move of one of group 0's members onto drive 3 is refused so.
-fn refuses(rt: &impl Abort, rig: &mut Rig, member: u8, wanted: Refusal) -> bool {
-    rig.shift(rt, 0, member, extent(3, 0)) == Err(wanted)
+fn refuses(rt: &impl Abort, rig: &mut Rig, member: u8, expected: Refusal) -> bool {
+    rig.shift(rt, 0, member, extent(3, 0)) == Err(expected)
 }
 
 #[test]

@@ -1,11 +1,11 @@
 // What is seen at the places of records, and payloads read, in both classes: with all drives there, one lost, and two.
 use crate::rig::{Rig, is_of, record};
-use array_parts::Sight;
 use extents::Kind;
 use flat_machine::Refusal;
 use map_join::Record;
 use std::alloc::Global;
 use std::process::Abort;
+use unit_store::Sight;
 
 /// Slots 0 to 5 are mirrored, slots 128 to 135 have parity. Block 5 is at slot 4 with nines, blocks 3 and 7 at slots 130 and
 /// 134 with eights, which slot 1 holds without a record. Slot 131 holds sixes without one. Slots 2 and 133 hold units that a

@@ -4,7 +4,7 @@ use extent_groups::Class;
 use flat_machine::Refusal;
 
 #[test]
-fn a_mirrored_slot_stands_one_loss_and_is_gone_with_two(rt: HostRuntime) {
+fn a_mirrored_slot_matches_one_loss_and_is_gone_with_two(rt: HostRuntime) {
     let mut rig = Rig::mirrored(&rt, rt.alloc());
     assert!(rt; rig.holds(&rt, 5, 0));
     rig.writes(&rt, 0, 7);

@@ -1,6 +1,6 @@
 // Which block is demoted next.
 use crate::set_up::{four_groups, places, took};
-use migrator::{MarkedAges, Recency, mirror_slots, wants_demotion};
+use migrator::{MarkedAges, Recency, mirror_slots, needs_demotion};
 use std::alloc::Global;
 use std::process::Abort;
 
@@ -83,5 +83,5 @@ fn mirrored_slots_are_listed_and_few_free_ones_want_a_demotion(rt: HostRuntime) 
         panic!(rt; "no slots")
     };
     assert!(rt; slots.as_slice() == [0, 1].as_slice());
-    assert!(rt; wants_demotion(1, 2) && !wants_demotion(2, 2));
+    assert!(rt; needs_demotion(1, 2) && !needs_demotion(2, 2));
 }

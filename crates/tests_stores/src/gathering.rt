@@ -49,10 +49,10 @@ fn appends(
     end: &LogEnd,
     groups: &GroupTable,
     map: &BlockMap,
-    wanted: &[u16],
+    expected: &[u16],
 ) -> bool {
     match append_slots(alloc, end, groups, map) {
-        Ok(slots) => slots.as_slice() == wanted,
+        Ok(slots) => slots.as_slice() == expected,
         Err(_) => false,
     }
 }
@@ -99,7 +99,7 @@ impl Free for AllBut {
 }
 
 #[test]
-fn the_first_free_slot_behind_the_log_is_found(rt: HostRuntime) {
+fn the_first_free_slot_following_the_log_is_found(rt: HostRuntime) {
     let groups = four_groups(&rt, rt.alloc());
     let map = places(&rt, rt.alloc());
     let counts = live_counts(&groups, &map);

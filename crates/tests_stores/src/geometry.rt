@@ -117,7 +117,7 @@ impl Row {
 }
 
 /// Whether the units of a row give its index.
-fn is_told_back(groups: &GroupTable, row: Row) -> bool {
+fn is_reported_back(groups: &GroupTable, row: Row) -> bool {
     let slot = Some(Role::Slot(row.index));
     let second = match row.class {
         Class::Mirrored => slot,
@@ -128,7 +128,7 @@ fn is_told_back(groups: &GroupTable, row: Row) -> bool {
 }
 
 /// Whether a row is what the geometry says.
-fn is_told(groups: &GroupTable, row: Row) -> bool {
+fn is_reported(groups: &GroupTable, row: Row) -> bool {
     match row.class {
         Class::Mirrored => copies_seen(groups, 0, row.index)
             == Some(Copies {
@@ -136,13 +136,13 @@ fn is_told(groups: &GroupTable, row: Row) -> bool {
                 second: spot(row.other, row.other_offset),
             }),
         Class::Parity => {
-            let told = Stripe {
+            let reported = Stripe {
                 stripe: row.offset / 2,
                 member: row.member,
                 offset: row.offset as u16,
                 parity: row.other,
             };
-            stripe_seen(groups, 0, row.index) == Some(told) && row.offset == row.other_offset
+            stripe_seen(groups, 0, row.index) == Some(reported) && row.offset == row.other_offset
         }
     }
 }
@@ -152,8 +152,8 @@ fn every_index_lies_where_the_table_says(rt: HostRuntime) -> Result<(), Fail> {
     for places in &PLACES {
         let row = Row::of(places);
         let tables = group_of(&rt, rt.alloc(), row.class, row.members, row.segments)?;
-        assert!(rt; is_told(&tables.groups, row));
-        assert!(rt; is_told_back(&tables.groups, row));
+        assert!(rt; is_reported(&tables.groups, row));
+        assert!(rt; is_reported_back(&tables.groups, row));
     }
     Ok(())
 }

@@ -229,7 +229,7 @@ fn is_taken(
     alloc: Global,
     class: Class,
     lost: usize,
-    wanted: &[(u8, u8)],
+    expected: &[(u8, u8)],
     parity: Option<u8>,
 ) -> Result<(), AllocError> {
     let clock = AtomicU64::new(0);
@@ -238,21 +238,21 @@ fn is_taken(
     clock.store(0, SeqCst);
     let planned = plan(rt, alloc, &groups, &mut drives, 0, 7);
     assert!(rt; clock.load(SeqCst) == 0);
-    assert!(rt; planned.writes.len() == wanted.len());
+    assert!(rt; planned.writes.len() == expected.len());
     assert!(rt; write(rt, &groups, &mut drives, 0, 7));
-    assert!(rt; clock.load(SeqCst) == wanted.len() as u64);
+    assert!(rt; clock.load(SeqCst) == expected.len() as u64);
     for (k, (drive, address, unit)) in planned.writes.iter().enumerate() {
-        assert!(rt; k < wanted.len());
-        assert!(rt; *drive == wanted[k].0 && *address == 0);
-        assert!(rt; unit.len() == SIZE && unit.iter().all(|byte| *byte == wanted[k].1));
+        assert!(rt; k < expected.len());
+        assert!(rt; *drive == expected[k].0 && *address == 0);
+        assert!(rt; unit.len() == SIZE && unit.iter().all(|byte| *byte == expected[k].1));
         assert!(rt; (*drive as usize) < drives.len());
         let taken = &drives[*drive as usize].taken;
         assert!(rt; taken.tick == k as u64 && taken.at == *address);
         assert!(rt; taken.unit.as_slice() == unit.as_slice());
     }
     assert!(rt; planned.parity.is_some() == parity.is_some());
-    if let (Some(unit), Some(wanted)) = (&planned.parity, parity) {
-        assert!(rt; unit.len() == SIZE && unit.iter().all(|byte| *byte == wanted));
+    if let (Some(unit), Some(expected)) = (&planned.parity, parity) {
+        assert!(rt; unit.len() == SIZE && unit.iter().all(|byte| *byte == expected));
     }
     Ok(())
 }

@@ -28,8 +28,8 @@ fn is_given(unit: &[u8], slot: u16) -> bool {
         .all(|(at, byte)| *byte == given(slot, at))
 }
 
-fn is_all(unit: &[u8], wanted: u8) -> bool {
-    unit.iter().all(|byte| *byte == wanted)
+fn is_all(unit: &[u8], expected: u8) -> bool {
+    unit.iter().all(|byte| *byte == expected)
 }
 
 /// Two groups of a class over `drives` drives, where there is memory for them.
@@ -126,7 +126,7 @@ fn stand(
 }
 
 /// Whether the written slot has a unit on the drives alone.
-fn stands(rt: &impl Abort, case: &Case, rig: Rig) -> bool {
+fn matches(rt: &impl Abort, case: &Case, rig: Rig) -> bool {
     let (groups, mut drives) = rig.open();
     let mut unit = [0; SIZE];
     let mut part = [0; SIZE];
@@ -136,7 +136,7 @@ fn stands(rt: &impl Abort, case: &Case, rig: Rig) -> bool {
 /// Asserts that a write or a read is refused only where another drive was lost before, and the slot's unit is lost.
 fn swept(rt: &impl Abort, alloc: Global, case: &Case) {
     let (rig, wrote, read) = run(rt, alloc, case);
-    let there = stands(rt, case, rig);
+    let there = matches(rt, case, rig);
     assert!(rt; case.lost.is_some() || wrote && read && there);
     assert!(rt; wrote && read || !there);
 }
@@ -240,13 +240,13 @@ fn two_written(rt: &impl Abort, alloc: Global) -> Rig {
 }
 
 /// Whether the parity of the lowest units of the second group of three drives is this byte throughout.
-fn has_parity(rt: &impl Abort, rig: Rig, wanted: u8) -> bool {
+fn has_parity(rt: &impl Abort, rig: Rig, expected: u8) -> bool {
     let (groups, mut drives) = rig.open();
     let mut unit = [0; SIZE];
     assert!(rt; groups.members(1).len() > 2);
     assert!(rt; groups.shape().extent_units() > 0);
     let parity = groups.place(1, 2, 0);
-    peek(rt, &mut drives, parity, &mut unit) && is_all(&unit, wanted)
+    peek(rt, &mut drives, parity, &mut unit) && is_all(&unit, expected)
 }
 
 #[test]

@@ -1,10 +1,8 @@
 // Two levels over drives in files, which are closed and opened again.
 ghost use Rattle.std.specs.Prelude.{IsTrue};
-ghost use Rattle.array_parts.specs.Fit.{IsFit};
+ghost use Rattle.unit_store.specs.Fit.{IsFit};
 
 use crate::rig::{demote, grouped, is_record, reads, shape_of, world_of, write};
-use array_parts::Parts;
-use background::Tiers;
 use extents::{Drive, Shape};
 use file_drive::{FileDrive, OnFile};
 use header_scan::restart;
@@ -12,6 +10,8 @@ use std::alloc::{Alloc, Global};
 use std::fs::{File, Files, OpenOptions};
 use std::process::Abort;
 use step_core::{Array, Plain, World};
+use tiered_array::Tiers;
+use unit_store::Parts;
 
 type Filed = FileDrive<OnFile>;
 

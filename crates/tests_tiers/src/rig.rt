@@ -1,13 +1,13 @@
 // Two levels over four drives of any kind.
 ghost use Rattle.std.specs.Prelude.{◌≡◌, IsTrue};
 ghost use Rattle.extent_groups.specs.Calls.{AreSized};
-ghost use Rattle.array_parts.specs.Fit.{HaveUnits};
+ghost use Rattle.unit_store.specs.Fit.{HaveUnitCount};
 
-use background::{Outcome, Tiers};
 use map_join::Record;
 use std::alloc::Global;
 use std::process::Abort;
 use step_core::{Answer, Array, Class, Drive, Given, Member, Shape, World};
+use tiered_array::{Outcome, Tiers};
 
 /// Four drives of eight extents of two segments, and payloads of eight bytes, for sixteen blocks.
 pub(crate) fn shape_of(rt: &impl Abort) -> Shape {
@@ -24,7 +24,7 @@ fn are_sized<D: Drive>(drives: &[D], bytes: usize) -> bool
 }
 
 fn have_units<D: Drive>(drives: &[D], units: u32) -> bool
-    ensures { IsTrue result → HaveUnits D.units drives.now units }
+    ensures { IsTrue result → HaveUnitCount D.units drives.now units }
 {
     drives.iter().all(|drive| drive.units() == units)
 }

@@ -1,10 +1,10 @@
 // Writes that find room up to the last slot but one.
 use crate::rig::{grouped, is_record, reads, shape_of, world_of};
-use background::{Outcome, Tiers};
 use extents::{HotSwap, MemDrive};
 use std::alloc::{Alloc, Global};
 use std::process::Abort;
 use step_core::Given;
+use tiered_array::{Outcome, Tiers};
 
 fn tiers_of(rt: &impl Abort, alloc: Global) -> Tiers {
     let shape = shape_of(rt);

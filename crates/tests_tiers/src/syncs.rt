@@ -2,12 +2,12 @@
 ghost use Rattle.std.specs.Prelude.{None};
 
 use crate::rig::{demote, grouped, reads, shape_of, world_of, write};
-use background::Tiers;
 use extents::Shape;
 use file_drive::{Backing, FileDrive, InMemory};
 use std::alloc::{Alloc, Global};
 use std::io;
 use std::process::Abort;
+use tiered_array::Tiers;
 
 // Bytes in memory that count their syncs, of which the one after `left` others fails, and each later one.
 #[derive(Drop)]

@@ -32,9 +32,9 @@ fn map_of(rt: &impl Abort, alloc: Global, records: &[Record]) -> BlockMap {
 }
 
 // Whether the map lists exactly these records.
-fn lists(alloc: Global, map: &BlockMap, wanted: &[Record]) -> bool {
+fn lists(alloc: Global, map: &BlockMap, expected: &[Record]) -> bool {
     match map.to_list(alloc) {
-        Ok(list) => list.as_slice() == wanted,
+        Ok(list) => list.as_slice() == expected,
         Err(_) => false,
     }
 }
@@ -128,8 +128,8 @@ fn a_table_of_keys_is_made_a_map(rt: HostRuntime) {
     let Ok(map) = BlockMap::of_table(rt.alloc(), &keys) else {
         panic!(rt; "no map")
     };
-    let wanted = [record_of(1, 2, 1, 130), record(1, 0, 7)];
-    assert!(rt; lists(rt.alloc(), &map, &wanted));
+    let expected = [record_of(1, 2, 1, 130), record(1, 0, 7)];
+    assert!(rt; lists(rt.alloc(), &map, &expected));
     assert!(rt; map.get(4) == None);
 }
 
@@ -186,7 +186,7 @@ fn a_list_is_in_block_order_and_a_copy_has_the_same(rt: HostRuntime) {
 }
 
 #[test]
-fn the_newest_records_alone_tell_which_slots_are_live(rt: HostRuntime) {
+fn the_newest_records_alone_report_which_slots_are_live(rt: HostRuntime) {
     let records = [record(1, 0, 5), record(1, 1, 130), record_of(9, 1, 0, 5)];
     let map = map_of(&rt, rt.alloc(), &records);
     assert!(rt; map.newest(3) == Some(record(1, 1, 130)));

@@ -1,5 +1,5 @@
 ghost use Rattle.std.specs.Prelude.{◌≡◌, ◌<◌, All, IfOk};
-ghost use Rattle.slot_words.specs.Places.{slots_of};
+ghost use Rattle.slot_words.specs.Places.{table_slots};
 
 use slot_words::{Claim, ClaimRefusal, Naming, NoneFree, Pass, SlotWords, Unnamed};
 use std::alloc::{AllocError, AllocFailed, Global};
@@ -22,7 +22,7 @@ fn claimed<N: Naming, R: Abort>(
     pass: &mut Pass<N>,
     slot: u16,
 ) -> Claim<N>
-    requires { slot < slots_of N.table }
+    requires { slot < table_slots N.table }
     ensures { result.slot ≡ slot }
 {
     match words.claim(pass, slot) {
@@ -38,7 +38,7 @@ fn refused<N: Naming, R: Abort>(
     pass: &mut Pass<N>,
     slot: u16,
 ) -> ClaimRefusal
-    requires { slot < slots_of N.table }
+    requires { slot < table_slots N.table }
 {
     match words.claim(pass, slot) {
         Ok(claim) => {
@@ -51,7 +51,7 @@ fn refused<N: Naming, R: Abort>(
 
 fn claims_one_slot_twice<N: Naming + Send + Sync, R: Abort>(rt: &R, table: Unnamed)
     requires name { table ≡ N.table }
-    requires slots { slots_of table ≡ 8 }
+    requires slots { table_slots table ≡ 8 }
 {
     let (words, mut pass) = table.named::<N>();
     needs_sync(&words);
@@ -84,7 +84,7 @@ fn claims_at<N: Naming, R: Abort>(
     slot: u16,
     generation: u64,
 )
-    requires slot { slot < slots_of N.table }
+    requires slot { slot < table_slots N.table }
     requires generation { generation < 16 }
 {
     let (pass, other) = passes;
@@ -97,7 +97,7 @@ fn claims_at<N: Naming, R: Abort>(
 
 fn claims_what_another_released<N: Naming, R: Abort>(rt: &R, table: Unnamed)
     requires name { table ≡ N.table }
-    requires slots { slots_of table ≡ 8 }
+    requires slots { table_slots table ≡ 8 }
 {
     let (words, mut pass) = table.named::<N>();
     let mut second = words.split(&mut pass);
@@ -120,7 +120,7 @@ fn claims_first_at<N: Naming, R: Abort>(
     slot: u16,
     generation: u64,
 )
-    requires { All (λ s. s < slots_of N.table) list.now }
+    requires { All (λ s. s < table_slots N.table) list.now }
 {
     match words.claim_first(pass, list) {
         Ok(claim) => {
@@ -134,7 +134,7 @@ fn claims_first_at<N: Naming, R: Abort>(
 
 fn counts_each_claim<N: Naming, R: Abort>(rt: &R, table: Unnamed)
     requires name { table ≡ N.table }
-    requires slots { slots_of table ≡ 100 }
+    requires slots { table_slots table ≡ 100 }
 {
     let (words, mut pass) = table.named::<N>();
     let mut other = words.split(&mut pass);
@@ -166,7 +166,7 @@ fn let_go<N: Naming>(words: &SlotWords<N>, pass: &mut Pass<N>, given: &mut Optio
 
 fn hands_a_claim_over<N: Naming + Send + Sync, R: Abort + Threads>(rt: &R, table: Unnamed)
     requires name { table ≡ N.table }
-    requires slots { slots_of table ≡ 8 }
+    requires slots { table_slots table ≡ 8 }
 {
     let (words, mut pass) = table.named::<N>();
     let mut second = words.split(&mut pass);
@@ -194,7 +194,7 @@ fn a_claim_is_released_by_another_thread(rt: HostRuntime) -> Result<(), Fail> {
 
 fn finds_a_free_slot_in_a_list<N: Naming, R: Abort>(rt: &R, table: Unnamed, alloc: Global)
     requires name { table ≡ N.table }
-    requires slots { slots_of table ≡ 8 }
+    requires slots { table_slots table ≡ 8 }
 {
     let (words, mut pass) = table.named::<N>();
     let all: [u16; 8] = [0, 1, 2, 3, 4, 5, 6, 7];
@@ -218,7 +218,7 @@ fn first_refusal<N: Naming>(
     pass: &mut Pass<N>,
     list: &[u16],
 ) -> Option<NoneFree>
-    requires { All (λ s. s < slots_of N.table) list.now }
+    requires { All (λ s. s < table_slots N.table) list.now }
 {
     match words.claim_first(pass, list) {
         Ok(claim) => {
@@ -243,7 +243,7 @@ fn claim_all<N: Naming>(
     list: &[u16],
     alloc: Global,
 ) -> Vec<Claim<N>>
-    requires { All (λ s. s < slots_of N.table) list.now }
+    requires { All (λ s. s < table_slots N.table) list.now }
 {
     let mut mine = Vec::new(alloc);
     for _ in 0..u64::MAX {
@@ -282,15 +282,15 @@ fn claim_all_in_two<N: Naming + Send + Sync, R: Threads + Sync>(
     list: &[u16],
     alloc: Global,
 ) -> (Vec<Claim<N>>, Vec<Claim<N>>)
-    requires { All (λ s. s < slots_of N.table) list.now }
+    requires { All (λ s. s < table_slots N.table) list.now }
 {
     thread::join(
         rt,
         ||
-            requires { All (λ s. s < slots_of N.table) list.now }
+            requires { All (λ s. s < table_slots N.table) list.now }
         { claim_all(words, one, list, alloc) },
         ||
-            requires { All (λ s. s < slots_of N.table) list.now }
+            requires { All (λ s. s < table_slots N.table) list.now }
         { claim_all(words, other, list, alloc) },
     )
 }
@@ -302,7 +302,7 @@ fn shares_a_list_among_four<N: Naming + Send + Sync, R: Abort + Threads + Sync>(
     alloc: Global,
 )
     requires name { table ≡ N.table }
-    requires listed { All (λ s. s < slots_of N.table) list.now }
+    requires listed { All (λ s. s < table_slots N.table) list.now }
 {
     let (words, mut pass) = table.named::<N>();
     let (a, b) = (words.split(&mut pass), words.split(&mut pass));
@@ -310,10 +310,10 @@ fn shares_a_list_among_four<N: Naming + Send + Sync, R: Abort + Threads + Sync>(
     let ((first, second), (third, fourth)) = thread::join(
         rt,
         ||
-            requires { All (λ s. s < slots_of N.table) list.now }
+            requires { All (λ s. s < table_slots N.table) list.now }
         { claim_all_in_two(rt, &words, a, b, list, alloc) },
         ||
-            requires { All (λ s. s < slots_of N.table) list.now }
+            requires { All (λ s. s < table_slots N.table) list.now }
         { claim_all_in_two(rt, &words, c, d, list, alloc) },
     );
     let mut counts = [0u8; 64];
@@ -340,7 +340,7 @@ fn sixty_four(alloc: Global) -> Result<Vec<u16>, AllocError>
 
 // Claims and releases, and says whether each claim's holder was alone.
 fn churn<N: Naming>(words: &SlotWords<N>, pass: &mut Pass<N>, holders: &[AtomicU64; 4]) -> bool
-    requires { slots_of N.table ≡ 4 }
+    requires { table_slots N.table ≡ 4 }
 {
     let mut alone = true;
     for round in 0..100_000u32 {
@@ -364,15 +364,15 @@ fn churn_in_two<N: Naming + Send + Sync, R: Threads + Sync>(
     other: &mut Pass<N>,
     holders: &[AtomicU64; 4],
 ) -> bool
-    requires { slots_of N.table ≡ 4 }
+    requires { table_slots N.table ≡ 4 }
 {
     let (first, second) = thread::join(
         rt,
         ||
-            requires { slots_of N.table ≡ 4 }
+            requires { table_slots N.table ≡ 4 }
         { churn(words, one, holders) },
         ||
-            requires { slots_of N.table ≡ 4 }
+            requires { table_slots N.table ≡ 4 }
         { churn(words, other, holders) },
     );
     first & second
@@ -383,7 +383,7 @@ fn churns_in_four_threads<N: Naming + Send + Sync, R: Abort + Threads + Sync>(
     table: Unnamed,
 )
     requires name { table ≡ N.table }
-    requires slots { slots_of table ≡ 4 }
+    requires slots { table_slots table ≡ 4 }
 {
     let (words, mut a) = table.named::<N>();
     let mut b = words.split(&mut a);
@@ -397,10 +397,10 @@ fn churns_in_four_threads<N: Naming + Send + Sync, R: Abort + Threads + Sync>(
     let (first, second) = thread::join(
         rt,
         ||
-            requires { slots_of N.table ≡ 4 }
+            requires { table_slots N.table ≡ 4 }
         { churn_in_two(rt, &words, &mut a, &mut b, &holders) },
         ||
-            requires { slots_of N.table ≡ 4 }
+            requires { table_slots N.table ≡ 4 }
         { churn_in_two(rt, &words, &mut c, &mut d, &holders) },
     );
     assert!(rt; first & second);

@@ -1,6 +1,6 @@
 // Every drive lost at every call of a run, a second one after it, and what is answered then.
 use crate::script::{
-    Script, Told, answers, fuse, grouped, is_lost, list_on, lose, push, push_fill, push_move,
+    Reported, Script, answers, fuse, grouped, is_lost, list_on, lose, push, push_fill, push_move,
     push_read, push_write, record_of,
 };
 use std::alloc::Global;
@@ -24,7 +24,7 @@ fn others(drive: u8) -> [u8; 3] {
 fn push_make(rt: &impl Abort, alloc: Global, script: &mut Script, drive: u8) {
     let members = list_on(rt, alloc, others(drive), 2);
     let class = Class::Parity;
-    push(rt, script, Step::Make { class, members }, Told::Made(2));
+    push(rt, script, Step::Make { class, members }, Reported::Made(2));
 }
 
 // Blocks 3, 4 and 6 are written, and a payload is given up.
@@ -34,13 +34,18 @@ fn push_writes(rt: &impl Abort, alloc: Global, script: &mut Script) {
     push_write(rt, alloc, script, 2, 6, 3);
     push_fill(rt, alloc, script, 2, 5, 9);
     let discard = Step::Discard { worker: 2, slot: 5 };
-    push(rt, script, discard, Told::Discarded(5));
+    push(rt, script, discard, Reported::Discarded(5));
 }
 
 // A place of a block is read.
 fn push_read_at(rt: &impl Abort, script: &mut Script, block: u32, hop: u16, place: u16, byte: u8) {
     let record = record_of(block, hop, place);
-    push(rt, script, Step::ReadAt { record }, Told::Data(Some(byte)));
+    push(
+        rt,
+        script,
+        Step::ReadAt { record },
+        Reported::Data(Some(byte)),
+    );
 }
 
 // Blocks 3, 4 and 6 are written, a payload is given up, a group is made without a drive, blocks 3 and 4 move, and
@@ -60,7 +65,7 @@ fn run_without(rt: &impl Abort, alloc: Global, drive: u8) -> Script {
 // A block is read, or its slot is gone.
 fn push_look(rt: &impl Abort, script: &mut Script, block: u32, slot: u16, byte: u8, is_gone: bool) {
     if is_gone {
-        let gone = Told::Refused(Refusal::Gone(slot));
+        let gone = Reported::Refused(Refusal::Gone(slot));
         push(rt, script, Step::Read { block }, gone);
     } else {
         push_read(rt, script, block, byte);

@@ -1,5 +1,7 @@
 // Members that go onto other extents: what is refused in which order, and each drive lost at each call of a move.
-use crate::script::{Script, Told, answers, fuse, grouped, push, push_move, push_read, push_write};
+use crate::script::{
+    Reported, Script, answers, fuse, grouped, push, push_move, push_read, push_write,
+};
 use std::alloc::Global;
 use std::process::Abort;
 use step_core::{Member, Refusal, Step, World};
@@ -13,15 +15,15 @@ fn push_shift(
     group: u16,
     member: u8,
     to: (u8, u16),
-    wanted: Told,
+    expected: Reported,
 ) {
     let (drive, extent) = to;
     let to = Member { drive, extent };
-    push(rt, script, Step::MoveExtent { group, member, to }, wanted);
+    push(rt, script, Step::MoveExtent { group, member, to }, expected);
 }
 
 fn push_lose(rt: &impl Abort, script: &mut Script, drive: u8) {
-    push(rt, script, Step::Lose { drive }, Told::Other);
+    push(rt, script, Step::Lose { drive }, Reported::Other);
 }
 
 // Block 3 is written to slot 0 and moves to slot 128, and block 6 to slot 2.
@@ -36,8 +38,8 @@ fn push_reads(rt: &impl Abort, script: &mut Script) {
     push_read(rt, script, 6, 2);
 }
 
-fn refused(refusal: Refusal) -> Told {
-    Told::Refused(refusal)
+fn refused(refusal: Refusal) -> Reported {
+    Reported::Refused(refusal)
 }
 
 // A move of each that is refused, and drive 3 is lost before the last one.
@@ -75,12 +77,12 @@ fn a_move_is_refused_in_its_order(rt: HostRuntime) {
 // A member of the parity group goes onto drive 0, and all blocks are read; a second one where it was lost is refused.
 fn moved(rt: &impl Abort, alloc: Global, is_refused: bool) -> Script {
     let mut script = Vec::new(alloc);
-    let wanted = if is_refused {
-        Told::Refused(Refusal::DriveLost(0))
+    let expected = if is_refused {
+        Reported::Refused(Refusal::DriveLost(0))
     } else {
-        Told::Shifted
+        Reported::Shifted
     };
-    push_shift(rt, &mut script, 1, 0, (0, 2), wanted);
+    push_shift(rt, &mut script, 1, 0, (0, 2), expected);
     push_reads(rt, &mut script);
     script
 }
@@ -117,9 +119,9 @@ fn rebuilt(rt: &impl Abort, alloc: Global) -> Script {
     let mut script = Vec::new(alloc);
     push_blocks(rt, alloc, &mut script);
     push_lose(rt, &mut script, 1);
-    push(rt, &mut script, Step::AddDrive, Told::Added(4));
-    push_shift(rt, &mut script, 0, 1, (4, 0), Told::Shifted);
-    push_shift(rt, &mut script, 1, 0, (4, 1), Told::Shifted);
+    push(rt, &mut script, Step::AddDrive, Reported::Added(4));
+    push_shift(rt, &mut script, 0, 1, (4, 0), Reported::Shifted);
+    push_shift(rt, &mut script, 1, 0, (4, 1), Reported::Shifted);
     push_reads(rt, &mut script);
     push_lose(rt, &mut script, 2);
     push_reads(rt, &mut script);

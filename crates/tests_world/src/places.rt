@@ -1,5 +1,5 @@
 // Blocks that are placed into slots in one call: what is returned for each, and which slots are free after it.
-use crate::script::{Told, answer, bytes_of, grouped, tell};
+use crate::script::{Reported, answer, bytes_of, grouped, report};
 use map_join::Record;
 use std::alloc::Global;
 use std::process::Abort;
@@ -44,8 +44,8 @@ fn copy(
 }
 
 // A block was placed under this version and hop, and left this slot.
-fn is_placed(told: Result<Placed, NotPlaced>, newest: Record, left: Option<u16>) -> bool {
-    match told {
+fn is_placed(reported: Result<Placed, NotPlaced>, newest: Record, left: Option<u16>) -> bool {
+    match reported {
         Ok(placed) => placed.newest == newest && placed.left == left,
         Err(_) => false,
     }
@@ -61,8 +61,8 @@ fn record(version: u32, hop: u16, place: u16) -> Record {
 }
 
 // What a read of block 3 finds, by its first byte.
-fn found(rt: &impl Abort, alloc: Global, world: &mut World) -> Told {
-    tell(&answer(rt, alloc, world, &Step::Read { block: 3 }))
+fn found(rt: &impl Abort, alloc: Global, world: &mut World) -> Reported {
+    report(&answer(rt, alloc, world, &Step::Read { block: 3 }))
 }
 
 #[test]
@@ -74,12 +74,12 @@ fn a_block_goes_into_a_free_slot_and_leaves_its_old_one(rt: HostRuntime) {
     let second = write(&rt, alloc, &mut world, 2, 3, 9);
     assert!(rt; is_placed(second, record(2, 0, 2), Some(0)));
     assert!(rt; world.is_free(0) && !world.is_free(2));
-    assert!(rt; found(&rt, alloc, &mut world) == Told::Read(2, Some(9)));
+    assert!(rt; found(&rt, alloc, &mut world) == Reported::Read(2, Some(9)));
     let third = copy(&rt, alloc, &mut world, 128, 3);
     assert!(rt; is_placed(third, record(2, 1, 128), Some(2)));
     let last = trim(&rt, alloc, &mut world, 1, 3);
     assert!(rt; is_placed(last, record(3, 0, 1), Some(128)));
-    assert!(rt; found(&rt, alloc, &mut world) == Told::Other);
+    assert!(rt; found(&rt, alloc, &mut world) == Reported::Other);
     assert!(rt; world.is_free(2) && world.is_free(128) && world.array().record_count() == 4);
 }
 

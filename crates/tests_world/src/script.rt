@@ -6,7 +6,7 @@ use step_core::{Answer, At, Class, Member, Refusal, Shape, Step, World};
 
 /// What an answer says; of a payload its first byte.
 #[derive(Clone, Copy, PartialEq, Eq)]
-pub(crate) enum Told {
+pub(crate) enum Reported {
     Claimed(u16),
     Taken(u16),
     NotHeld(u16),
@@ -24,28 +24,31 @@ pub(crate) enum Told {
     Other,
 }
 
-pub(crate) fn tell(answer: &Answer) -> Told {
+pub(crate) fn report(answer: &Answer) -> Reported {
     match answer {
-        Answer::Claimed(slot) => Told::Claimed(*slot),
-        Answer::Taken(slot) => Told::Taken(*slot),
-        Answer::NotHeld(slot) => Told::NotHeld(*slot),
-        Answer::Filled(slot) => Told::Filled(*slot),
-        Answer::Copied(slot) => Told::Copied(*slot),
-        Answer::Committed(record) => Told::Committed(*record),
-        Answer::Discarded(slot) => Told::Discarded(*slot),
-        Answer::Read(Some((version, payload))) => Told::Read(*version, payload.first().copied()),
-        Answer::Found(At::Data(payload)) => Told::Data(payload.first().copied()),
-        Answer::Made(group) => Told::Made(*group),
-        Answer::Unmade(group) => Told::Unmade(*group),
-        Answer::Shifted => Told::Shifted,
-        Answer::Added(drive) => Told::Added(*drive),
-        Answer::Refused(refusal) => Told::Refused(*refusal),
-        _ => Told::Other,
+        Answer::Claimed(slot) => Reported::Claimed(*slot),
+        Answer::Taken(slot) => Reported::Taken(*slot),
+        Answer::NotHeld(slot) => Reported::NotHeld(*slot),
+        Answer::Filled(slot) => Reported::Filled(*slot),
+        Answer::Copied(slot) => Reported::Copied(*slot),
+        Answer::Committed(record) => Reported::Committed(*record),
+        Answer::Discarded(slot) => Reported::Discarded(*slot),
+        Answer::Read(Some((version, payload))) => Reported::Read(
+            *version,
+            payload.first().copied(),
+        ),
+        Answer::Found(At::Data(payload)) => Reported::Data(payload.first().copied()),
+        Answer::Made(group) => Reported::Made(*group),
+        Answer::Unmade(group) => Reported::Unmade(*group),
+        Answer::Shifted => Reported::Shifted,
+        Answer::Added(drive) => Reported::Added(*drive),
+        Answer::Refused(refusal) => Reported::Refused(*refusal),
+        _ => Reported::Other,
     }
 }
 
 /// Each step of a run, with what it answers.
-pub(crate) type Script = Vec<(Step, Told)>;
+pub(crate) type Script = Vec<(Step, Reported)>;
 
 /// Four drives, with no group.
 pub(crate) fn new_world(rt: &impl Abort, alloc: Global) -> World {
@@ -163,8 +166,8 @@ pub(crate) fn records_from(
 }
 
 /// A step, with what it answers.
-pub(crate) fn push(rt: &impl Abort, script: &mut Script, step: Step, wanted: Told) {
-    assert!(rt; script.push((step, wanted)).is_ok());
+pub(crate) fn push(rt: &impl Abort, script: &mut Script, step: Step, expected: Reported) {
+    assert!(rt; script.push((step, expected)).is_ok());
 }
 
 /// A slot is claimed and filled with a payload of one byte throughout.
@@ -180,7 +183,7 @@ pub(crate) fn push_fill(
         rt,
         script,
         Step::Claim { worker, slot },
-        Told::Claimed(slot),
+        Reported::Claimed(slot),
     );
     let payload = payload_of(rt, alloc, byte);
     let fill = Step::Fill {
@@ -188,7 +191,7 @@ pub(crate) fn push_fill(
         slot,
         payload,
     };
-    push(rt, script, fill, Told::Filled(slot));
+    push(rt, script, fill, Reported::Filled(slot));
 }
 
 /// The slot that waits is committed, as the first version of a block.
@@ -209,7 +212,7 @@ pub(crate) fn push_commit(
         rt,
         script,
         commit,
-        Told::Committed(record_of(block, hop, slot)),
+        Reported::Committed(record_of(block, hop, slot)),
     );
 }
 
@@ -228,7 +231,12 @@ pub(crate) fn push_write(
 
 /// A block's first version is read.
 pub(crate) fn push_read(rt: &impl Abort, script: &mut Script, block: u32, byte: u8) {
-    push(rt, script, Step::Read { block }, Told::Read(1, Some(byte)));
+    push(
+        rt,
+        script,
+        Step::Read { block },
+        Reported::Read(1, Some(byte)),
+    );
 }
 
 /// A block is copied to a slot, one hop from its first place, and read there.
@@ -238,14 +246,14 @@ pub(crate) fn push_move(rt: &impl Abort, script: &mut Script, block: u32, slot: 
         rt,
         script,
         Step::Claim { worker, slot },
-        Told::Claimed(slot),
+        Reported::Claimed(slot),
     );
     let copy = Step::Copy {
         worker,
         slot,
         block,
     };
-    push(rt, script, copy, Told::Copied(slot));
+    push(rt, script, copy, Reported::Copied(slot));
     push_commit(rt, script, worker, block, 1, slot);
     push_read(rt, script, block, byte);
 }
@@ -264,10 +272,10 @@ pub(crate) fn answers(
     rt: &impl Abort,
     alloc: Global,
     world: &mut World,
-    script: &[(Step, Told)],
+    script: &[(Step, Reported)],
 ) -> bool {
-    for (step, wanted) in script {
-        if tell(&answer(rt, alloc, world, step)) != *wanted {
+    for (step, expected) in script {
+        if report(&answer(rt, alloc, world, step)) != *expected {
             return false;
         }
     }

@@ -150,11 +150,11 @@ impl Walk {
 
     // A block reads as it was last written.
     fn reads(&mut self, rt: &impl Abort, block: u32) -> bool {
-        let wanted = self.written[block as usize % 16];
+        let expected = self.written[block as usize % 16];
         match answer(rt, self.alloc, &mut self.world, &Step::Read { block }) {
-            Answer::Read(None) => wanted == None,
+            Answer::Read(None) => expected == None,
             Answer::Read(Some((_, payload))) => {
-                wanted.is_some_and(|byte| payload.as_slice() == bytes_of(byte).as_slice())
+                expected.is_some_and(|byte| payload.as_slice() == bytes_of(byte).as_slice())
             }
             _ => false,
         }
@@ -214,7 +214,7 @@ impl Walk {
     }
 
     // The next drive that isn't lost.
-    fn present_behind(&self, drive: u8) -> u8 {
+    fn present_following(&self, drive: u8) -> u8 {
         let count = drive_count(&self.world);
         let mut at = drive;
         for _turn in 0..16u8 {
@@ -232,9 +232,9 @@ impl Walk {
     // Extents of one number on three drives that aren't lost.
     fn members(&mut self, rt: &impl Abort) -> Vec<Member> {
         let drawn = self.draw(16) as u8;
-        let first = self.present_behind(drawn);
-        let second = self.present_behind(first);
-        let third = self.present_behind(second);
+        let first = self.present_following(drawn);
+        let second = self.present_following(first);
+        let third = self.present_following(second);
         let extent = self.draw(8) as u16;
         list_on(rt, self.alloc, [first, second, third], extent)
     }

@@ -1,7 +1,7 @@
 // A drive that counts its calls.
 ghost use Rattle.std.specs.Prelude.{◌≡◌, true};
 ghost use Rattle.extents.specs.Condition.{is_gone};
-ghost use Rattle.extents.specs.Units.{IsSized};
+ghost use Rattle.extents.specs.Units.{AreUnitsSized};
 
 use extents::{Drive, DriveLost, HotSwap, MemDrive};
 

@@ -3,11 +3,11 @@ use crate::disk::Disk;
 use crate::kept::open_disks;
 use crate::volume::array_over;
 use anyhow::{Result, bail, ensure};
-use background::{Outcome, Tiers};
 use file_drive::FileDrive;
 use map_join::Record;
 use std::alloc::Global;
 use step_core::{Array, Class, Drive, Given, Member, Plain, Shape, World};
+use tiered_array::{Outcome, Tiers};
 
 // Two levels over an array.
 fn tiers_of<D: Drive + Drop>(alloc: Global, array: Array<D, Plain>) -> Result<Tiers<D>> {

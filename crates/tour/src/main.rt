@@ -41,7 +41,7 @@ fn tour(rt: &impl Print, alloc: Global) -> Result<()> {
     let (shape, drives) = new_drives(alloc)?;
     let (durable, other) = keep(alloc, shape)?;
     println!(rt; "after a crash: {durable:?}, without a sync: {other:?}")?;
-    tell(rt, "demote", use_levels(alloc, shape)?)?;
+    report(rt, "demote", use_levels(alloc, shape)?)?;
     println!(rt; "drives: {} of {} units", drives.len(), shape.drive_units())?;
     let mut volume = Volume::new(alloc, shape, drives, Desk::new())?;
     let records = use_all(rt, &mut volume)?;
@@ -60,17 +60,17 @@ fn use_all(rt: &impl Print, volume: &mut Volume<Tested>) -> Result<Vec<Record>> 
     let mirrored = volume.make(Class::Mirrored, [0, 1, 2], 0)?;
     let parity = volume.make(Class::Parity, [1, 2, 3], 1)?;
     println!(rt; "groups: {mirrored} is mirrored, {parity} has parity")?;
-    tell(rt, "write", volume.write(0, 3, &[3; 8])?)?;
-    tell(rt, "write", volume.write(1, 5, &[5; 8])?)?;
-    tell(rt, "copy", volume.copy(128, 3)?)?;
-    tell(rt, "trim", volume.trim(2, 5)?)?;
+    report(rt, "write", volume.write(0, 3, &[3; 8])?)?;
+    report(rt, "write", volume.write(1, 5, &[5; 8])?)?;
+    report(rt, "copy", volume.copy(128, 3)?)?;
+    report(rt, "trim", volume.trim(2, 5)?)?;
     let free = [0, 1, 2, 128].map(|slot| volume.is_free(slot));
     println!(rt; "claims of slots 0, 1, 2, 128 are at the desk: {free:?}")?;
     Ok(volume.array.records_from(volume.alloc, 0)?)
 }
 
 // Prints a record.
-fn tell(rt: &impl Print, what: &str, record: Record) -> Result<()> {
+fn report(rt: &impl Print, what: &str, record: Record) -> Result<()> {
     println!(rt;
         "{what}: block {}, version {}, hop {}, slot {}",
         record.block, record.version, record.hop, record.place

@@ -1,17 +1,17 @@
 // An array taken apart, and restarted from its drives.
 ghost use Rattle.std.specs.Prelude.{◌≡◌, IsTrue};
-ghost use Rattle.array_parts.specs.Fit.{IsFit};
+ghost use Rattle.unit_store.specs.Fit.{IsFit};
 
 use crate::counted::Counted;
 use crate::desk::{Desk, Seat};
 use crate::volume::Volume;
 use crate::watched::Watched;
 use anyhow::{Result, bail, ensure};
-use array_parts::Parts;
 use header_scan::{restart, scan};
 use map_join::BlockMap;
 use std::alloc::Global;
 use step_core::{Drive, MemDrive, TakeBack};
+use unit_store::Parts;
 
 // Whether the parts fit one another.
 fn are_fit<D: Drive>(parts: &Parts<D>) -> bool

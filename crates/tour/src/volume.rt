@@ -1,7 +1,7 @@
 // An array over drives of any type, with claims from a desk.
 ghost use Rattle.std.specs.Prelude.{◌≡◌, IsTrue};
 ghost use Rattle.extent_groups.specs.Calls.{AreSized};
-ghost use Rattle.array_parts.specs.Fit.{HaveUnits};
+ghost use Rattle.unit_store.specs.Fit.{HaveUnitCount};
 
 use crate::counted::Counted;
 use crate::desk::{Desk, Seat};
@@ -39,7 +39,7 @@ pub(crate) fn are_sized<D: Drive>(drives: &[D], bytes: usize) -> bool
 
 // Whether each drive has `units` units.
 fn have_units<D: Drive>(drives: &[D], units: u32) -> bool
-    ensures { IsTrue result → HaveUnits D.units drives.now units }
+    ensures { IsTrue result → HaveUnitCount D.units drives.now units }
 {
     drives.iter().all(|drive| drive.units() == units)
 }

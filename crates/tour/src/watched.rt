@@ -1,8 +1,8 @@
 // Units whose headers are counted as they are read.
-use array_parts::Units;
 use extent_groups::GroupTable;
 use extents::HEADER_BYTES;
 use step_core::Refusal;
+use unit_store::Units;
 
 /// Units, and how many of their headers were asked for one by one or read by group.
 #[derive(Drop)]

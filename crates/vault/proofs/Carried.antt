@@ -5,15 +5,15 @@ use Rattle.std.proofs.lemmas.Option.{none-some, same_Some}
 use Rattle.std.proofs.lemmas.Bool.{true≢false}
 use Rattle.extent_groups.specs.declared.place.Place.{Place}
 use Rattle.extent_groups.specs.Cells.{Cells, held}
-use Rattle.extent_groups.specs.Planned.{Wanted, with_unit, after}
+use Rattle.extent_groups.specs.Planned.{Intended, with_unit, after}
 use Rattle.extent_groups.proofs.Finishing.{write_else}
 use Rattle.vault.specs.declared.store.Stop.{Stop}
 use Rattle.vault.specs.declared.store.VaultError.{VaultError}
 use Rattle.vault.specs.declared.store.VaultError.TheVariants.{Memory, Misfit, Journal, Drive}
-use Rattle.vault.specs.Images.{Image, SameOn, Stands, recovered, flat, is_lost}
-use Rattle.vault.specs.Moments.{Torn, IsWrittenTo, IsTorn, IsFront, IsUnderway, IsKept, AreTorn, IsAmong, IsUnchanged, Elapses, HasCause, IsRefused, torn_at}
+use Rattle.vault.specs.Images.{Image, SameOn, Matches, recovered, flat, is_lost}
+use Rattle.vault.specs.Moments.{Torn, IsWrittenTo, IsTorn, IsFront, IsPartApplied, IsPreserved, AreTorn, IsWithinJournal, IsUnchanged, Elapses, HasCause, IsRejected, torn_at}
 use Rattle.vault.proofs.Runs.{started, goes_on, both_runs}
-use Rattle.vault.proofs.Writes.{torn_more, torn_on, torn_back, torn_not, torn_front, torn_stands, same_here, after_both, flat_last, take_next, in_list, in_batch}
+use Rattle.vault.proofs.Writes.{torn_more, torn_on, torn_back, torn_not, torn_front, torn_matches, same_here, after_both, flat_last, take_next, in_list, in_batch}
 
 pub on_ok_both : {T E : Type 0} (P Q : Type 0) (r : Result T E) → OnOk r P → OnOk r Q → OnOk r (P × Q)
 on_ok_both P Q (Ok x) p q = (p, q)
@@ -31,7 +31,7 @@ pub if_err_of : {T E : Type 0} (Q : E → Type 0) (r : Result T E) → ((e : E) 
 if_err_of Q (Ok x) each = tt
 if_err_of Q (Err e) each = each e
 
-pub unless_journal : {T : Type 0} (P : Type 0) (r : Result T VaultError) → (IsRefused r → P) → ((d : ℕ) → IsErrOf r (Drive d) → ⊥) → IfErr r (λ e. e ≢ Journal → P)
+pub unless_journal : {T : Type 0} (P : Type 0) (r : Result T VaultError) → (IsRejected r → P) → ((d : ℕ) → IsErrOf r (Drive d) → ⊥) → IfErr r (λ e. e ≢ Journal → P)
 unless_journal P (Ok x) refused never = tt
 unless_journal P (Err Memory) refused never = λ other. refused (inl refl)
 unless_journal P (Err Misfit) refused never = λ other. refused (inr refl)
@@ -72,29 +72,29 @@ cause_passed may_name n m r failed e is other cause = record {
     same_err a b same = ap (the_err a) same
 
 -- a write of a batch, by its place and its unit
-pub at_place : (ws : List Wanted) (k : ℕ) (p : Place) → option_map (λ (w : Wanted). w.place) (slice_get ws k) ≡ Some p → (w : Wanted) × (slice_get ws k ≡ Some w) × (w.place ≡ p)
+pub at_place : (ws : List Intended) (k : ℕ) (p : Place) → option_map (λ (w : Intended). w.place) (slice_get ws k) ≡ Some p → (w : Intended) × (slice_get ws k ≡ Some w) × (w.place ≡ p)
 at_place [] k p at = absurd (none-some p at)
 at_place (w ∷ ws) zero p at = (w, refl, same_Some w.place p at)
 at_place (w ∷ ws) (suc k) p at = at_place ws k p at
 
-pub at_both : (ws : List Wanted) (k : ℕ) (p : Place) (u : List ℕ) → option_map (λ (w : Wanted). w.place) (slice_get ws k) ≡ Some p → option_map (λ (w : Wanted). w.unit) (slice_get ws k) ≡ Some u
+pub at_both : (ws : List Intended) (k : ℕ) (p : Place) (u : List ℕ) → option_map (λ (w : Intended). w.place) (slice_get ws k) ≡ Some p → option_map (λ (w : Intended). w.unit) (slice_get ws k) ≡ Some u
     → slice_get ws k ≡ Some (record { place = p; unit = u })
 at_both [] k p u at by = absurd (none-some p at)
-at_both (w ∷ ws) zero p u at by = ap (λ q. let v : Wanted = record { place = q; unit = w.unit } in Some v) (same_Some w.place p at) ∙ ap (λ x. let v : Wanted = record { place = p; unit = x } in Some v) (same_Some w.unit u by)
+at_both (w ∷ ws) zero p u at by = ap (λ q. let v : Intended = record { place = q; unit = w.unit } in Some v) (same_Some w.place p at) ∙ ap (λ x. let v : Intended = record { place = p; unit = x } in Some v) (same_Some w.unit u by)
 at_both (w ∷ ws) (suc k) p u at by = at_both ws k p u at by
 
-pub place_in : (ws : List Wanted) (k : ℕ) (p : Place) → option_map (λ (w : Wanted). w.place) (slice_get ws k) ≡ Some p → IsWrittenTo ws p
+pub place_in : (ws : List Intended) (k : ℕ) (p : Place) → option_map (λ (w : Intended). w.place) (slice_get ws k) ≡ Some p → IsWrittenTo ws p
 place_in ws k p at = let found = at_place ws k p at in subst (IsWrittenTo ws) found.2 (in_list ws k found.0 found.1)
 
 -- the units after one write more
-pub after_next : (lost : List Bool) (ws : List Wanted) (k : ℕ) (w : Wanted) (base now next : Cells) → slice_get ws k ≡ Some w → SameOn lost now (after base (take k ws))
+pub after_next : (lost : List Bool) (ws : List Intended) (k : ℕ) (w : Intended) (base now next : Cells) → slice_get ws k ≡ Some w → SameOn lost now (after base (take k ws))
     → SameOn lost next (with_unit now w) → SameOn lost next (after base (take (k + 1) ws))
 after_next lost ws k w base now next at so_far written x live =
     let longer : after base (take (k + 1) ws) ≡ with_unit (after base (take k ws)) w = ap (λ vs. after base vs) (take_next ws k w at) ∙ after_both (take k ws) (w ∷ []) base in
     written x live ∙ same_here (w ∷ []) now (after base (take k ws)) x (so_far x live) ∙ ap (λ c. held c x) (sym longer)
 
 -- a write for a lost drive, which is skipped
-pub after_skipped : (lost : List Bool) (ws : List Wanted) (k : ℕ) (p : Place) (base now : Cells) → option_map (λ (w : Wanted). w.place) (slice_get ws k) ≡ Some p → is_lost lost p.drive ≡ true
+pub after_skipped : (lost : List Bool) (ws : List Intended) (k : ℕ) (p : Place) (base now : Cells) → option_map (λ (w : Intended). w.place) (slice_get ws k) ≡ Some p → is_lost lost p.drive ≡ true
     → SameOn lost now (after base (take k ws)) → SameOn lost now (after base (take (k + 1) ws))
 after_skipped lost ws k p base now at gone so_far =
     let found = at_place ws k p at in
@@ -102,7 +102,7 @@ after_skipped lost ws k p base now at gone so_far =
     (λ x live. sym (write_else now found.0 x (λ e. true≢false (sym gone ∙ ap (λ (q : Place). is_lost lost q.drive) (sym found.2 ∙ e) ∙ live))))
 
 -- the units after one batch more
-pub after_batch : (lost : List Bool) (batches : List (List Wanted)) (k : ℕ) (b : List Wanted) (base now next : Cells) → slice_get batches k ≡ Some b → SameOn lost now (after base (flat (take k batches)))
+pub after_batch : (lost : List Bool) (batches : List (List Intended)) (k : ℕ) (b : List Intended) (base now next : Cells) → slice_get batches k ≡ Some b → SameOn lost now (after base (flat (take k batches)))
     → SameOn lost next (after now b) → SameOn lost next (after base (flat (take (k + 1) batches)))
 after_batch lost batches k b base now next at so_far written x live =
     let longer : after base (flat (take (k + 1) batches)) ≡ after (after base (flat (take k batches))) b =
@@ -112,7 +112,7 @@ after_batch lost batches k b base now next at so_far written x live =
 module _ {V : Type 0} (seen : V → Image) (may_leave : V → Stop → Image → Type 0) (moment : V → ℕ) (left_since : V → Stop → ℕ → Image → Type 0) (lost : List Bool) where
   -- nothing was written yet
   pub at_start : (old : V) → ((stop : Stop) (i : Image) → left_since old stop (moment old) i → may_leave old stop i)
-      → IsUnderway seen may_leave moment left_since lost old old
+      → IsPartApplied seen may_leave moment left_since lost old old
   at_start old only = record {
     finds = torn_not lost (seen old);
     leaves = λ torn. torn;
@@ -120,9 +120,9 @@ module _ {V : Type 0} (seen : V → Image) (may_leave : V → Stop → Image →
   }
 
   -- a write more for one of the journal's places
-  pub one_more : (old mid new : V) (place : Place) → IsUnderway seen may_leave moment left_since lost old mid → IsWrittenTo (flat (seen old).journal) place → Torn place (seen mid) (seen new)
+  pub one_more : (old mid new : V) (place : Place) → IsPartApplied seen may_leave moment left_since lost old mid → IsWrittenTo (flat (seen old).journal) place → Torn place (seen mid) (seen new)
       → ((stop : Stop) → Elapses (moment mid) (moment new) (left_since mid stop) (left_since new stop) (torn_at place (may_leave mid stop)) (may_leave new stop))
-      → IsUnderway seen may_leave moment left_since lost old new
+      → IsPartApplied seen may_leave moment left_since lost old new
   one_more old mid new place so_far written torn time = record {
     finds = torn_more lost (seen old) (seen mid) (seen new) place so_far.finds written torn;
     leaves = λ start stop i now. during start stop i ((time stop).ends i now);
@@ -133,9 +133,9 @@ module _ {V : Type 0} (seen : V → Image) (may_leave : V → Stop → Image →
       during start stop i from = torn_more lost (seen old) from.0 i place (so_far.leaves start stop from.0 from.1) written from.2
 
   -- a call that changes nothing
-  pub same_more : (old mid new : V) → IsUnderway seen may_leave moment left_since lost old mid → seen new ≡ seen mid
+  pub same_more : (old mid new : V) → IsPartApplied seen may_leave moment left_since lost old mid → seen new ≡ seen mid
       → ((stop : Stop) → Elapses (moment mid) (moment new) (left_since mid stop) (left_since new stop) (may_leave mid stop) (may_leave new stop))
-      → IsUnderway seen may_leave moment left_since lost old new
+      → IsPartApplied seen may_leave moment left_since lost old new
   same_more old mid new so_far same time = record {
     finds = subst (IsTorn lost (seen old)) (sym same) so_far.finds;
     leaves = λ start stop i now. so_far.leaves start stop i ((time stop).ends i now);
@@ -143,15 +143,15 @@ module _ {V : Type 0} (seen : V → Image) (may_leave : V → Stop → Image →
   }
 
   -- what a stop leaves is torn from what calls find meanwhile, too
-  pub torn_mid : (old mid : V) → IsUnderway seen may_leave moment left_since lost old mid → AreTorn seen may_leave lost old → AreTorn seen may_leave lost mid
+  pub torn_mid : (old mid : V) → IsPartApplied seen may_leave moment left_since lost old mid → AreTorn seen may_leave lost old → AreTorn seen may_leave lost mid
   torn_mid old mid so_far start stop i now = torn_on lost (seen mid) (seen old) i (torn_back lost (seen old) (seen mid) so_far.finds) (so_far.leaves start stop i now)
 
   -- a batch that was read writes only places of the journal's writes
-  pub batch_among : (mid new : V) (k : ℕ) (batch : List Wanted) → seen new ≡ seen mid → slice_get (seen mid).journal k ≡ Some batch → IsAmong batch (seen new)
+  pub batch_among : (mid new : V) (k : ℕ) (batch : List Intended) → seen new ≡ seen mid → slice_get (seen mid).journal k ≡ Some batch → IsWithinJournal batch (seen new)
   batch_among mid new k batch same at x written = subst (λ (s : Image). IsWrittenTo (flat s.journal) x) (sym same) (in_batch (seen mid).journal k batch x at written)
 
   -- two runs of writes
-  pub both_more : (old mid new : V) → IsUnderway seen may_leave moment left_since lost old mid → IsUnderway seen may_leave moment left_since lost mid new → IsUnderway seen may_leave moment left_since lost old new
+  pub both_more : (old mid new : V) → IsPartApplied seen may_leave moment left_since lost old mid → IsPartApplied seen may_leave moment left_since lost mid new → IsPartApplied seen may_leave moment left_since lost old new
   both_more old mid new first second = record {
     finds = torn_on lost (seen old) (seen mid) (seen new) first.finds second.finds;
     leaves = λ start stop i now. torn_on lost (seen old) (seen mid) i first.finds (second.leaves (torn_mid old mid first start) stop i now);
@@ -161,20 +161,20 @@ module _ {V : Type 0} (seen : V → Image) (may_leave : V → Stop → Image →
   }
 
   -- the journal is still whole, and mends all that was torn
-  pub kept : (old new : V) → IsUnderway seen may_leave moment left_since lost old new → AreTorn seen may_leave lost old → IsKept seen may_leave lost old new
+  pub kept : (old new : V) → IsPartApplied seen may_leave moment left_since lost old new → AreTorn seen may_leave lost old → IsPreserved seen may_leave lost old new
   kept old new so_far start = record {
     journal = so_far.finds.journal;
     durable = λ stop. record { flushed = omega arith; leaves = λ i now. torn_front lost (seen new) i (torn_mid old new so_far start stop i now) };
-    cells = torn_stands lost (seen old) (seen new) so_far.finds;
+    cells = torn_matches lost (seen old) (seen new) so_far.finds;
   }
 
   -- a call that was refused
-  pub still_kept : (old mid new : V) → IsKept seen may_leave lost old mid → IsUnchanged seen may_leave mid new → IsKept seen may_leave lost old new
+  pub still_kept : (old mid new : V) → IsPreserved seen may_leave lost old mid → IsUnchanged seen may_leave mid new → IsPreserved seen may_leave lost old new
   still_kept old mid new kept same = record {
     journal = ap (λ (s : Image). s.journal) same.finds ∙ kept.journal;
     durable = λ stop. record {
       flushed = omega arith;
       leaves = λ i now. subst (λ (s : Image). IsFront lost s (length s.journal) i) (sym same.finds) ((kept.durable stop).leaves i (same.leaves stop i now));
     };
-    cells = subst (Stands lost (recovered (seen old))) (sym same.finds) kept.cells;
+    cells = subst (Matches lost (recovered (seen old))) (sym same.finds) kept.cells;
   }

@@ -5,7 +5,7 @@ use Rattle.std.proofs.lemmas.Nat.{from_le_bytes-to_le_bytes_8}
 use Rattle.std.proofs.lemmas.List.{drop_at, append-nil, take_all, drop-drop}
 use Rattle.vault.specs.declared.batch.Entry.{Entry}
 use Rattle.vault.specs.Entries.{writes_in, AreWithin}
-use Rattle.vault.specs.Coding.{word, number, entry_code, entry_at, entries_code, entries_at, code, units_in, decoded, IsGoodEntry, AreGood, IsCode, IsSmall, AreSmall, Encodes}
+use Rattle.vault.specs.Coding.{word, number, entry_code, entry_at, entries_code, entries_at, code, packed_units, decoded, IsGoodEntry, AreGood, IsCode, IsSmall, AreSmall, Encodes}
 
 pub length-word : (n : ℕ) → length (word n) ≡ 8
 unfolding word
@@ -82,7 +82,7 @@ pub encodes : (old new units : List ℕ) (es : List Entry) → AreWithin units e
 encodes old new units es within small few bytes =
     let n : number (code units es) ≡ length es = number-word (length es) (entries_code es ++ units) few in
     let table : drop 8 (code units es) ≡ entries_code es ++ units = drop_word (length es) (entries_code es ++ units) in
-    let rest : units_in (code units es) ≡ units = ap (λ m. drop (32 * m) (drop 8 (code units es))) n ∙ ap (λ l. drop (32 * length es) l) table ∙ drop_at (entries_code es) units (32 * length es) (length-entries es) in
+    let rest : packed_units (code units es) ≡ units = ap (λ m. drop (32 * m) (drop 8 (code units es))) n ∙ ap (λ l. drop (32 * length es) l) table ∙ drop_at (entries_code es) units (32 * length es) (length-entries es) in
     let all : entries_at (number (code units es)) (drop 8 (code units es)) ≡ es = ap (λ m. entries_at m (drop 8 (code units es))) n ∙ ap (λ l. entries_at (length es) l) table ∙ entries_read es units small in
     record {
       code = code units es;
@@ -136,10 +136,10 @@ decoded_by bytes units count n rest =
 pub code_by : (bytes units : List ℕ) (count : ℕ) → 8 ≤ length bytes → count ≡ number bytes → 8 + 32 * count ≤ length bytes → units ≡ drop (8 + 32 * count) bytes
     → (AreGood (length units) (entries_at count (drop 8 bytes)) → IsCode bytes) × (IsCode bytes → AreGood (length units) (entries_at count (drop 8 bytes)))
 code_by bytes units count counted n table rest =
-    let same : units ≡ units_in bytes = rest ∙ sym (drop-drop (32 * count) 8 bytes) ∙ ap (λ m. drop (32 * m) (drop 8 bytes)) n in
+    let same : units ≡ packed_units bytes = rest ∙ sym (drop-drop (32 * count) 8 bytes) ∙ ap (λ m. drop (32 * m) (drop 8 bytes)) n in
     let to : (u : List ℕ) (m : ℕ) → Type 0 = λ u m. AreGood (length u) (entries_at m (drop 8 bytes)) in (
-      λ good. record { counted = counted; table = omega (arith, n, table); entries = subst (to (units_in bytes)) n (subst (λ u. to u count) same good) },
-      λ is. subst (λ u. to u count) (sym same) (subst (to (units_in bytes)) (sym n) is.entries),
+      λ good. record { counted = counted; table = omega (arith, n, table); entries = subst (to (packed_units bytes)) n (subst (λ u. to u count) same good) },
+      λ is. subst (λ u. to u count) (sym same) (subst (to (packed_units bytes)) (sym n) is.entries),
     )
 
 -- what an `Ok` says of one of two values

@@ -3,7 +3,7 @@ use Rattle.std.proofs.Common.{◌≡◌, ◌<◌, ◌≤◌, ◌+◌, ◌-◌, �
 use Rattle.std.specs.Prelude.{slice_get, slice_range, slice_index_or, option_map}
 use Rattle.std.proofs.lemmas.List.{drop-append-le, take-append-le, take_all}
 use Rattle.std.proofs.Math.Seq.{drop-append_seam}
-use Rattle.extent_groups.specs.Planned.{Wanted}
+use Rattle.extent_groups.specs.Planned.{Intended}
 use Rattle.vault.specs.declared.batch.Entry.{Entry}
 use Rattle.std.proofs.lemmas.Option.{none-some, same_Some}
 use Rattle.vault.specs.Entries.{write_in, writes_in, AreWithin, IsUnitOf}
@@ -43,7 +43,7 @@ range_longer units more i j low high =
 pub writes_longer : (units more : List ℕ) (es : List Entry) → AreWithin units es → writes_in (units ++ more) es ≡ writes_in units es
 writes_longer units more [] within = refl
 writes_longer units more (e ∷ es) within =
-    ap (λ u. let w : Wanted = record { place = e.place; unit = u } in w ∷ writes_in (units ++ more) es) (range_longer units more e.from e.to within.0 within.1)
+    ap (λ u. let w : Intended = record { place = e.place; unit = u } in w ∷ writes_in (units ++ more) es) (range_longer units more e.from e.to within.0 within.1)
     ∙ ap (λ ws. write_in units e ∷ ws) (writes_longer units more es within.2)
 
 -- an entry among others
@@ -57,12 +57,12 @@ write_at units [] k e low is = absurd (omega (arith, low))
 write_at units (first ∷ es) zero e low is = ap (λ (x : Entry). Some (write_in units x)) (sym is)
 write_at units (first ∷ es) (suc k) e low is = write_at units es k e (omega (arith, low)) is
 
-pub place_at : (units : List ℕ) (es : List Entry) (k : ℕ) (e : Entry) → k < length es → e ≡ get_or es k e → option_map (λ (w : Wanted). w.place) (slice_get (writes_in units es) k) ≡ Some e.place
-place_at units es k e low is = ap (λ o. option_map (λ (w : Wanted). w.place) o) (write_at units es k e low is)
+pub place_at : (units : List ℕ) (es : List Entry) (k : ℕ) (e : Entry) → k < length es → e ≡ get_or es k e → option_map (λ (w : Intended). w.place) (slice_get (writes_in units es) k) ≡ Some e.place
+place_at units es k e low is = ap (λ o. option_map (λ (w : Intended). w.place) o) (write_at units es k e low is)
 
 -- a write's unit, by its entry
 pub unit_at : (units : List ℕ) (es : List Entry) (k : ℕ) (d : Entry) → k < length es
-    → option_map (λ (w : Wanted). w.unit) (slice_get (writes_in units es) k) ≡ Some (slice_range units (slice_index_or es k d).from (slice_index_or es k d).to)
+    → option_map (λ (w : Intended). w.unit) (slice_get (writes_in units es) k) ≡ Some (slice_range units (slice_index_or es k d).from (slice_index_or es k d).to)
 unit_at units [] k d low = absurd (omega (arith, low))
 unit_at units (e ∷ es) zero d low = refl
 unit_at units (e ∷ es) (suc k) d low = unit_at units es k d (omega (arith, low))

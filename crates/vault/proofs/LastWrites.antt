@@ -5,7 +5,7 @@ use Rattle.std.proofs.lemmas.Bool.{true≢false}
 use Rattle.std.proofs.lemmas.Option.{none-some, same_Some}
 use Rattle.extent_groups.specs.declared.place.Place.{Place}
 use Rattle.extent_groups.specs.Cells.{Cells}
-use Rattle.extent_groups.specs.Planned.{Wanted, with_unit, after}
+use Rattle.extent_groups.specs.Planned.{Intended, with_unit, after}
 use Rattle.extent_groups.proofs.Finishing.{write_else}
 use Rattle.extent_groups.proofs.Places.{get-set_same, get-set_other, same_or_not}
 use Rattle.vault.specs.Images.{SameOn, flat, is_lost}
@@ -40,19 +40,19 @@ put_more marks place low room x = (
 pub no_places : (marks : List Bool) → marks ≡ [] → HasPlaces marks []
 no_places marks none x = ((λ has. none-some true (subst (λ (l : List Bool). slice_get l (spot x) ≡ Some true) none has.1)), (λ written. absurd written))
 
-pub places_again : (marks : List Bool) (w : Wanted) (later : List Wanted) → HasPlaces marks later → Has marks w.place → HasPlaces marks (w ∷ later)
+pub places_again : (marks : List Bool) (w : Intended) (later : List Intended) → HasPlaces marks later → Has marks w.place → HasPlaces marks (w ∷ later)
 places_again marks w later are has x = (
   (λ one. inr ((are x).0 one)),
   (λ written. elim written [ inl is ↦ subst (Has marks) is has | inr more ↦ (are x).1 more ]),
 )
 
-pub places_more : (marks more : List Bool) (w : Wanted) (later : List Wanted) → HasPlaces marks later → ((x : Place) → Has more x ↔ (Has marks x ⊎ (w.place ≡ x))) → HasPlaces more (w ∷ later)
+pub places_more : (marks more : List Bool) (w : Intended) (later : List Intended) → HasPlaces marks later → ((x : Place) → Has more x ↔ (Has marks x ⊎ (w.place ≡ x))) → HasPlaces more (w ∷ later)
 places_more marks more w later are put x = (
   (λ one. elim ((put x).0 one) [ inl has ↦ inr ((are x).0 has) | inr is ↦ inl is ]),
   (λ written. (put x).1 (elim written [ inl is ↦ inr is | inr also ↦ inl ((are x).1 also) ])),
 )
 
-module _ (lost : List Bool) (w : Wanted) (later : List Wanted) (base now : Cells) where
+module _ (lost : List Bool) (w : Intended) (later : List Intended) (base now : Cells) where
   -- a write of a place that has a later one isn't made
   pub made_again : IsWrittenTo later w.place → SameOn lost now (after base later) → SameOn lost now (after base (w ∷ later))
   made_again written so_far x live = so_far x live ∙ sym (again w later base x written)
@@ -74,5 +74,5 @@ drop_at (first ∷ xs) zero x at = ap (λ y. y ∷ xs) (same_Some first x at)
 drop_at (first ∷ xs) (suc k) x at = drop_at xs k x at
 
 -- the batches from one on
-pub flat_at : (batches : List (List Wanted)) (k : ℕ) (b : List Wanted) → slice_get batches k ≡ Some b → flat (drop k batches) ≡ b ++ flat (drop (suc k) batches)
+pub flat_at : (batches : List (List Intended)) (k : ℕ) (b : List Intended) → slice_get batches k ≡ Some b → flat (drop k batches) ≡ b ++ flat (drop (suc k) batches)
 flat_at batches k b at = ap flat (drop_at batches k b at)

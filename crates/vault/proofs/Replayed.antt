@@ -8,12 +8,12 @@ use Rattle.vault.specs.declared.store.Stop.{Stop}
 use Rattle.vault.specs.declared.store.Stop.TheVariants.{Killed, PowerLost}
 use Rattle.vault.specs.declared.store.VaultError.{VaultError}
 use Rattle.vault.specs.Images.{Image, Alike, SameOn, with_write, with_journal}
-use Rattle.vault.specs.Moments.{Torn, Elapses, with_or_without, IsRefused}
+use Rattle.vault.specs.Moments.{Torn, Elapses, with_or_without, IsRejected}
 use Rattle.vault.specs.Replay.{start, left_first, seen_after, leaves_during, leaves_after, seen_from, leaves_from, seen_at, leaves_at, leaves_in, LeftSince}
 use Rattle.vault.specs.declared.memory.Call.{Call}
 use Rattle.vault.specs.declared.memory.Call.TheVariants.{Unit as UnitCall, SyncUnits, Append, SyncJournal, Clear}
 use Rattle.extent_groups.specs.Cells.{held}
-use Rattle.extent_groups.specs.Planned.{Wanted, over}
+use Rattle.extent_groups.specs.Planned.{Intended, over}
 use Rattle.vault.proofs.Writes.{some_with, take_next}
 use Rattle.extent_groups.proofs.Finishing.{write_else, write_here}
 use Rattle.std.proofs.lemmas.Bool.{true≢false}
@@ -152,12 +152,12 @@ found_torn calls later place unit call does (inl more) = torn_whole place unit (
 found_torn calls later place unit call does (inr e) = subst (λ s. Torn place (seen_at calls) s) (sym (ap seen_at e)) (torn_same place (seen_at calls))
 
 -- a call that was refused
-pub err_at : {T : Type 0} (P : Type 0) (r : Result T VaultError) → IsRefused r → OnErr r P → P
+pub err_at : {T : Type 0} (P : Type 0) (r : Result T VaultError) → IsRejected r → OnErr r P → P
 err_at P (Ok x) (inl is) err = absurd (cc is)
 err_at P (Ok x) (inr is) err = absurd (cc is)
 err_at P (Err e) is err = err
 
-pub time_append : (stop : Stop) (calls later : List Call) (batch writes : List Wanted) → batch ≡ writes → (later ≡ calls ++ Append batch ∷ []) ⊎ (later ≡ calls)
+pub time_append : (stop : Stop) (calls later : List Call) (batch writes : List Intended) → batch ≡ writes → (later ≡ calls ++ Append batch ∷ []) ⊎ (later ≡ calls)
     → Elapses (length calls) (length later) (λ t i. LeftSince stop calls t i) (λ t i. LeftSince stop later t i) (with_or_without (seen_at calls) writes (λ i. leaves_at stop calls i)) (λ i. leaves_at stop later i)
 time_append stop calls later batch writes same kept =
     subst (λ ws. Elapses (length calls) (length later) (λ t i. LeftSince stop calls t i) (λ t i. LeftSince stop later t i) (with_or_without (seen_at calls) ws (λ i. leaves_at stop calls i)) (λ i. leaves_at stop later i)) same

@@ -2,7 +2,7 @@
 -- bytes, and these bytes. Each number has eight bytes, the lowest first.
 use Rattle.std.specs.Prelude.{◌≡◌, ◌≤◌, ◌<◌, ◌^◌, ◌+◌, ◌*◌, ℕ, zero, suc, List, [], ◌∷◌, ◌++◌, length, take, drop}
 use Rattle.std.specs.Int.{w64, to_le_bytes, from_le_bytes}
-use Rattle.extent_groups.specs.Planned.{Wanted}
+use Rattle.extent_groups.specs.Planned.{Intended}
 use Rattle.vault.specs.declared.batch.Entry.{Entry}
 use Rattle.vault.specs.Entries.{writes_in}
 
@@ -36,12 +36,12 @@ abbrev pub code : List ℕ → List Entry → List ℕ
 code units es = word (length es) ++ (entries_code es ++ units)
 
 -- the bytes of the units
-abbrev pub units_in : List ℕ → List ℕ
-units_in bytes = drop (32 * number bytes) (drop 8 bytes)
+abbrev pub packed_units : List ℕ → List ℕ
+packed_units bytes = drop (32 * number bytes) (drop 8 bytes)
 
 -- the writes for which bytes stand
-abbrev pub decoded : List ℕ → List Wanted
-decoded bytes = writes_in (units_in bytes) (entries_at (number bytes) (drop 8 bytes))
+abbrev pub decoded : List ℕ → List Intended
+decoded bytes = writes_in (packed_units bytes) (entries_at (number bytes) (drop 8 bytes))
 
 -- an entry's numbers are in range, for so many bytes of units
 pub record IsGoodEntry (units : ℕ) (e : Entry) : Type 0 where
@@ -58,7 +58,7 @@ AreGood units (e ∷ es) = IsGoodEntry units e × AreGood units es
 pub record IsCode (bytes : List ℕ) : Type 0 where
   pub counted : 8 ≤ length bytes
   pub table : 8 + 32 * number bytes ≤ length bytes
-  pub entries : AreGood (length (units_in bytes)) (entries_at (number bytes) (drop 8 bytes))
+  pub entries : AreGood (length (packed_units bytes)) (entries_at (number bytes) (drop 8 bytes))
 
 -- the numbers of each entry have their types' ranges
 abbrev pub IsSmall : Entry → Type 0
@@ -69,7 +69,7 @@ AreSmall [] = Unit {0}
 AreSmall (e ∷ es) = IsSmall e × AreSmall es
 
 -- bytes with a batch behind them
-pub record Encodes (old new : List ℕ) (writes : List Wanted) : Type 0 where
+pub record Encodes (old new : List ℕ) (writes : List Intended) : Type 0 where
   pub code : List ℕ
   pub bytes : new ≡ old ++ code
   pub is : IsCode code

@@ -1,7 +1,7 @@
 -- A set of places, as a mark for each drive and the table at each address.
 use Rattle.std.specs.Prelude.{◌≡◌, ◌↔◌, ◌≤◌, ◌+◌, ◌*◌, ℕ, Bool, true, Some, List, slice_get}
 use Rattle.extent_groups.specs.declared.place.Place.{Place}
-use Rattle.extent_groups.specs.Planned.{Wanted}
+use Rattle.extent_groups.specs.Planned.{Intended}
 use Rattle.vault.specs.Moments.{IsWrittenTo}
 
 -- where the mark of a place lies
@@ -13,5 +13,5 @@ abbrev pub Has : List Bool → Place → Type 0
 Has marks x = (x.drive ≤ 16) × (slice_get marks (spot x) ≡ Some true)
 
 -- the set has exactly the places of some writes
-abbrev pub HasPlaces : List Bool → List Wanted → Type 0
+abbrev pub HasPlaces : List Bool → List Intended → Type 0
 HasPlaces marks writes = (x : Place) → Has marks x ↔ IsWrittenTo writes x

@@ -2,11 +2,11 @@
 use Rattle.std.specs.Prelude.{◌≡◌, ◌≢◌, ◌⊎◌, ◌<◌, ◌≤◌, ℕ, Bool, true, false, Some, List, [], ◌∷◌, ◌++◌, length, take, is_some, Result, IsErrOf}
 use Rattle.extent_groups.specs.declared.place.Place.{Place}
 use Rattle.extent_groups.specs.Cells.{Cells, held}
-use Rattle.extent_groups.specs.Planned.{Wanted, after}
+use Rattle.extent_groups.specs.Planned.{Intended, after}
 use Rattle.vault.specs.declared.store.Stop.{Stop}
 use Rattle.vault.specs.declared.store.VaultError.{VaultError}
 use Rattle.vault.specs.declared.store.VaultError.TheVariants.{Memory, Misfit, Journal, Drive}
-use Rattle.vault.specs.Images.{Image, Alike, SameUnits, SameOn, Stands, with_write, recovered, flat, is_lost}
+use Rattle.vault.specs.Images.{Image, Alike, SameUnits, SameOn, Matches, with_write, recovered, flat, is_lost}
 
 -- after a write that a stop cuts short: any bytes at its place, if a unit is there, and the same elsewhere
 pub record Torn (place : Place) (old new : Image) : Type 0 where
@@ -27,10 +27,10 @@ abbrev pub written_at : Place → List ℕ → (Image → Type 0) → Image → 
 written_at place unit outcomes i = (j : Image) × outcomes j × Alike i (with_write j place unit)
 
 -- what a stop leaves once a batch is appended to the journal that calls find, and once that has begun
-abbrev pub has_batch : Image → List Wanted → (Image → Type 0) → Image → Type 0
+abbrev pub has_batch : Image → List Intended → (Image → Type 0) → Image → Type 0
 has_batch seen writes outcomes i = (j : Image) × outcomes j × SameUnits i.cells j.cells × (i.journal ≡ seen.journal ++ writes ∷ [])
 
-abbrev pub with_or_without : Image → List Wanted → (Image → Type 0) → Image → Type 0
+abbrev pub with_or_without : Image → List Intended → (Image → Type 0) → Image → Type 0
 with_or_without seen writes outcomes i = outcomes i ⊎ has_batch seen writes outcomes i
 
 -- what a stop leaves once the journal began to be made durable: what it left before, or more of the first batches that calls find
@@ -47,12 +47,12 @@ abbrev pub Within : {I : Type 0} → (I → Type 0) → (I → Type 0) → Type 
 Within {I} outcomes others = (i : I) → outcomes i → others i
 
 -- each outcome of a stop has this journal
-abbrev pub HasJournal : List (List Wanted) → (Image → Type 0) → Type 0
+abbrev pub HasJournal : List (List Intended) → (Image → Type 0) → Type 0
 HasJournal batches outcomes = (i : Image) → outcomes i → i.journal ≡ batches
 
 -- each outcome of a stop has these units, but for those of lost drives
-abbrev pub HasUnits : List Bool → Cells → (Image → Type 0) → Type 0
-HasUnits lost cells outcomes = (i : Image) → outcomes i → SameOn lost i.cells cells
+abbrev pub HasUnitsAtStop : List Bool → Cells → (Image → Type 0) → Type 0
+HasUnitsAtStop lost cells outcomes = (i : Image) → outcomes i → SameOn lost i.cells cells
 
 -- Time goes on by a call: a stop since t might have left what it might have left before, or what it leaves during the call;
 -- what it leaves after the call it might leave during it.
@@ -76,8 +76,8 @@ pub record HasCause {T : Type 0} (may_name : ℕ → Type 0) (before now : ℕ) 
   pub drive : (d : ℕ) → IsErrOf result (Drive d) → (0 < now) × (d < 16) × may_name d
 
 -- a call was refused, and nothing failed
-abbrev pub IsRefused : {T : Type 0} → Result T VaultError → Type 0
-IsRefused result = IsErrOf result Memory ⊎ IsErrOf result Misfit
+abbrev pub IsRejected : {T : Type 0} → Result T VaultError → Type 0
+IsRejected result = IsErrOf result Memory ⊎ IsErrOf result Misfit
 
 -- another length than that of the unit at a place
 abbrev pub IsMisfit : Cells → Place → List ℕ → Type 0
@@ -97,12 +97,12 @@ IsUnitAt c place out true = held c place ≡ Some out
 IsUnitAt c place out false = (unit : List ℕ) → held c place ≡ Some unit → length unit ≢ length out
 
 -- a place that one of the writes is for
-abbrev pub IsWrittenTo : List Wanted → Place → Type 0
+abbrev pub IsWrittenTo : List Intended → Place → Type 0
 IsWrittenTo [] x = ⊥
 IsWrittenTo (w ∷ ws) x = (w.place ≡ x) ⊎ IsWrittenTo ws x
 
 -- Units that differ only at places of some writes, where any bytes may be. Of lost drives nothing is said.
-pub record DifferAt (lost : List Bool) (writes : List Wanted) (c d : Cells) : Type 0 where
+pub record DifferAt (lost : List Bool) (writes : List Intended) (c d : Cells) : Type 0 where
   pub there : (x : Place) → is_lost lost x.drive ≡ false → is_some (held d x) ≡ is_some (held c x)
   pub elsewhere : (x : Place) → is_lost lost x.drive ≡ false → (IsWrittenTo writes x → ⊥) → held d x ≡ held c x
 
@@ -124,15 +124,15 @@ abbrev pub AreLogged : {V : Type 0} → (V → Image) → (V → Stop → Image 
 AreLogged seen may_leave lost vault = (stop : Stop) → IsLogged seen may_leave lost stop vault (length (seen vault).journal)
 
 -- an image stands for the units of after the first of some batches, `low` of them at least, none left out and none in part
-pub record StandsForSome (lost : List Bool) (cells : Cells) (low : ℕ) (batches : List (List Wanted)) (i : Image) : Type 0 where
+pub record RepresentsSome (lost : List Bool) (cells : Cells) (low : ℕ) (batches : List (List Intended)) (i : Image) : Type 0 where
   pub count : ℕ
   pub least : low ≤ count
   pub most : count ≤ length batches
-  pub stands : Stands lost (after cells (flat (take count batches))) i
+  pub matches : Matches lost (after cells (flat (take count batches))) i
 
 -- an image stands for these units, or for those of after a batch
-abbrev pub IsBeforeOrAfter : List Bool → Cells → List Wanted → Image → Type 0
-IsBeforeOrAfter lost cells writes i = Stands lost cells i ⊎ Stands lost (after cells writes) i
+abbrev pub IsBeforeOrAfter : List Bool → Cells → List Intended → Image → Type 0
+IsBeforeOrAfter lost cells writes i = Matches lost cells i ⊎ Matches lost (after cells writes) i
 
 -- the image of a vault whose journal's writes are made in part: its units differ at their places only, and its journal is whole
 pub record IsTorn (lost : List Bool) (base i : Image) : Type 0 where
@@ -144,12 +144,12 @@ abbrev pub AreTorn : {V : Type 0} → (V → Image) → (V → Stop → Image �
 AreTorn seen may_leave lost vault = (stop : Stop) → Within (may_leave vault stop) (IsTorn lost (seen vault))
 
 -- a batch writes only places of the journal's writes
-abbrev pub IsAmong : List Wanted → Image → Type 0
-IsAmong batch i = (x : Place) → IsWrittenTo batch x → IsWrittenTo (flat i.journal) x
+abbrev pub IsWithinJournal : List Intended → Image → Type 0
+IsWithinJournal batch i = (x : Place) → IsWrittenTo batch x → IsWrittenTo (flat i.journal) x
 
 -- Writes of the journal were made in part: what calls find is torn. If no more is torn of what a stop leaves at old, neither is
 -- of what a stop at any moment since old leaves.
-pub record IsUnderway {V : Type 0} (seen : V → Image) (may_leave : V → Stop → Image → Type 0) (moment : V → ℕ) (left_since : V → Stop → ℕ → Image → Type 0)
+pub record IsPartApplied {V : Type 0} (seen : V → Image) (may_leave : V → Stop → Image → Type 0) (moment : V → ℕ) (left_since : V → Stop → ℕ → Image → Type 0)
     (lost : List Bool) (old new : V) : Type 0 where
   pub finds : IsTorn lost (seen old) (seen new)
   pub leaves : AreTorn seen may_leave lost old → (stop : Stop) → Within (may_leave new stop) (IsTorn lost (seen old))
@@ -162,7 +162,7 @@ pub record IsSettled {V : Type 0} (seen : V → Image) (may_leave : V → Stop �
   pub cells : SameOn lost (seen new).cells (recovered (seen old))
 
 -- the journal is as before and durable, and the vault stands for the same units
-pub record IsKept {V : Type 0} (seen : V → Image) (may_leave : V → Stop → Image → Type 0) (lost : List Bool) (old new : V) : Type 0 where
+pub record IsPreserved {V : Type 0} (seen : V → Image) (may_leave : V → Stop → Image → Type 0) (lost : List Bool) (old new : V) : Type 0 where
   pub journal : (seen new).journal ≡ (seen old).journal
   pub durable : AreLogged seen may_leave lost new
-  pub cells : Stands lost (recovered (seen old)) (seen new)
+  pub cells : Matches lost (recovered (seen old)) (seen new)

@@ -4,7 +4,7 @@ use mathlib.Core.Logic.{inl, inr}
 use Rattle.std.proofs.Common.{arith, subst, sym}
 use Rattle.std.proofs.lemmas.List.{take_all}
 use Rattle.std.proofs.lemmas.Option.{none-some}
-use Rattle.extent_groups.specs.Planned.{Wanted}
+use Rattle.extent_groups.specs.Planned.{Intended}
 use Rattle.vault.specs.declared.store.Stop.{Stop}
 use Rattle.vault.specs.declared.store.Stop.TheVariants.{Killed, PowerLost}
 use Rattle.vault.specs.declared.memory.Call.{Call}
@@ -61,8 +61,8 @@ abbrev pub leaves_at : Stop → List Call → Image → Type 0
 leaves_at stop calls i = leaves_from stop start left_first calls i
 
 -- the batch of this index in the journal, if there is one
-abbrev pub HasAt : ℕ → Image → List Wanted → Type 0
-HasAt index s batch = index < length s.journal → slice_get s.journal index ≡ Some batch
+abbrev pub HasBatchAt : ℕ → Image → List Intended → Type 0
+HasBatchAt index s batch = index < length s.journal → slice_get s.journal index ≡ Some batch
 
 -- what a stop leaves during a call that comes after others
 abbrev pub leaves_in : Stop → List Call → Call → Image → Type 0

@@ -33,10 +33,10 @@ pub struct Batch {
 
 impl Model for Batch {
     ghost use Rattle.std.specs.Prelude.{List};
-    ghost use Rattle.extent_groups.specs.Planned.{Wanted};
+    ghost use Rattle.extent_groups.specs.Planned.{Intended};
     ghost use Rattle.vault.specs.Entries.{writes_in, AreWithin};
 
-    ghost Value = { List Wanted };
+    ghost Value = { List Intended };
 
     ghost view = { λ b. writes_in b.units.items b.entries.items };
 

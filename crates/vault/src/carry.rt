@@ -1,11 +1,11 @@
 // The units of the journal's batches are written to their places: in a run from time to time, and at a restart first.
 ghost use Rattle.std.specs.Prelude.{◌≡◌, ◌≢◌, ◌<◌, ◌++◌, ◌∷◌, ℕ, List, false, slice_get, length, Some, OnOk, IfOk, IfErr, IsTrue};
 ghost use Rattle.extent_groups.specs.Cells.{Cells};
-ghost use Rattle.extent_groups.specs.Planned.{Wanted, after};
+ghost use Rattle.extent_groups.specs.Planned.{Intended, after};
 ghost use Rattle.extent_groups.specs.declared.place.Place.{Place};
-ghost use Rattle.vault.specs.Images.{Image, SameOn, Stands, recovered, flat, is_lost as is_lost_of};
+ghost use Rattle.vault.specs.Images.{Image, SameOn, Matches, recovered, flat, is_lost as is_lost_of};
 ghost use Rattle.vault.specs.Marks.{HasPlaces};
-ghost use Rattle.vault.specs.Moments.{LeavesOnly, AreLogged, IsSettled, IsKept, IsUnderway, IsAmong, IsWrittenTo, HasCause};
+ghost use Rattle.vault.specs.Moments.{LeavesOnly, AreLogged, IsSettled, IsPreserved, IsPartApplied, IsWithinJournal, IsWrittenTo, HasCause};
 ghost use Rattle.vault.specs.declared.store.Stop.{Stop};
 
 use crate::batch::Batch;
@@ -24,9 +24,9 @@ pub fn settle<V: Vault>(
 ) -> Result<(), VaultError>
     ensures stays { V.known vault.old → V.known vault.new }
     ensures settled { V.known vault.old → AreLogged V.seen V.may_leave lost.now vault.old → OnOk result (IsSettled V.seen V.may_leave lost.now vault.old vault.new) }
-    ensures kept { V.known vault.old → AreLogged V.seen V.may_leave lost.now vault.old → IfErr result (λ e. e ≢ VaultError.Journal → IsKept V.seen V.may_leave lost.now vault.old vault.new) }
+    ensures kept { V.known vault.old → AreLogged V.seen V.may_leave lost.now vault.old → IfErr result (λ e. e ≢ VaultError.Journal → IsPreserved V.seen V.may_leave lost.now vault.old vault.new) }
     ensures any_moment { V.known vault.old → AreLogged V.seen V.may_leave lost.now vault.old → (stop : Stop)
-        → LeavesOnly V.moment V.left_since stop vault.old vault.new (Stands lost.now (recovered (V.seen vault.old))) }
+        → LeavesOnly V.moment V.left_since stop vault.old vault.new (Matches lost.now (recovered (V.seen vault.old))) }
     ensures cause { V.known vault.old → HasCause (λ d. is_lost_of lost.now d ≡ false) (V.faults vault.old) (V.faults vault.new) result }
 {
     write_batches(vault, batch, lost)?;
@@ -42,7 +42,7 @@ fn write_batches<V: Vault>(
     lost: &[bool; DRIVES],
 ) -> Result<(), VaultError>
     ensures stays { V.known vault.old → V.known vault.new }
-    ensures underway { V.known vault.old → IsUnderway V.seen V.may_leave V.moment V.left_since lost.now vault.old vault.new }
+    ensures underway { V.known vault.old → IsPartApplied V.seen V.may_leave V.moment V.left_since lost.now vault.old vault.new }
     ensures written { V.known vault.old → OnOk result (SameOn lost.now (Image.cells (V.seen vault.new)) (recovered (V.seen vault.old))) }
     ensures cause { V.known vault.old → HasCause (λ d. is_lost_of lost.now d ≡ false) (V.faults vault.old) (V.faults vault.new) result }
 {
@@ -59,7 +59,7 @@ fn write_last<V: Vault>(
     lost: &[bool; DRIVES],
 ) -> Result<bool, VaultError>
     ensures stays { V.known vault.old → V.known vault.new }
-    ensures underway { V.known vault.old → IsUnderway V.seen V.may_leave V.moment V.left_since lost.now vault.old vault.new }
+    ensures underway { V.known vault.old → IsPartApplied V.seen V.may_leave V.moment V.left_since lost.now vault.old vault.new }
     ensures written { V.known vault.old → IfOk result (λ all. IsTrue all → SameOn lost.now (Image.cells (V.seen vault.new)) (recovered (V.seen vault.old))) }
     ensures cause { V.known vault.old → HasCause (λ d. is_lost_of lost.now d ≡ false) (V.faults vault.old) (V.faults vault.new) result }
 {
@@ -83,8 +83,8 @@ fn write_fresh<V: Vault>(
     made: &mut Places,
 ) -> Result<bool, VaultError>
     ensures stays { V.known vault.old → V.known vault.new }
-    ensures underway { V.known vault.old → IsAmong batch.now (V.seen vault.old) → IsUnderway V.seen V.may_leave V.moment V.left_since lost.now vault.old vault.new }
-    ensures written { V.known vault.old → (base : Cells) (later : List Wanted) → HasPlaces made.old.marks.items later
+    ensures underway { V.known vault.old → IsWithinJournal batch.now (V.seen vault.old) → IsPartApplied V.seen V.may_leave V.moment V.left_since lost.now vault.old vault.new }
+    ensures written { V.known vault.old → (base : Cells) (later : List Intended) → HasPlaces made.old.marks.items later
         → SameOn lost.now (Image.cells (V.seen vault.old)) (after base later)
         → IfOk result (λ all. IsTrue all → HasPlaces made.new.marks.items (batch.now ++ later) × SameOn lost.now (Image.cells (V.seen vault.new)) (after base (batch.now ++ later))) }
     ensures cause { V.known vault.old → HasCause (λ d. is_lost_of lost.now d ≡ false) (V.faults vault.old) (V.faults vault.new) result }
@@ -109,8 +109,8 @@ fn write_once<V: Vault>(
 ) -> Result<bool, VaultError>
     ensures stays { V.known vault.old → V.known vault.new }
     ensures underway { V.known vault.old → IsWrittenTo (flat (Image.journal (V.seen vault.old))) place
-        → IsUnderway V.seen V.may_leave V.moment V.left_since lost.now vault.old vault.new }
-    ensures written { V.known vault.old → (base : Cells) (later : List Wanted) → HasPlaces made.old.marks.items later
+        → IsPartApplied V.seen V.may_leave V.moment V.left_since lost.now vault.old vault.new }
+    ensures written { V.known vault.old → (base : Cells) (later : List Intended) → HasPlaces made.old.marks.items later
         → SameOn lost.now (Image.cells (V.seen vault.old)) (after base later)
         → IfOk result (λ all. IsTrue all → HasPlaces made.new.marks.items (record { place = place; unit = unit.now } ∷ later)
         × SameOn lost.now (Image.cells (V.seen vault.new)) (after base (record { place = place; unit = unit.now } ∷ later))) }
@@ -135,7 +135,7 @@ fn write_all<V: Vault>(
     lost: &[bool; DRIVES],
 ) -> Result<(), VaultError>
     ensures stays { V.known vault.old → V.known vault.new }
-    ensures underway { V.known vault.old → IsUnderway V.seen V.may_leave V.moment V.left_since lost.now vault.old vault.new }
+    ensures underway { V.known vault.old → IsPartApplied V.seen V.may_leave V.moment V.left_since lost.now vault.old vault.new }
     ensures written { V.known vault.old → OnOk result (SameOn lost.now (Image.cells (V.seen vault.new)) (recovered (V.seen vault.old))) }
     ensures cause { V.known vault.old → HasCause (λ d. is_lost_of lost.now d ≡ false) (V.faults vault.old) (V.faults vault.new) result }
 {
@@ -154,7 +154,7 @@ fn write_units<V: Vault>(
     lost: &[bool; DRIVES],
 ) -> Result<(), VaultError>
     ensures stays { V.known vault.old → V.known vault.new }
-    ensures underway { V.known vault.old → IsAmong batch.now (V.seen vault.old) → IsUnderway V.seen V.may_leave V.moment V.left_since lost.now vault.old vault.new }
+    ensures underway { V.known vault.old → IsWithinJournal batch.now (V.seen vault.old) → IsPartApplied V.seen V.may_leave V.moment V.left_since lost.now vault.old vault.new }
     ensures written { V.known vault.old → OnOk result (SameOn lost.now (Image.cells (V.seen vault.new)) (after (Image.cells (V.seen vault.old)) batch.now)) }
     ensures cause { V.known vault.old → HasCause (λ d. is_lost_of lost.now d ≡ false) (V.faults vault.old) (V.faults vault.new) result }
 {

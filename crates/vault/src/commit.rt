@@ -1,8 +1,8 @@
 // Batches that are acknowledged.
 ghost use Rattle.std.specs.Prelude.{◌≡◌, ◌++◌, [], ◌∷◌, ℕ, length, OnOk, IsErrOf};
 ghost use Rattle.extent_groups.specs.Planned.{after};
-ghost use Rattle.vault.specs.Images.{Image, SameUnits, Stands, recovered};
-ghost use Rattle.vault.specs.Moments.{LeavesOnly, IsLogged, AreLogged, StandsForSome, IsBeforeOrAfter, IsUnchanged, IsRefused, HasCause, no_drive};
+ghost use Rattle.vault.specs.Images.{Image, SameUnits, Matches, recovered};
+ghost use Rattle.vault.specs.Moments.{LeavesOnly, IsLogged, AreLogged, RepresentsSome, IsBeforeOrAfter, IsUnchanged, IsRejected, HasCause, no_drive};
 ghost use Rattle.vault.specs.declared.store.Stop.{Stop};
 ghost use Rattle.vault.specs.declared.store.Stop.TheVariants.{Killed};
 ghost use Rattle.std.specs.Prelude.{List, Bool};
@@ -22,11 +22,11 @@ pub fn add<V: Vault>(vault: &mut V, batch: &Batch) -> Result<(), VaultError>
         → OnOk result (IsLogged V.seen V.may_leave lost stop vault.new low) }
     ensures killed { V.known vault.old → (lost : List Bool) → IsLogged V.seen V.may_leave lost Killed vault.old (length (Image.journal (V.seen vault.old)))
         → OnOk result (IsLogged V.seen V.may_leave lost Killed vault.new (length (Image.journal (V.seen vault.new)))) }
-    ensures refused { V.known vault.old → IsRefused result → IsUnchanged V.seen V.may_leave vault.old vault.new }
+    ensures refused { V.known vault.old → IsRejected result → IsUnchanged V.seen V.may_leave vault.old vault.new }
 
     // A stop at any moment of the call.
     ensures any_moment { V.known vault.old → (lost : List Bool) (stop : Stop) (low : ℕ) → IsLogged V.seen V.may_leave lost stop vault.old low
-        → LeavesOnly V.moment V.left_since stop vault.old vault.new (StandsForSome lost (Image.cells (V.seen vault.old)) low (Image.journal (V.seen vault.old) ++ batch.now ∷ [])) }
+        → LeavesOnly V.moment V.left_since stop vault.old vault.new (RepresentsSome lost (Image.cells (V.seen vault.old)) low (Image.journal (V.seen vault.old) ++ batch.now ∷ [])) }
 
     ensures cause { V.known vault.old → HasCause no_drive (V.faults vault.old) (V.faults vault.new) result }
 {
@@ -42,7 +42,7 @@ pub fn flush<V: Vault>(vault: &mut V) -> Result<(), VaultError>
 
     // A stop at any moment of the call.
     ensures any_moment { V.known vault.old → (lost : List Bool) (stop : Stop) (low : ℕ) → IsLogged V.seen V.may_leave lost stop vault.old low
-        → LeavesOnly V.moment V.left_since stop vault.old vault.new (StandsForSome lost (Image.cells (V.seen vault.old)) low (Image.journal (V.seen vault.old))) }
+        → LeavesOnly V.moment V.left_since stop vault.old vault.new (RepresentsSome lost (Image.cells (V.seen vault.old)) low (Image.journal (V.seen vault.old))) }
 
     ensures cause { V.known vault.old → HasCause no_drive (V.faults vault.old) (V.faults vault.new) result }
 {
@@ -54,7 +54,7 @@ pub fn flush<V: Vault>(vault: &mut V) -> Result<(), VaultError>
 pub fn keep<V: Vault>(vault: &mut V, batch: &Batch) -> Result<(), VaultError>
     ensures stays { V.known vault.old → V.known vault.new }
     ensures logged { V.known vault.old → (lost : List Bool) → AreLogged V.seen V.may_leave lost vault.old → OnOk result (AreLogged V.seen V.may_leave lost vault.new) }
-    ensures acknowledged { V.known vault.old → (lost : List Bool) → OnOk result (Stands lost (after (recovered (V.seen vault.old)) batch.now) (V.seen vault.new)) }
+    ensures acknowledged { V.known vault.old → (lost : List Bool) → OnOk result (Matches lost (after (recovered (V.seen vault.old)) batch.now) (V.seen vault.new)) }
     ensures any_moment { V.known vault.old → (lost : List Bool) (stop : Stop) → AreLogged V.seen V.may_leave lost vault.old
         → LeavesOnly V.moment V.left_since stop vault.old vault.new (IsBeforeOrAfter lost (recovered (V.seen vault.old)) batch.now) }
     ensures cause { V.known vault.old → HasCause no_drive (V.faults vault.old) (V.faults vault.new) result }

@@ -2,7 +2,7 @@
 ghost use Rattle.std.specs.Prelude.{◌≡◌, ◌++◌, [], ◌∷◌, ◌<◌, ◌≤◌, ◌+◌, ◌^◌, ℕ, List, length, IfOk, OnOk, OnErr, IfErr, ⊤};
 ghost use Rattle.vault.specs.Images.{Image};
 ghost use Rattle.vault.specs.Moments.{IsUnitAt};
-ghost use Rattle.vault.specs.Replay.{seen_at, seen_after, HasAt, leaves_at, LeftSince, left_now, only_left};
+ghost use Rattle.vault.specs.Replay.{seen_at, seen_after, HasBatchAt, leaves_at, LeftSince, left_now, only_left};
 ghost use Rattle.vault.specs.declared.memory.Call.{Call};
 ghost use Rattle.vault.specs.declared.store.VaultError.TheVariants.{Memory};
 
@@ -90,7 +90,7 @@ fn count_after(count: usize, call: &Call) -> usize
 
 // The batch of this index in the journal after these calls; any where there is none.
 fn find_batch(calls: &[Call], index: usize, found: &mut Batch) -> Result<(), VaultError>
-    ensures found { OnOk result (HasAt index (seen_at calls.now) found.new) }
+    ensures found { OnOk result (HasBatchAt index (seen_at calls.now) found.new) }
     ensures why { IfErr result (λ e. e ≡ Memory) }
 {
     let mut count = 0;
@@ -103,7 +103,7 @@ fn find_batch(calls: &[Call], index: usize, found: &mut Batch) -> Result<(), Vau
 
 // The batch of this index after one call more, which comes after `count` batches.
 fn find_in(call: &Call, count: usize, index: usize, found: &mut Batch) -> Result<(), VaultError>
-    ensures found { OnOk result ((s : Image) → count ≡ length s.journal → HasAt index s found.old → HasAt index (seen_after call.now s) found.new) }
+    ensures found { OnOk result ((s : Image) → count ≡ length s.journal → HasBatchAt index s found.old → HasBatchAt index (seen_after call.now s) found.new) }
     ensures why { IfErr result (λ e. e ≡ Memory) }
 {
     if let Call::Append(batch) = call {

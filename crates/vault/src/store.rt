@@ -1,7 +1,7 @@
 // What outlives a stop: the units of all drives, and a journal of batches.
 ghost use Rattle.std.specs.Prelude.{◌≡◌, ◌≤◌, ◌<◌, ◌++◌, [], ◌∷◌, ℕ, Some, length, slice_get, false, IfOk, OnOk, IsErrOf};
 ghost use Rattle.vault.specs.Images.{Image, Alike, with_write, with_journal, is_lost};
-ghost use Rattle.vault.specs.Moments.{Elapses, HasCause, IsRefused, IsMisfit, IsUnchanged, HasJournal, HasUnits, Torn, torn_at, written_at, has_batch, with_or_without, more_batches, emptied, no_drive, Within, IsUnitAt};
+ghost use Rattle.vault.specs.Moments.{Elapses, HasCause, IsRejected, IsMisfit, IsUnchanged, HasJournal, HasUnitsAtStop, Torn, torn_at, written_at, has_batch, with_or_without, more_batches, emptied, no_drive, Within, IsUnitAt};
 ghost use Rattle.vault.specs.declared.store.Stop.{Stop};
 ghost use Rattle.vault.specs.declared.store.Stop.TheVariants.{Killed};
 ghost use Rattle.vault.specs.declared.store.VaultError.TheVariants.{Memory};
@@ -88,7 +88,7 @@ pub trait Vault {
     fn sync_units(&mut self, lost: &[bool; DRIVES]) -> Result<(), VaultError>
         ensures stays { known self.old → known self.new }
         ensures seen { known self.old → seen self.new ≡ seen self.old }
-        ensures durable { known self.old → OnOk result ((stop : Stop) → HasUnits lost.now (Image.cells (seen self.old)) (may_leave self.new stop)) }
+        ensures durable { known self.old → OnOk result ((stop : Stop) → HasUnitsAtStop lost.now (Image.cells (seen self.old)) (may_leave self.new stop)) }
         ensures time { known self.old → (stop : Stop) → Elapses (moment self.old) (moment self.new) (left_since self.old stop) (left_since self.new stop)
             (may_leave self.old stop) (may_leave self.new stop) }
         ensures cause { known self.old → HasCause (λ d. is_lost lost.now d ≡ false) (faults self.old) (faults self.new) result };
@@ -107,7 +107,7 @@ pub trait Vault {
         ensures stays { known self.old → known self.new }
         ensures appended { known self.old → OnOk result (Alike (seen self.new) (with_journal (seen self.old) (Image.journal (seen self.old) ++ batch.now ∷ []))) }
         ensures killed { known self.old → OnOk result (Within (may_leave self.new Killed) (has_batch (seen self.old) batch.now (may_leave self.old Killed))) }
-        ensures refused { known self.old → IsRefused result → IsUnchanged seen may_leave self.old self.new }
+        ensures refused { known self.old → IsRejected result → IsUnchanged seen may_leave self.old self.new }
         ensures time { known self.old → (stop : Stop) → Elapses (moment self.old) (moment self.new) (left_since self.old stop) (left_since self.new stop)
             (with_or_without (seen self.old) batch.now (may_leave self.old stop)) (may_leave self.new stop) }
         ensures cause { known self.old → HasCause no_drive (faults self.old) (faults self.new) result };
@@ -126,7 +126,7 @@ pub trait Vault {
         ensures stays { known self.old → known self.new }
         ensures cleared { known self.old → OnOk result (Alike (seen self.new) (with_journal (seen self.old) [])) }
         ensures durable { known self.old → OnOk result ((stop : Stop) → HasJournal [] (may_leave self.new stop)) }
-        ensures refused { known self.old → IsRefused result → IsUnchanged seen may_leave self.old self.new }
+        ensures refused { known self.old → IsRejected result → IsUnchanged seen may_leave self.old self.new }
         ensures time { known self.old → (stop : Stop) → Elapses (moment self.old) (moment self.new) (left_since self.old stop) (left_since self.new stop)
             (emptied (may_leave self.old stop)) (may_leave self.new stop) }
         ensures cause { known self.old → HasCause no_drive (faults self.old) (faults self.new) result };

@@ -1,4 +1,4 @@
-//! Calls of the library behind Rust's types. `crates/behkuna/include/behkuna.h` says what each does.
+//! Calls of the library behind Rust's types. `crates/raid_c/include/behkuna.h` says what each does.
 
 /// A record of a commit.
 #[repr(C)]

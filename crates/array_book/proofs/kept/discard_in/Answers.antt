@@ -10,8 +10,8 @@ invariant_of-kept g c =
     let a = c.kept.inside.array in
     let s = c.args.ticket in
     let w = ticket_of_some k.flat a s k.shows in
-    let told = c.discard-discarded.ensures.flat k.flat 0 k.shows (ticket_zero k.flat s w.0 c.kept.invariant.1.traced.idle w.1) in
-    let on = discard_goes _ _ c.discard-discarded.result a c.discard-discarded.new.self k.flat s k.shows c.kept.invariant.1.traced.idle c.discard-discarded.ensures.err told in
+    let reported = c.discard-discarded.ensures.flat k.flat 0 k.shows (ticket_zero k.flat s w.0 c.kept.invariant.1.traced.idle w.1) in
+    let on = discard_goes _ _ c.discard-discarded.result a c.discard-discarded.new.self k.flat s k.shows c.kept.invariant.1.traced.idle c.discard-discarded.ensures.err reported in
     let same = kept_with _ _ _ _ k (discard_still _ _ _ c.discard-discarded.result a c.discard-discarded.new.self s c.discard-discarded.ensures.claim c.discard-discarded.ensures.err) refl (on.flat, on.shows) in
     kept_as (IsLed c.note.new.self g.N.Sizes.hands) _ _ _ same on.flat on.shows (led_note _ _ _ _ _ _ _ _ c.kept.invariant.1 on c.note.ensures.log (search rules))
 

@@ -1,5 +1,5 @@
 use Rattle.std.proofs.Common.{subst}
-use Rattle.background.specs.Planning.{IsNextAppend}
+use Rattle.tiered_array.specs.Planning.{IsNextAppend}
 use Rattle.array_book.specs.Kept.{KeptView}
 use Rattle.array_book.proofs.plan.demotion.Goals as goal
 

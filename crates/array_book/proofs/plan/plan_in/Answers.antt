@@ -1,7 +1,7 @@
 use Rattle.std.proofs.Common.{◌≡◌, None, subst, rules}
 use Rattle.std.specs.Prelude.{MatchOption}
 use Rattle.array_book.specs.Kept.{KeptView}
-use Rattle.background.specs.Planning.{IsPlugOf, IsCleanOf}
+use Rattle.tiered_array.specs.Planning.{IsPlugOf, IsCleanOf}
 use Rattle.array_book.specs.Planned.{IsRegrouped, IsPlanned, NoDemotion}
 use Rattle.array_book.proofs.Answering.{state_of}
 use Rattle.array_book.proofs.Planning.{planned_else}
@@ -10,7 +10,7 @@ use Rattle.array_book.proofs.plan.plan_in.Goals as goal
 pub returns-in-Some-clause-seen : goal.returns-in-Some-clause-seen
 returns-in-Some-clause-seen g c =
     let planned : IsPlanned c.args.mirrors.now c.args.low c.args.kept.now c.demotion.result = search rules in
-    record { state = state_of _ _ c.args.kept.now c.stands.ensures.kept; planned = planned }
+    record { state = state_of _ _ c.args.kept.now c.matches.ensures.kept; planned = planned }
 
 pub returns-in-None-clause-planned : goal.returns-in-None-clause-planned
 returns-in-None-clause-planned g c =
@@ -23,4 +23,4 @@ returns-in-None-clause-planned g c =
 
 pub returns-in-None-clause-seen : goal.returns-in-None-clause-seen
 returns-in-None-clause-seen g c =
-    record { state = state_of _ _ c.args.kept.now c.stands.ensures.kept; planned = returns-in-None-clause-planned g c }
+    record { state = state_of _ _ c.args.kept.now c.matches.ensures.kept; planned = returns-in-None-clause-planned g c }

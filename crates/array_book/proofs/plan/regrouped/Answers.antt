@@ -1,5 +1,5 @@
 use Rattle.std.proofs.Common.{◌≡◌, inl, inr, Some, None, subst, arith, rules}
-use Rattle.background.specs.Planning.{IsPlugOf, IsCleanOf}
+use Rattle.tiered_array.specs.Planning.{IsPlugOf, IsCleanOf}
 use Rattle.array_book.specs.Kept.{KeptView}
 use Rattle.array_book.proofs.plan.regrouped.Goals as goal
 
@@ -7,8 +7,8 @@ pub returns-in-Some-clause-block : goal.returns-in-Some-clause-block
 returns-in-Some-clause-block g c =
     let inside = c.in-Some.ensures.block in
     let size = c.kept.invariant.0.blocks in
-    let told = c.moved.ensures.block in
-    omega (arith, inside, size, told)
+    let reported = c.moved.ensures.block in
+    omega (arith, inside, size, reported)
 
 pub returns-in-Some-clause-moves : goal.returns-in-Some-clause-moves
 returns-in-Some-clause-moves g c =
@@ -18,8 +18,8 @@ pub returns-in-Some-clean_unplugged-clause-block : goal.returns-in-Some-clean_un
 returns-in-Some-clean_unplugged-clause-block g c =
     let inside = c.in-Some-clean_unplugged.ensures.block in
     let size = c.kept.invariant.0.blocks in
-    let told = c.moved-in-Some-clean_unplugged.ensures.block in
-    omega (arith, inside, size, told)
+    let reported = c.moved-in-Some-clean_unplugged.ensures.block in
+    omega (arith, inside, size, reported)
 
 pub returns-in-Some-clean_unplugged-clause-moves : goal.returns-in-Some-clean_unplugged-clause-moves
 returns-in-Some-clean_unplugged-clause-moves g c =

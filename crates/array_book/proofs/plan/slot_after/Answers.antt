@@ -1,5 +1,5 @@
 use Rattle.std.proofs.Common.{◌≡◌, ℕ, ◌<◌, true, subst, rules}
-use Rattle.background.specs.Planning.{IsNextAppend}
+use Rattle.tiered_array.specs.Planning.{IsNextAppend}
 use Rattle.array_book.specs.Kept.{KeptView}
 use Rattle.array_book.specs.Planned.{turn_of}
 use Rattle.array_book.proofs.Answering.{state_of}
@@ -13,4 +13,4 @@ returns-clause-next g c =
     (λ yes. first, λ no. let yes : c.args.plan.now.demotes ≡ true = search rules in cc)
 
 pub returns-clause-seen : goal.returns-clause-seen
-returns-clause-seen g c = (state_of _ _ c.args.kept.now c.stands.ensures.kept, returns-clause-next g c)
+returns-clause-seen g c = (state_of _ _ c.args.kept.now c.matches.ensures.kept, returns-clause-next g c)

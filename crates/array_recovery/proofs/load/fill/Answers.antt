@@ -1,5 +1,5 @@
 use Rattle.std.proofs.Common.{◌≡◌, ◌<◌, ℕ, List, Some, length, slice_get, ◌+◌, sym, ◌∙◌, ap, subst, arith}
-use Rattle.extents.specs.Units.{IsSized}
+use Rattle.extents.specs.Units.{AreUnitsSized}
 use Rattle.vault.specs.Images.{Image}
 use Rattle.array_recovery.proofs.Loading.{filled_more, long_set, sized_set}
 use Rattle.array_recovery.proofs.Reading.{read_call, unit_found}
@@ -34,7 +34,7 @@ loop-address-preserved g c =
           (c.read_unit.ensures.seen now) (c.read_unit.ensures.time now);
       present = c.put.ensures.present inv.present;
       many = ap length written ∙ long_set units at unit ∙ inv.many;
-      size = subst (λ (u : List (List ℕ)). IsSized (length c.args.unit.now) u) (sym written) (sized_set (length c.args.unit.now) units at unit low inv.size long);
+      size = subst (λ (u : List (List ℕ)). AreUnitsSized (length c.args.unit.now) u) (sym written) (sized_set (length c.args.unit.now) units at unit low inv.size long);
       long = long;
       units = λ known.
           let cells = Image.cells (g.V.Vault.seen c.args.vault.now) in

@@ -1,5 +1,5 @@
 use Rattle.std.proofs.Common.{◌≡◌, ◌<◌, ℕ, length, slice_get}
-use Rattle.extents.specs.Units.{IsSized}
+use Rattle.extents.specs.Units.{AreUnitsSized}
 use Rattle.extents.specs.declared.mem_drive.Condition.TheVariants.{Present}
 use Rattle.vault.specs.Images.{Image}
 use Rattle.array_recovery.specs.Found.{OnlyRead}
@@ -12,7 +12,7 @@ invariant-loop-address g l = record {
   read : g.V.Vault.known l.fn.vault → OnlyRead g.V.Vault.seen g.V.Vault.may_leave g.V.Vault.moment g.V.Vault.left_since l.fn.vault l.vault;
   present : l.cache.condition ≡ Present;
   many : length l.cache.units ≡ length l.fn.cache.units;
-  size : IsSized (length l.fn.unit) l.cache.units;
+  size : AreUnitsSized (length l.fn.unit) l.cache.units;
   long : length l.unit ≡ length l.fn.unit;
   units : g.V.Vault.known l.fn.vault → (at : ℕ) → at < l.address → Image.cells (g.V.Vault.seen l.fn.vault) l.drive at ≡ slice_get l.cache.units at;
 }

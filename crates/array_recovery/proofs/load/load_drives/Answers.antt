@@ -23,7 +23,7 @@ loop-drive-preserved g c =
     let inv = c.loop-drive.invariant in
     let caches = c.loop-drive.caches.items in
     let cache : Held = c.in_ok-cache.cache in
-    let told = c.in_ok-cache.ensures in
+    let reported = c.in_ok-cache.ensures in
     let items = c.in_ok-push.ensures.items in
     let count = c.args.shape.now.extents * extent_units c.args.shape.now.segments in
     let size = HEADER_BYTES + c.args.shape.now.payload in
@@ -34,11 +34,11 @@ loop-drive-preserved g c =
           (c.load.ensures.read (inv.stays known));
       long = c.load.auto.unit ∙ inv.long;
       many = ap length items ∙ length-append caches (cache ∷ []) ∙ ap (λ n. n + 1) inv.many;
-      formed = subst (λ (l : List Held). AreFormed count size l) (sym items) (formed_more count size caches cache inv.formed told.present told.many told.size);
+      formed = subst (λ (l : List Held). AreFormed count size l) (sym items) (formed_more count size caches cache inv.formed reported.present reported.many reported.size);
       units = λ known.
           let cells = Image.cells (g.V.Vault.seen c.args.vault.now) in
           subst (λ (l : List Held). HaveUnits c.args.lost.now cells l) (sym items)
           (units_more c.args.lost.now cells caches cache (inv.units known)
           (λ not at low. ap (λ k. cells k at) inv.many ∙ ap (λ (s : Image). s.cells c.loop-drive.drive at) (sym (inv.read known).finds)
-          ∙ told.units (inv.stays known) (c.is_lost-is_lost.ensures ∙ ap (is_lost c.args.lost.now) (c.from.ensures ∙ sym inv.many) ∙ not) at low));
+          ∙ reported.units (inv.stays known) (c.is_lost-is_lost.ensures ∙ ap (is_lost c.args.lost.now) (c.from.ensures ∙ sym inv.many) ∙ not) at low));
     }

@@ -1,12 +1,16 @@
 use Rattle.std.proofs.Common.{◌*◌, ◌≡◌, ◌∙◌, [], ◌∷◌, sym, ap, subst}
 use Rattle.extents.specs.Sizes.{extent_units}
+use Rattle.slot_tables.specs.Views.{key_at}
+use Rattle.array_store.specs.Blocks.{Holds}
+use Rattle.array_store.specs.Stores.{StoreView}
+use Rattle.journaled_store.specs.Left.{HasKeys}
 use Rattle.journaled_store.specs.Outlasting.{Point, Works, point}
 use Rattle.array_recovery.proofs.Outlasting.{works}
 use Rattle.array_recovery.proofs.open.open_store.Goals as goal
 
 pub returns-in-Ok-clause-lasts : goal.returns-in-Ok-clause-lasts
 returns-in-Ok-clause-lasts g c = λ known bytes long is.
-    let told = c.in-Ok.ensures in
+    let reported = c.in-Ok.ensures in
     let s = c.new.result in
     let changes = c.in-Ok.changes in
     let now = c.recover.new.vault in
@@ -15,7 +19,27 @@ returns-in-Ok-clause-lasts g c = λ known bytes long is.
     ap (λ d. record { keeper = d.keeper; noted = d.noted; batch = d.batch; failed = s.failed; tiers = s.store.tiers; vault = s.vault }) c.new.ensures.parts.1
     ∙ ap (λ d. record { keeper = changes.keeper; noted = changes.noted; batch = changes.batch; failed = s.failed; tiers = d.tiers; vault = s.vault }) c.new.ensures.parts.0
     ∙ ap (λ d. record { keeper = changes.keeper; noted = changes.noted; batch = changes.batch; failed = s.failed; tiers = c.in-Ok.store.tiers; vault = d }) c.new.ensures.parts.2 in
-    c.new.ensures.lasts (told.stays known) (bytes ∷ []) (bytes ∷ [])
-    (subst (λ p. Works g.V.Vault.seen g.V.Vault.may_leave p (bytes ∷ []) (bytes ∷ [])) (sym same)
-    (works g.V.Vault.seen g.V.Vault.may_leave g.V.Vault.moment g.V.Vault.left_since bytes c.args.groups c.args.drives (c.args.shape.now.extents * extent_units c.args.shape.now.segments)
-    c.args.absent.now c.args.vault is made (told.read known) told.long (told.marks known) told.same (told.live known)))
+    c.new.ensures.lasts (reported.stays known) (bytes ∷ []) (bytes ∷ [])
+    (subst (λ p. Works Holds g.V.Vault.seen g.V.Vault.may_leave p (bytes ∷ []) (bytes ∷ [])) (sym same)
+    (works Holds g.V.Vault.seen g.V.Vault.may_leave g.V.Vault.moment g.V.Vault.left_since bytes c.args.groups c.args.drives (c.args.shape.now.extents * extent_units c.args.shape.now.segments)
+    c.args.absent.now c.args.vault is made (reported.read known) reported.long (reported.marks known) reported.same (reported.live known)))
+
+pub returns-in-Ok-clause-map_lasts : goal.returns-in-Ok-clause-map_lasts
+returns-in-Ok-clause-map_lasts g c = λ known keys is.
+    let reported = c.in-Ok.ensures in
+    let s = c.new.result in
+    let changes = c.in-Ok.changes in
+    let now = c.recover.new.vault in
+    let made : Point g.row.V.Denot = record { keeper = changes.keeper; noted = changes.noted; batch = changes.batch; failed = s.failed; tiers = c.in-Ok.store.tiers; vault = now } in
+    let same : point s ≡ made =
+    ap (λ d. record { keeper = d.keeper; noted = d.noted; batch = d.batch; failed = s.failed; tiers = s.store.tiers; vault = s.vault }) c.new.ensures.parts.1
+    ∙ ap (λ d. record { keeper = changes.keeper; noted = changes.noted; batch = changes.batch; failed = s.failed; tiers = d.tiers; vault = s.vault }) c.new.ensures.parts.0
+    ∙ ap (λ d. record { keeper = changes.keeper; noted = changes.noted; batch = changes.batch; failed = s.failed; tiers = c.in-Ok.store.tiers; vault = d }) c.new.ensures.parts.2 in
+    c.new.ensures.map (reported.stays known) (keys ∷ []) (keys ∷ [])
+    (subst (λ p. Works HasKeys g.V.Vault.seen g.V.Vault.may_leave p (keys ∷ []) (keys ∷ [])) (sym same)
+    (works HasKeys g.V.Vault.seen g.V.Vault.may_leave g.V.Vault.moment g.V.Vault.left_since keys c.args.groups c.args.drives (c.args.shape.now.extents * extent_units c.args.shape.now.segments)
+    c.args.absent.now c.args.vault is made (reported.read known) reported.long (reported.marks known) reported.same (reported.live known)))
+
+pub returns-in-Ok-clause-map : goal.returns-in-Ok-clause-map
+returns-in-Ok-clause-map g c = λ known keys left block.
+    ap (λ (s : StoreView). key_at s.tiers.world.array block) c.new.ensures.parts.0 ∙ c.in-Ok.ensures.map known keys left block

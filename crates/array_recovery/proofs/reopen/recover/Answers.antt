@@ -2,7 +2,8 @@ use Rattle.std.proofs.Common.{◌*◌, ◌∙◌, ℕ, List, length, sym, ap, su
 use Rattle.extents.specs.Sizes.{extent_units}
 use Rattle.std.proofs.lemmas.Result.{IfOk-weaker}
 use Rattle.vault.specs.Images.{recovered}
-use Rattle.journaled_store.specs.Left.{IsLeftOf}
+use Rattle.array_store.specs.Blocks.{Holds}
+use Rattle.journaled_store.specs.Left.{HasKeys, IsLeftOf}
 use Rattle.array_recovery.specs.Reopened.{CoversGone, EndsAt, IsOpenedWith}
 use Rattle.array_recovery.specs.Found.{IsTable}
 use Rattle.array_recovery.proofs.reopen.recover.Goals as goal
@@ -10,23 +11,30 @@ use Rattle.array_recovery.proofs.reopen.recover.Goals as goal
 pub returns-clause-reopened : goal.returns-clause-reopened
 returns-clause-reopened g c = λ known bytes long left.
     let cells = recovered (g.V.Vault.seen c.args.vault.now) in
-    let told = c.in_ok-found.ensures in
+    let reported = c.in_ok-found.ensures in
     IfOk-weaker c.open_found.result _ _
-    (λ r h. h cells c.args.absent.now bytes (told.found known) long (subst (λ n. IsLeftOf bytes c.args.groups n c.args.absent.now cells) (sym told.many) left)) c.open_found.ensures.reopened
+    (λ r h. h cells c.args.absent.now bytes (reported.found known) long (subst (λ n. IsLeftOf Holds bytes c.args.groups n c.args.absent.now cells) (sym reported.many) left)) c.open_found.ensures.reopened
+
+pub returns-clause-map : goal.returns-clause-map
+returns-clause-map g c = λ known keys left.
+    let cells = recovered (g.V.Vault.seen c.args.vault.now) in
+    let reported = c.in_ok-found.ensures in
+    IfOk-weaker c.open_found.result _ _
+    (λ r h. h cells c.args.absent.now keys (reported.found known) (subst (λ n. IsLeftOf HasKeys keys c.args.groups n c.args.absent.now cells) (sym reported.many) left)) c.open_found.ensures.map
 
 pub returns-clause-live : goal.returns-clause-live
 returns-clause-live g c = λ known lost.
     let cells = recovered (g.V.Vault.seen c.args.vault.now) in
-    let told = c.in_ok-found.ensures in
+    let reported = c.in_ok-found.ensures in
     IfOk-weaker c.open_found.result _ _
-    (λ r h covers ends. h cells c.args.absent.now lost _ _ (told.found known) told.formed (subst (λ n. CoversGone n r.1.noted c.args.absent.now lost) (sym told.many) covers)
-    (subst (λ n. EndsAt lost n (c.args.shape.now.extents * extent_units c.args.shape.now.segments) cells) (sym told.many) ends)) c.open_found.ensures.live
+    (λ r h covers ends. h cells c.args.absent.now lost _ _ (reported.found known) reported.formed (subst (λ n. CoversGone n r.1.noted c.args.absent.now lost) (sym reported.many) covers)
+    (subst (λ n. EndsAt lost n (c.args.shape.now.extents * extent_units c.args.shape.now.segments) cells) (sym reported.many) ends)) c.open_found.ensures.live
 
 pub returns-clause-same : goal.returns-clause-same
 returns-clause-same g c =
-    let told = c.in_ok-found.ensures in
+    let reported = c.in_ok-found.ensures in
     IfOk-weaker c.open_found.result _ _
-    (λ r h. subst (λ n. IsOpenedWith c.args.groups n r.1.noted c.args.absent.now r.0.tiers) told.many (h c.args.absent.now told.gone)) c.open_found.ensures.same
+    (λ r h. subst (λ n. IsOpenedWith c.args.groups n r.1.noted c.args.absent.now r.0.tiers) reported.many (h c.args.absent.now reported.gone)) c.open_found.ensures.same
 
 pub returns-clause-long : goal.returns-clause-long
 returns-clause-long g c = IfOk-weaker c.open_found.result _ _ (λ r h. ap length h ∙ c.in_ok-found.ensures.long) c.open_found.ensures.marks

@@ -2,7 +2,7 @@ use Rattle.std.proofs.Common.{take, sym, subst, arith}
 use Rattle.std.specs.Prelude.{slice_get, List}
 use Rattle.std.proofs.lemmas.List.{take_all}
 use Rattle.extent_groups.specs.Cells.{Cells}
-use Rattle.extent_groups.specs.Planned.{Wanted, after}
+use Rattle.extent_groups.specs.Planned.{Intended, after}
 use Rattle.array_recovery.specs.Found.{HaveUnits}
 use Rattle.array_recovery.proofs.Replaying.{write, write_is, after_more}
 use Rattle.array_recovery.proofs.replay.replay_batch.Goals as goal
@@ -20,6 +20,6 @@ loop-index-preserved c = record {
 
 pub returns-clause-units : goal.returns-clause-units
 returns-clause-units c = λ count size d formed have.
-    subst (λ (ws : List Wanted). HaveUnits c.args.lost.now (after d ws) c.loop-index.caches)
+    subst (λ (ws : List Intended). HaveUnits c.args.lost.now (after d ws) c.loop-index.caches)
     (take_all c.loop-index.index c.args.batch.now (omega (arith, c.loop-index-test.false, c.len-index-end.ensures)))
     (c.loop-index.invariant.units count size d formed have)

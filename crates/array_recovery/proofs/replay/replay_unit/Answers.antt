@@ -2,7 +2,7 @@ use Rattle.std.proofs.Common.{◌≡◌, ◌<◌, Some, length, sym, ◌∙◌, 
 use Rattle.std.specs.Prelude.{slice_get, slice_set}
 use Rattle.std.proofs.lemmas.Option.{slice_get_read}
 use Rattle.extents.specs.Condition.{Held}
-use Rattle.extents.specs.Units.{IsSized}
+use Rattle.extents.specs.Units.{AreUnitsSized}
 use Rattle.extents.specs.declared.mem_drive.Condition.TheVariants.{Present}
 use Rattle.array_recovery.proofs.Loading.{get_is, formed_set, units_set, unit_size}
 use Rattle.array_recovery.proofs.replay.replay_unit.Goals as goal
@@ -16,7 +16,7 @@ returns-clause-formed c = λ count size formed.
     let inside : c.args.place.address < length was.units = (let units = c.units.ensures ∙ ap (λ (h : Held). length h.units) (get_is caches number _ was at) in omega (arith, c.if-address-units.false, units)) in
     let long : length c.args.unit.now ≡ size =
     c.if-unit-unit_bytes.false ∙ unit_size size c.unit_bytes.result c.args.place.address was.units inside (formed.sized number was at)
-    (subst (λ (h : Held). IsSized c.unit_bytes.result h.units) (get_is caches number _ was at) c.unit_bytes.ensures) in
+    (subst (λ (h : Held). AreUnitsSized c.unit_bytes.result h.units) (get_is caches number _ was at) c.unit_bytes.ensures) in
     let third = get_is caches number c.index-caches-number-3.result was at in
     let present = subst (λ (h : Held). h.condition ≡ Present) (sym third) (formed.present number was at) in
     let written = c.put.ensures.written present ∙ ap (λ (h : Held). slice_set h.units c.args.place.address c.args.unit.now) third in
@@ -31,7 +31,7 @@ returns-clause-units c = λ count size d formed have.
     let inside : c.args.place.address < length was.units = (let units = c.units.ensures ∙ ap (λ (h : Held). length h.units) (get_is caches number _ was at) in omega (arith, c.if-address-units.false, units)) in
     let long : length c.args.unit.now ≡ size =
     c.if-unit-unit_bytes.false ∙ unit_size size c.unit_bytes.result c.args.place.address was.units inside (formed.sized number was at)
-    (subst (λ (h : Held). IsSized c.unit_bytes.result h.units) (get_is caches number _ was at) c.unit_bytes.ensures) in
+    (subst (λ (h : Held). AreUnitsSized c.unit_bytes.result h.units) (get_is caches number _ was at) c.unit_bytes.ensures) in
     let third = get_is caches number c.index-caches-number-3.result was at in
     let present = subst (λ (h : Held). h.condition ≡ Present) (sym third) (formed.present number was at) in
     let written = c.put.ensures.written present ∙ ap (λ (h : Held). slice_set h.units c.args.place.address c.args.unit.now) third in

@@ -37,8 +37,8 @@ loop-alloc-preserved g c =
     ∙ ap (λ (h : Course Units). record { hired = h.hired; log = h.log ++ entry c.in-Some-hire.hand.number m.units ∷ [] }) c.in-Some-hire.ensures.hired
     ∙ ap (λ d. record { hired = k.hired + 1; log = k.log ++ entry d m.units ∷ [] }) numbered in
     let len = c.loop-alloc.drives.ok.0 in
-    let told = c.len.ensures in
-    let here : c.len.result ≡ n = omega (arith, len, told) in
+    let reported = c.len.ensures in
+    let here : c.len.result ≡ n = omega (arith, len, reported) in
     let gone = c.seat-drive-in-loop-alloc.ensures.lost ∙ c.is_lost-is_lost.ensures ∙ ap (is_lost c.args.lost.now) here in
     let now_is : length c.push-in-loop-alloc.new.self.items ≡ suc n = omega (arith, longer, many) in
     record {

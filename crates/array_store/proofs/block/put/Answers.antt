@@ -1,6 +1,6 @@
 use Rattle.std.proofs.Common.{subst}
-use Rattle.background.specs.Placing.{content_of}
-use Rattle.background.specs.declared.outcome.Outcome.TheVariants as outcome
+use Rattle.tiered_array.specs.Placing.{content_of}
+use Rattle.tiered_array.specs.declared.outcome.Outcome.TheVariants as outcome
 use Rattle.array_store.proofs.Holding.{DoesWrite, kept_holds, kept_follows, placed_holds, wrote_follows, wrote_makes, stopped_makes}
 use Rattle.array_store.proofs.block.put.Goals as goal
 

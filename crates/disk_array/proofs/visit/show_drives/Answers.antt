@@ -1,6 +1,6 @@
 use Rattle.std.proofs.Common.{◌<◌, length}
 use Rattle.std.proofs.lemmas.Option.{slice_get-get_or}
-use Rattle.array_parts.specs.Views.{drive_view}
+use Rattle.unit_store.specs.Views.{drive_view}
 use Rattle.disk_array.proofs.Visits.{same_views, shown_more}
 use Rattle.disk_array.proofs.visit.show_drives.Goals as goal
 

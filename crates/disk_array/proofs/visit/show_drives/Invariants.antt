@@ -1,5 +1,5 @@
 use Rattle.std.specs.Prelude.{◌≡◌, ◌++◌, map, take}
-use Rattle.array_parts.specs.Views.{drive_view}
+use Rattle.unit_store.specs.Views.{drive_view}
 use Rattle.disk_array.proofs.visit.show_drives.Given as goal
 
 abbrev pub invariant-loop-number : goal.invariant-loop-number

@@ -1,7 +1,7 @@
 use Rattle.std.proofs.Common.{ap, ◌∙◌, sym}
 use Rattle.std.specs.Prelude.{not}
 use Rattle.std.proofs.lemmas.Option.{slice_get-get_or}
-use Rattle.extent_groups.proofs.DriveCalls.{told_ok, is_err-not, did_read, keeps_one, kept_read}
+use Rattle.extent_groups.proofs.DriveCalls.{reported_ok, is_err-not, did_read, keeps_one, kept_read}
 use Rattle.extent_groups.proofs.Places.{get-set_other}
 use Rattle.extent_groups.proofs.place.read_place.Goals as goal
 
@@ -11,7 +11,7 @@ returns-clause-read g c =
     did_read g.D.Drive.units g.D.Drive.lost g.D.Drive.failures c.args.drives.now c.args.place _ _ c.read_unit.new.unit c.is_ok.result c.requires.inside there
     (record { lost_is = c.read_unit.ensures.lost ∙ is_err-not c.read_unit.result ∙ ap not (sym c.is_ok.ensures.value); stays = c.read_unit.ensures.stays; count = c.read_unit.ensures.count; steady = c.read_unit.ensures.steady })
     c.read_unit.ensures.units
-    (λ e. told_ok c.read_unit.result c.read_unit.ensures.read (sym c.is_ok.ensures.value ∙ e))
+    (λ e. reported_ok c.read_unit.result c.read_unit.ensures.read (sym c.is_ok.ensures.value ∙ e))
 
 pub returns-clause-drives : goal.returns-clause-drives
 returns-clause-drives g c =

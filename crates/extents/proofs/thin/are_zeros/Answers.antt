@@ -8,6 +8,6 @@ pub returns-then-bytes-eq0 : goal.returns-then-bytes-eq0
 returns-then-bytes-eq0 c = λ same.
     let bytes = c.args.bytes.now in
     let before = take (length bytes - 1) bytes in
-    let behind = take (length bytes - 1) (drop 1 bytes) in
-    let decided = slice_eq-Decides Decides-eqb before behind c.eq.result c.eq.ensures in
+    let following = take (length bytes - 1) (drop 1 bytes) in
+    let decided = slice_eq-Decides Decides-eqb before following c.eq.result c.eq.ensures in
     zeros_by_shift bytes c.if-bytes-eq0.true (decided.0 same)

@@ -1,5 +1,5 @@
-use Rattle.extents.proofs.UnitsIn.{written_behind}
+use Rattle.extents.proofs.UnitsIn.{written_following}
 use Rattle.extents.proofs.thin.store.Goals as goal
 
 pub returns : goal.returns
-returns c = rw (c.put-2.ensures, c.put.ensures) (written_behind c.args.start c.args.bytes.now c.args.front.now c.args.rest.now c.requires)
+returns c = rw (c.put-2.ensures, c.put.ensures) (written_following c.args.start c.args.bytes.now c.args.front.now c.args.rest.now c.requires)

@@ -1,5 +1,5 @@
 use Rattle.std.proofs.Common.{arith}
-use Rattle.file_vault.proofs.Shown.{shown_elapses, alone_within, ahead_of, left_behind}
+use Rattle.file_vault.proofs.Shown.{shown_elapses, alone_within, ahead_of, left_following}
 use Rattle.file_vault.proofs.held.go_alone.Goals as goal
 
 pub returns-in-Ok-clause-held : goal.returns-in-Ok-clause-held
@@ -9,7 +9,7 @@ returns-in-Ok-clause-held g c = λ known may stop h now.
 
 pub returns-in-Ok-clause-left : goal.returns-in-Ok-clause-left
 returns-in-Ok-clause-left g c = λ known stop h now.
-    left_behind c.args.twin c.number.result c.in-Some.next (g.F.Files.may_leave c.args.files.now stop) (g.F.Files.may_leave c.put_count.new.files stop) c.number.ensures ((c.put_count.ensures.time known stop).ends) h now
+    left_following c.args.twin c.number.result c.in-Some.next (g.F.Files.may_leave c.args.files.now stop) (g.F.Files.may_leave c.put_count.new.files stop) c.number.ensures ((c.put_count.ensures.time known stop).ends) h now
 
 pub returns-in-Ok-clause-time : goal.returns-in-Ok-clause-time
 returns-in-Ok-clause-time g c = λ known may stop.
@@ -18,7 +18,7 @@ returns-in-Ok-clause-time g c = λ known may stop.
 
 pub returns-in-Err-clause-left : goal.returns-in-Err-clause-left
 returns-in-Err-clause-left g c = λ known stop h now.
-    left_behind c.args.twin c.number.result c.in-Some.next (g.F.Files.may_leave c.args.files.now stop) (g.F.Files.may_leave c.put_count.new.files stop) c.number.ensures ((c.put_count.ensures.time known stop).ends) h now
+    left_following c.args.twin c.number.result c.in-Some.next (g.F.Files.may_leave c.args.files.now stop) (g.F.Files.may_leave c.put_count.new.files stop) c.number.ensures ((c.put_count.ensures.time known stop).ends) h now
 
 pub returns-in-Err-clause-time : goal.returns-in-Err-clause-time
 returns-in-Err-clause-time g c = λ known may stop.

@@ -5,7 +5,7 @@ use Rattle.file_vault.specs.Folders.{Folder}
 use Rattle.file_vault.specs.Twins.{AreAlike, SameBoth, lead_of, shown}
 use Rattle.file_vault.proofs.Puts.{both_elapse}
 use Rattle.file_vault.proofs.Shown.{seen_both, shown_elapses}
-use Rattle.file_vault.proofs.PairCalls.{ok_then, reads_behind, read_second}
+use Rattle.file_vault.proofs.PairCalls.{ok_then, reads_following, read_second}
 use Rattle.file_vault.proofs.held.read_both.Goals as goal
 
 pub returns-then-is_ok-clause-held : goal.returns-then-is_ok-clause-held
@@ -28,13 +28,13 @@ pub returns-clause-seen : goal.returns-clause-seen
 returns-clause-seen g c = λ known alike.
     let k1 = c.read_at.ensures.stays known in
     let same = c.read_at-2.ensures.seen k1 ∙ c.read_at.ensures.seen known in
-    seen_both (g.F.Files.seen c.args.files.now) (g.F.Files.seen c.keep.new.files) (subst (λ (f : Folder). SameBoth f (g.F.Files.seen c.keep.new.files)) same (c.keep.ensures.behind (c.read_at-2.ensures.stays k1))) alike (lead_of c.keep.result) First
+    seen_both (g.F.Files.seen c.args.files.now) (g.F.Files.seen c.keep.new.files) (subst (λ (f : Folder). SameBoth f (g.F.Files.seen c.keep.new.files)) same (c.keep.ensures.following (c.read_at-2.ensures.stays k1))) alike (lead_of c.keep.result) First
 
 pub returns-clause-bytes : goal.returns-clause-bytes
 returns-clause-bytes g c = λ known alike kept.
     let k1 = c.read_at.ensures.stays known in
     let done = read_second c.is_ok-second.result c.keep.result c.keep.ensures.succeeded kept in
-    reads_behind (g.F.Files.seen c.read_at.new.self 18) (g.F.Files.seen c.args.files.now 17) c.args.at c.read_at-2.new.out c.requires
+    reads_following (g.F.Files.seen c.read_at.new.self 18) (g.F.Files.seen c.args.files.now 17) c.args.at c.read_at-2.new.out c.requires
     (λ k past. ap (λ (f : Folder). f 18 k) (c.read_at.ensures.seen known) ∙ sym (alike k past))
     (ok_then c.read_at-2.result _ (c.read_at-2.ensures.bytes k1) (sym c.is_ok-second.ensures.value ∙ done))
 

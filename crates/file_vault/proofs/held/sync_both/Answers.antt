@@ -19,7 +19,7 @@ pub returns-clause-seen : goal.returns-clause-seen
 returns-clause-seen g c = λ known alike.
     let k1 = c.sync.ensures.stays known in
     let same = c.sync-2.ensures.seen k1 ∙ c.sync.ensures.seen known in
-    seen_both (g.F.Files.seen c.args.files.now) (g.F.Files.seen c.keep.new.files) (subst (λ (f : Folder). SameBoth f (g.F.Files.seen c.keep.new.files)) same (c.keep.ensures.behind (c.sync-2.ensures.stays k1))) alike (lead_of c.keep.result) First
+    seen_both (g.F.Files.seen c.args.files.now) (g.F.Files.seen c.keep.new.files) (subst (λ (f : Folder). SameBoth f (g.F.Files.seen c.keep.new.files)) same (c.keep.ensures.following (c.sync-2.ensures.stays k1))) alike (lead_of c.keep.result) First
 
 pub returns-clause-durable : goal.returns-clause-durable
 returns-clause-durable g c = λ known alike held kept stop h now.

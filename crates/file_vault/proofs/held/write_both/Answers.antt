@@ -5,7 +5,7 @@ use Rattle.file_vault.specs.declared.twin.Twin.{Twin}
 use Rattle.file_vault.specs.Folders.{mixed_at}
 use Rattle.file_vault.specs.Twins.{lead_of, shown, file_of}
 use Rattle.file_vault.proofs.Puts.{both_elapse}
-use Rattle.file_vault.proofs.Shown.{shown_elapses, WroteBehind, MixedBehind}
+use Rattle.file_vault.proofs.Shown.{shown_elapses, WroteFollowing, MixedFollowing}
 use Rattle.file_vault.proofs.PairCalls.{ok_then, first_done, second_done, lead_done, lead_either, alike_both, mixed_count, first_mixed, second_mixed, first_wrote, second_wrote, others_same, seen_wrote, seen_mixed, wrote_from, mixed_from, pair_shown, pair_elapses, killed_both, killed_shown, even_counts}
 use Rattle.file_vault.proofs.held.write_both.Goals as goal
 
@@ -36,9 +36,9 @@ returns-clause-wrote g c = λ known alike kept.
     let s3 = g.F.Files.seen c.keep.new.files in
     let m1 = c.write_at.ensures.mixed known in
     let m2 = c.write_at-2.ensures.mixed k1 in
-    let same = c.keep.ensures.behind (c.write_at-2.ensures.stays k1) in
+    let same = c.keep.ensures.following (c.write_at-2.ensures.stays k1) in
     seen_wrote c.args.at c.args.bytes.now (lead_of c.keep.result) s0 s3 c.requires (others_same c.args.at c.args.bytes.now c.requires s0 s1 s2 s3 m1 m2 same)
-    (lead_done c.is_ok-first.result c.is_ok-second.result c.keep.result (λ (twin : Twin). WroteBehind c.args.at c.args.bytes.now (s0 17) (s3 (file_of twin))) c.keep.ensures.succeeded kept
+    (lead_done c.is_ok-first.result c.is_ok-second.result c.keep.result (λ (twin : Twin). WroteFollowing c.args.at c.args.bytes.now (s0 17) (s3 (file_of twin))) c.keep.ensures.succeeded kept
     (λ done. first_wrote c.args.at c.args.bytes.now c.requires s0 s1 s2 s3 m1 m2 same (ok_then c.write_at.result _ (c.write_at.ensures.wrote known) (sym c.is_ok-first.ensures.value ∙ done)))
     (λ done. wrote_from c.args.at c.args.bytes.now (s0 17) (s0 18) (s3 18) alike
     (second_wrote c.args.at c.args.bytes.now c.requires s0 s1 s2 s3 m1 m2 same (ok_then c.write_at-2.result _ (c.write_at-2.ensures.wrote k1) (sym c.is_ok-second.ensures.value ∙ done)))))
@@ -52,9 +52,9 @@ returns-clause-mixed g c = λ known alike.
     let s3 = g.F.Files.seen c.keep.new.files in
     let m1 = c.write_at.ensures.mixed known in
     let m2 = c.write_at-2.ensures.mixed k1 in
-    let same = c.keep.ensures.behind (c.write_at-2.ensures.stays k1) in
+    let same = c.keep.ensures.following (c.write_at-2.ensures.stays k1) in
     seen_mixed c.args.at c.args.bytes.now (lead_of c.keep.result) s0 s3 c.requires (others_same c.args.at c.args.bytes.now c.requires s0 s1 s2 s3 m1 m2 same)
-    (lead_either c.keep.result (λ (twin : Twin). MixedBehind c.args.at c.args.bytes.now (s0 17) (s3 (file_of twin)))
+    (lead_either c.keep.result (λ (twin : Twin). MixedFollowing c.args.at c.args.bytes.now (s0 17) (s3 (file_of twin)))
     (first_mixed c.args.at c.args.bytes.now c.requires s0 s1 s2 s3 m1 m2 same)
     (mixed_from c.args.at c.args.bytes.now (s0 17) (s0 18) (s3 18) c.requires alike (second_mixed c.args.at c.args.bytes.now c.requires s0 s1 s2 s3 m1 m2 same)))
 

@@ -2,7 +2,7 @@ use Rattle.std.proofs.Common.{◌+◌, ◌≡◌, ◌≤◌, sym, ◌∙◌, ap,
 use Rattle.vault.specs.declared.store.Stop.{Stop}
 use Rattle.file_vault.specs.Folders.{Folder, HasFile}
 use Rattle.file_vault.specs.declared.twin.Twin.TheVariants.{First, Second}
-use Rattle.file_vault.specs.Twins.{IsRaised, count_in, shown, Shows, seen_as, lead_of}
+use Rattle.file_vault.specs.Twins.{IsRaised, count_in, shown, MergesTwins, seen_as, lead_of}
 use Rattle.file_vault.proofs.Puts.{both_elapse}
 use Rattle.file_vault.proofs.Shown.{shown_elapses}
 use Rattle.file_vault.proofs.Copied.{some_at, alone_found, alone_may, both_are, only_both, newer_second, newer_first, alone_raised}
@@ -36,7 +36,7 @@ returns-then-first-second-clause-seen g c = λ known kept.
     let two = some_at c.admit-second.result c.in-Some-Some.second (λ n. n ≡ count_in (g.F.Files.seen c.admit-first.new.files 18)) (c.admit-second.ensures.count k1) c.in-Some-Some.is-1 in
     let two2 : c.in-Some-Some.second ≡ count_in (g.F.Files.seen c.admit-second.new.files 18) = two ∙ sym (ap (λ (f : Folder). count_in (f 18)) same2) in
     let low : c.in-Some-Some.first ≤ c.in-Some-Some.second = omega (arith, c.if-first-second.true) in
-    subst (λ (f : Folder). Shows f (seen_as (lead_of c.pair.result) (g.F.Files.seen c.pair.new.files))) (same2 ∙ same1) (c.pair.ensures.seen k2 two2 one2 low kept)
+    subst (λ (f : Folder). MergesTwins f (seen_as (lead_of c.pair.result) (g.F.Files.seen c.pair.new.files))) (same2 ∙ same1) (c.pair.ensures.seen k2 two2 one2 low kept)
 
 pub returns-then-first-second-clause-time : goal.returns-then-first-second-clause-time
 returns-then-first-second-clause-time g c = λ known older stop.
@@ -85,7 +85,7 @@ returns-else-first-second-clause-seen g c = λ known kept.
     let two = some_at c.admit-second.result c.in-Some-Some.second (λ n. n ≡ count_in (g.F.Files.seen c.admit-first.new.files 18)) (c.admit-second.ensures.count k1) c.in-Some-Some.is-1 in
     let two2 : c.in-Some-Some.second ≡ count_in (g.F.Files.seen c.admit-second.new.files 18) = two ∙ sym (ap (λ (f : Folder). count_in (f 18)) same2) in
     let low : c.in-Some-Some.second ≤ c.in-Some-Some.first = omega (arith, c.if-first-second.false) in
-    subst (λ (f : Folder). Shows f (seen_as (lead_of c.pair-else-first-second.result) (g.F.Files.seen c.pair-else-first-second.new.files))) (same2 ∙ same1) (c.pair-else-first-second.ensures.seen k2 one2 two2 low kept)
+    subst (λ (f : Folder). MergesTwins f (seen_as (lead_of c.pair-else-first-second.result) (g.F.Files.seen c.pair-else-first-second.new.files))) (same2 ∙ same1) (c.pair-else-first-second.ensures.seen k2 one2 two2 low kept)
 
 pub returns-else-first-second-clause-time : goal.returns-else-first-second-clause-time
 returns-else-first-second-clause-time g c = λ known older stop.
@@ -123,7 +123,7 @@ returns-in-Some-None-clause-seen g c = λ known kept.
     let k2 = c.admit-second.ensures.stays k1 in
     let same1 = c.admit-first.ensures.seen known in
     let same2 = c.admit-second.ensures.seen k1 in
-    alone_found First (g.F.Files.seen c.args.files.now) (g.F.Files.seen c.admit-second.new.files) (g.F.Files.seen c.go_alone.new.files) c.go_alone.result (same2 ∙ same1) c.go_alone.ensures.only kept (c.go_alone.ensures.behind k2)
+    alone_found First (g.F.Files.seen c.args.files.now) (g.F.Files.seen c.admit-second.new.files) (g.F.Files.seen c.go_alone.new.files) c.go_alone.result (same2 ∙ same1) c.go_alone.ensures.only kept (c.go_alone.ensures.following k2)
 
 pub returns-in-Some-None-clause-time : goal.returns-in-Some-None-clause-time
 returns-in-Some-None-clause-time g c = λ known older stop.
@@ -155,7 +155,7 @@ returns-in-None-Some-clause-seen g c = λ known kept.
     let k2 = c.admit-second.ensures.stays k1 in
     let same1 = c.admit-first.ensures.seen known in
     let same2 = c.admit-second.ensures.seen k1 in
-    alone_found Second (g.F.Files.seen c.args.files.now) (g.F.Files.seen c.admit-second.new.files) (g.F.Files.seen c.go_alone-in-None-Some.new.files) c.go_alone-in-None-Some.result (same2 ∙ same1) c.go_alone-in-None-Some.ensures.only kept (c.go_alone-in-None-Some.ensures.behind k2)
+    alone_found Second (g.F.Files.seen c.args.files.now) (g.F.Files.seen c.admit-second.new.files) (g.F.Files.seen c.go_alone-in-None-Some.new.files) c.go_alone-in-None-Some.result (same2 ∙ same1) c.go_alone-in-None-Some.ensures.only kept (c.go_alone-in-None-Some.ensures.following k2)
 
 pub returns-in-None-Some-clause-time : goal.returns-in-None-Some-clause-time
 returns-in-None-Some-clause-time g c = λ known older stop.

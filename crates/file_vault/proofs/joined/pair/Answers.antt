@@ -57,7 +57,7 @@ returns-in-Err-Mate-clause-seen g c = λ known is small low kept.
     let is1 : c.args.count ≡ count_in (g.F.Files.seen c.copy_over.new.files (file_of c.args.lead)) = is ∙ sym ((copied_count c.args.lead (g.F.Files.seen c.args.files.now) (g.F.Files.seen c.args.files.now) (g.F.Files.seen c.copy_over.new.files) copied).0) in
     let mate1 = (copied_count c.args.lead (g.F.Files.seen c.args.files.now) (g.F.Files.seen c.args.files.now) (g.F.Files.seen c.copy_over.new.files) copied).1 in
     let low1 : count_in (g.F.Files.seen c.copy_over.new.files (file_of (other c.args.lead))) ≤ c.args.count = omega (arith, mate1, small, low) in
-    alone_shows c.args.lead c.args.lead (g.F.Files.seen c.args.files.now) (g.F.Files.seen c.copy_over.new.files) (g.F.Files.seen c.go_alone.new.files) c.go_alone.result copied (omega (arith, is, small, low)) (omega (arith, is1, low1)) c.go_alone.ensures.only kept (c.go_alone.ensures.behind k1)
+    alone_shows c.args.lead c.args.lead (g.F.Files.seen c.args.files.now) (g.F.Files.seen c.copy_over.new.files) (g.F.Files.seen c.go_alone.new.files) c.go_alone.result copied (omega (arith, is, small, low)) (omega (arith, is1, low1)) c.go_alone.ensures.only kept (c.go_alone.ensures.following k1)
 
 pub returns-in-Err-Mate-clause-time : goal.returns-in-Err-Mate-clause-time
 returns-in-Err-Mate-clause-time g c = λ known settled is small low stop.
@@ -86,7 +86,7 @@ returns-then-count-saturating_add-clause-seen g c = λ known is small low kept.
     let near : c.args.count ≤ suc c.args.least = omega (arith, c.if-count-saturating_add.true, c.saturating_add.ensures) in
     let same = copied_count c.args.lead (g.F.Files.seen c.args.files.now) (g.F.Files.seen c.args.files.now) (g.F.Files.seen c.copy_over.new.files) copied in
     let leads = mate_leads c.args.lead (g.F.Files.seen c.copy_over.new.files) c.args.count c.args.least (same.0 ∙ sym is, same.1 ∙ sym small) near in
-    alone_shows c.args.lead c.other.result (g.F.Files.seen c.args.files.now) (g.F.Files.seen c.copy_over.new.files) (g.F.Files.seen c.go_alone-then-count-saturating_add.new.files) c.go_alone-then-count-saturating_add.result copied (omega (arith, is, small, low)) (subst (λ (t : Twin). Counts (g.F.Files.seen c.copy_over.new.files) t) (sym c.other.ensures) leads.0) c.go_alone-then-count-saturating_add.ensures.only kept (c.go_alone-then-count-saturating_add.ensures.behind k1)
+    alone_shows c.args.lead c.other.result (g.F.Files.seen c.args.files.now) (g.F.Files.seen c.copy_over.new.files) (g.F.Files.seen c.go_alone-then-count-saturating_add.new.files) c.go_alone-then-count-saturating_add.result copied (omega (arith, is, small, low)) (subst (λ (t : Twin). Counts (g.F.Files.seen c.copy_over.new.files) t) (sym c.other.ensures) leads.0) c.go_alone-then-count-saturating_add.ensures.only kept (c.go_alone-then-count-saturating_add.ensures.following k1)
 
 pub returns-then-count-saturating_add-clause-time : goal.returns-then-count-saturating_add-clause-time
 returns-then-count-saturating_add-clause-time g c = λ known settled is small low stop.

@@ -125,9 +125,9 @@ returns-clause-held g c = λ known settled alike is low.
     (not_err c.put_count-2.result _ (c.put_count-2.ensures.count k1) (sym c.is_err-2.ensures.value ∙ c.if-is_err-2.false)) (c2 at) f now in
     let c3 = λ (at : Stop) (f : Folder) (now : g.F.Files.may_leave c.put_count-3.new.files at f). mate_stage c.args.lead (g.F.Files.seen c.args.files.now 17) c.in-Some.next c.in-Some.next c.args.count c.args.count c.in-Some.next c.number-3.result (g.F.Files.may_leave c.put_count-2.new.files at) (g.F.Files.may_leave c.put_count-3.new.files at) n3 (omega (arith, up)) (omega (arith, up)) (d2 at) ((c.put_count-3.ensures.time k2 at).ends) f now in
     let k3 = c.put_count-3.ensures.stays k2 in
-    let s1 = both_by (other c.args.lead) c.number.result (g.F.Files.seen c.args.files.now) (g.F.Files.seen c.put_count.new.files) n1 (c.put_count.ensures.behind known) in
-    let s2 = both_by c.args.lead c.number-2.result (g.F.Files.seen c.put_count.new.files) (g.F.Files.seen c.put_count-2.new.files) c.number-2.ensures (c.put_count-2.ensures.behind k1) in
-    let s3 = both_by (other c.args.lead) c.number-3.result (g.F.Files.seen c.put_count-2.new.files) (g.F.Files.seen c.put_count-3.new.files) n3 (c.put_count-3.ensures.behind k2) in
+    let s1 = both_by (other c.args.lead) c.number.result (g.F.Files.seen c.args.files.now) (g.F.Files.seen c.put_count.new.files) n1 (c.put_count.ensures.following known) in
+    let s2 = both_by c.args.lead c.number-2.result (g.F.Files.seen c.put_count.new.files) (g.F.Files.seen c.put_count-2.new.files) c.number-2.ensures (c.put_count-2.ensures.following k1) in
+    let s3 = both_by (other c.args.lead) c.number-3.result (g.F.Files.seen c.put_count-2.new.files) (g.F.Files.seen c.put_count-3.new.files) n3 (c.put_count-3.ensures.following k2) in
     let d3 = λ (at : Stop) (f : Folder) (now : g.F.Files.may_leave c.put_count-3.new.files at f). mate_made c.args.lead (g.F.Files.seen c.args.files.now 17) c.in-Some.next c.in-Some.next c.args.count c.in-Some.next c.number-3.result (g.F.Files.seen c.put_count-3.new.files) (g.F.Files.may_leave c.put_count-3.new.files at) n3
     (not_err c.put_count-3.result _ (c.put_count-3.ensures.durable k2) (sym c.is_err-3.ensures.value ∙ c.if-is_err-3.false) at)
     (not_err c.put_count-3.result _ (c.put_count-3.ensures.count k2) (sym c.is_err-3.ensures.value ∙ c.if-is_err-3.false)) (c3 at) f now in (

@@ -1,7 +1,7 @@
 use Rattle.std.proofs.Common.{inl, refl, sym, ◌∙◌, ap}
 use Rattle.vault.specs.declared.store.Stop.TheVariants.{Killed}
 use Rattle.file_vault.specs.Folders.{Folder}
-use Rattle.file_vault.specs.Journals.{journal_of, SameUnits}
+use Rattle.file_vault.specs.Journals.{journal_of, SameUnitFiles}
 use Rattle.file_vault.proofs.Boots.{boot_synced, boot_units}
 use Rattle.file_vault.proofs.JournalCalls.{images_are}
 use Rattle.file_vault.proofs.Lifts.{sound_on}
@@ -52,7 +52,7 @@ returns-clause-boot g c = λ known.
     let read = c.find_chain.ensures.read known in
     let now = c.keep_all.ensures.stays read.keeps in
     let synced = c.sync.ensures.seen now in
-    let same : SameUnits (g.F.Files.seen c.args.files.now) (g.F.Files.seen c.sync.new.self) =
+    let same : SameUnitFiles (g.F.Files.seen c.args.files.now) (g.F.Files.seen c.sync.new.self) =
     λ d ne. ap (λ (f : Folder). f d) synced ∙ c.keep_all.ensures.others read.keeps d ne ∙ ap (λ (f : Folder). f d) read.same in
     boot_synced _ (g.F.Files.seen c.sync.new.self) (g.F.Files.may_leave c.sync.new.self) (boot_units (g.F.Files.seen c.args.files.now) _ same)
     (λ stop h there. c.in_ok-sync.ensures.durable now stop h there ∙ sym (ap (λ (f : Folder). f 16) synced))

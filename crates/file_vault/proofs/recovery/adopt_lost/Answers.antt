@@ -4,7 +4,7 @@ use Rattle.file_vault.specs.Folders.{Folder}
 use Rattle.file_vault.specs.Journals.{journal_of}
 use Rattle.file_vault.proofs.Boots.{boot_synced}
 use Rattle.file_vault.proofs.Lifts.{sound_on}
-use Rattle.file_vault.proofs.Opened.{behind_image, crossed, read_first, read_closed, read_booted}
+use Rattle.file_vault.proofs.Opened.{following_image, crossed, read_first, read_closed, read_booted}
 use Rattle.file_vault.proofs.Puts.{one_elapse, both_elapse}
 use Rattle.file_vault.proofs.Recovered.{found_all, read_both}
 use Rattle.file_vault.proofs.recovery.adopt_lost.Goals as goal
@@ -38,7 +38,7 @@ returns-clause-known g c = λ known.
     let now = c.close_end.ensures.stays read.keeps in
     record {
       batches = journal_of PowerLost (g.F.Files.seen c.args.files.now);
-      sound = sound_on _ _ c.close_end.new.files c.put_boot.new.files _ _ _ _ (c.in_ok-close_end.ensures.kept read.keeps _ _ _ found) ((c.put_boot.ensures.behind now).others 17 (λ e. omega (arith, e)))
+      sound = sound_on _ _ c.close_end.new.files c.put_boot.new.files _ _ _ _ (c.in_ok-close_end.ensures.kept read.keeps _ _ _ found) ((c.put_boot.ensures.following now).others 17 (λ e. omega (arith, e)))
           (λ stop h there. let from = (c.put_boot.ensures.time now stop).ends h there in (from.0, from.1, from.2.others 17 (λ e. omega (arith, e))));
     }
 
@@ -46,7 +46,7 @@ pub returns-clause-seen : goal.returns-clause-seen
 returns-clause-seen g c = λ known plan.
     let read = c.find_chain.ensures.read known in
     let found = found_all (g.F.Files.seen c.args.files.now) (g.F.Files.seen c.find_chain.new.files) read.same PowerLost _ _ _ (c.in_ok-chain.ensures.found known) in
-    behind_image plan Killed (g.F.Files.seen c.close_end.new.files) (g.F.Files.seen c.put_boot.new.files) (c.put_boot.ensures.behind (c.close_end.ensures.stays read.keeps))
+    following_image plan Killed (g.F.Files.seen c.close_end.new.files) (g.F.Files.seen c.put_boot.new.files) (c.put_boot.ensures.following (c.close_end.ensures.stays read.keeps))
     ∙ crossed plan (g.F.Files.seen c.args.files.now) (g.F.Files.seen c.close_end.new.files) (λ d ne. c.close_end.ensures.others read.keeps d ne ∙ ap (λ (f : Folder). f d) read.same)
     (read_both _ _ _ _ _ _ (c.in_ok-close_end.ensures.kept read.keeps _ _ _ found) Killed)
 

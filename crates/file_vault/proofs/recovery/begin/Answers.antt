@@ -11,14 +11,14 @@ use Rattle.file_vault.specs.Vaults.{plan_of}
 use Rattle.file_vault.proofs.JournalCalls.{cells_are, units_durable}
 use Rattle.file_vault.proofs.Syncs.{none_lost}
 use Rattle.file_vault.proofs.Lifts.{sound_on}
-use Rattle.file_vault.proofs.Opened.{behind_image}
+use Rattle.file_vault.proofs.Opened.{following_image}
 use Rattle.file_vault.proofs.recovery.begin.Goals as goal
 
 pub returns-clause-kept : goal.returns-clause-kept
 returns-clause-kept g c = λ known.
     let k1 = c.close_first.ensures.stays known in
     let k2 = c.put_boot.ensures.stays k1 in
-    let booted = sound_on _ _ c.close_first.new.files c.put_boot.new.files _ _ _ _ (c.in_ok-close_first.ensures.closed known) ((c.put_boot.ensures.behind k1).others 17 (λ e. omega (arith, e)))
+    let booted = sound_on _ _ c.close_first.new.files c.put_boot.new.files _ _ _ _ (c.in_ok-close_first.ensures.closed known) ((c.put_boot.ensures.following k1).others 17 (λ e. omega (arith, e)))
     (λ stop h there. let from = (c.put_boot.ensures.time k1 stop).ends h there in (from.0, from.1, from.2.others 17 (λ e. omega (arith, e)))) in
     on_ok_of _ c.sync_drives.result (sound_on _ _ c.put_boot.new.files c.sync_drives.new.files _ _ _ _ booted (ap (λ (f : Folder). f 17) (c.sync_drives.ensures.seen k2))
     (λ stop h there. (h, (c.sync_drives.ensures.time k2 stop).ends h there, refl)))
@@ -28,7 +28,7 @@ returns-clause-cells g c = λ known plan.
     let k1 = c.close_first.ensures.stays known in
     let k2 = c.put_boot.ensures.stays k1 in
     on_ok_of _ c.sync_drives.result (ap (λ (f : Folder). cells_of plan f) (c.sync_drives.ensures.seen k2)
-    ∙ ap (λ (i : Image). i.cells) (behind_image plan Killed (g.F.Files.seen c.close_first.new.files) (g.F.Files.seen c.put_boot.new.files) (c.put_boot.ensures.behind k1))
+    ∙ ap (λ (i : Image). i.cells) (following_image plan Killed (g.F.Files.seen c.close_first.new.files) (g.F.Files.seen c.put_boot.new.files) (c.put_boot.ensures.following k1))
     ∙ cells_are plan (g.F.Files.seen c.args.files.now) (g.F.Files.seen c.close_first.new.files) (c.close_first.ensures.others known))
 
 pub returns-clause-boot : goal.returns-clause-boot

@@ -1,11 +1,11 @@
-use Rattle.flat_machine.proofs.Restarts.{history_tells, tells_one, restarted_history, restarted_held, restarted_writes}
+use Rattle.flat_machine.proofs.Restarts.{history_reports, reports_one, restarted_history, restarted_held, restarted_writes}
 use Rattle.flat_machine.proofs.laws.restart_laws.Goals as goal
 
-pub returns-clause-tells : goal.returns-clause-tells
-returns-clause-tells c = history_tells
+pub returns-clause-reports : goal.returns-clause-reports
+returns-clause-reports c = history_reports
 
 pub returns-clause-one : goal.returns-clause-one
-returns-clause-one c = tells_one
+returns-clause-one c = reports_one
 
 pub returns-clause-history : goal.returns-clause-history
 returns-clause-history c = restarted_history

@@ -76,30 +76,30 @@ returns-in_err-note-clause-left g c = left g (goal.at.returns-in_err-note-clause
 
 pub loop-index-preserved : goal.loop-index-preserved
 loop-index-preserved g c = record {
-  ok = λ low start l was. elim c.match-told.branch [
+  ok = λ low start l was. elim c.match-reported.branch [
     | in-Some+in_ok-note w ↦
         (let few = c.count_slots-count.ensures.few in
         let within = inside g (goal.at.loop-index-preserved g c).After-headers-read in
         let index = c.loop-index-test.true in
         let group = c.requires.group in
         let small : 128 * c.args.group + c.loop-index.index < 2 ^ 16 = omega (arith, few, index, group, within) in
-        let is : c.look.result ≡ Ok (Some w.in-Some.told) = c.in-Ok.is ∙ ap (λ o. Ok o) w.in-Some.is in
-        let note : IsNote c.loop-index.found.newest c.loop-index.found.twins w.note.new.self.newest w.note.new.self.twins w.in-Some.told = record {
+        let is : c.look.result ≡ Ok (Some w.in-Some.reported) = c.in-Ok.is ∙ ap (λ o. Ok o) w.in-Some.is in
+        let note : IsNote c.loop-index.found.newest c.loop-index.found.twins w.note.new.self.newest w.note.new.self.twins w.in-Some.reported = record {
           newer = λ h. let x = w.in_ok-note.ensures.newer h in (x.1, x.2);
           twin = w.in_ok-note.ensures.twin;
           older = λ h. let x = w.in_ok-note.ensures.older h in (x.1, x.2);
           third = λ h k. let x = w.in_ok-note.ensures.third h k in (x.1, x.2);
         } in
         let more : IsUnderway (g.U.Units.groups c.args.units.now) start (g.U.Units.cells c.args.units.now) low (128 * c.args.group + c.loop-index.index + 1) (key_in w.note.new.self.newest) (at w.note.new.self.twins) =
-        some_more (g.U.Units.groups c.args.units.now) start (g.U.Units.cells c.args.units.now) (g.U.Units.cells c.args.units.now) low (128 * c.args.group + c.loop-index.index) w.in-Some.told
+        some_more (g.U.Units.groups c.args.units.now) start (g.U.Units.cells c.args.units.now) (g.U.Units.cells c.args.units.now) low (128 * c.args.group + c.loop-index.index) w.in-Some.reported
         c.loop-index.found.newest c.loop-index.found.twins w.note.new.self.newest w.note.new.self.twins (omega (arith, l)) small note (c.loop-index.invariant.ok low start l was)
-        (looks g (goal.at.loop-index-preserved g c).After-look (Ok (Some w.in-Some.told)) is) in
+        (looks g (goal.at.loop-index-preserved g c).After-look (Ok (Some w.in-Some.reported)) is) in
         let next : 128 * c.args.group + c.loop-index.index + 1 ≡ 128 * c.args.group + (c.loop-index.index + 1) = omega arith in
-        subst (λ n. IsUnderway (g.U.Units.groups c.args.units.now) start (g.U.Units.cells c.args.units.now) low n (key_in c.match-told.found.newest) (at c.match-told.found.twins)) next
+        subst (λ n. IsUnderway (g.U.Units.groups c.args.units.now) start (g.U.Units.cells c.args.units.now) low n (key_in c.match-reported.found.newest) (at c.match-reported.found.twins)) next
         (subst (λ (f : Found). IsUnderway (g.U.Units.groups c.args.units.now) start (g.U.Units.cells c.args.units.now) low (128 * c.args.group + c.loop-index.index + 1) (key_in f.newest) (at f.twins)) (sym w.found-is) more))
     | in_default w ↦
         (let next : 128 * c.args.group + c.loop-index.index + 1 ≡ 128 * c.args.group + (c.loop-index.index + 1) = omega arith in
-        subst (λ n. IsUnderway (g.U.Units.groups c.args.units.now) start (g.U.Units.cells c.args.units.now) low n (key_in c.match-told.found.newest) (at c.match-told.found.twins)) next
+        subst (λ n. IsUnderway (g.U.Units.groups c.args.units.now) start (g.U.Units.cells c.args.units.now) low n (key_in c.match-reported.found.newest) (at c.match-reported.found.twins)) next
         (subst (λ (f : Found). IsUnderway (g.U.Units.groups c.args.units.now) start (g.U.Units.cells c.args.units.now) low (128 * c.args.group + c.loop-index.index + 1) (key_in f.newest) (at f.twins)) (sym w.found-is)
         (none_more (g.U.Units.groups c.args.units.now) start (g.U.Units.cells c.args.units.now) (g.U.Units.cells c.args.units.now) low (128 * c.args.group + c.loop-index.index) (key_in c.loop-index.found.newest) (at c.loop-index.found.twins)
         (c.loop-index.invariant.ok low start l was) (looks g (goal.at.loop-index-preserved g c).After-look (Ok None) (c.in-Ok.is ∙ ap (λ o. Ok o) w.in_default.is)))))
@@ -111,13 +111,13 @@ loop-index-preserved g c = record {
       let group = c.requires.group in
       let placed = c.loop-index.invariant.inside was in
       let next : 128 * c.args.group + c.loop-index.index + 1 ≡ 128 * c.args.group + (c.loop-index.index + 1) = omega arith in
-      subst (λ n. ArePlaced (g.U.Units.groups c.args.units.now) n (key_in c.match-told.found.newest)) next (elim c.match-told.branch [
+      subst (λ n. ArePlaced (g.U.Units.groups c.args.units.now) n (key_in c.match-reported.found.newest)) next (elim c.match-reported.branch [
         | in-Some+in_ok-note w ↦
             (subst (λ (f : Found). ArePlaced (g.U.Units.groups c.args.units.now) (128 * c.args.group + c.loop-index.index + 1) (key_in f.newest)) (sym w.found-is)
-            (noted_placed (g.U.Units.groups c.args.units.now) (128 * c.args.group + c.loop-index.index) w.in-Some.told c.loop-index.found.newest c.loop-index.found.twins w.note.new.self.newest w.note.new.self.twins
+            (noted_placed (g.U.Units.groups c.args.units.now) (128 * c.args.group + c.loop-index.index) w.in-Some.reported c.loop-index.found.newest c.loop-index.found.twins w.note.new.self.newest w.note.new.self.twins
             (slot_in (g.U.Units.groups c.args.units.now) c.groups.result.now c.args.group c.loop-index.index c.count_slots-count.result c.groups.ensures c.count_slots-count.ensures.count few (omega (arith, index, within)))
             (omega (arith, few, index, group, within))
-            (subst (λ n. IsFine n (128 * c.args.group + c.loop-index.index) (Some w.in-Some.told)) c.requires.blocks
+            (subst (λ n. IsFine n (128 * c.args.group + c.loop-index.index) (Some w.in-Some.reported)) c.requires.blocks
             (subst (λ x. IfOk x (IsFine c.args.blocks (128 * c.args.group + c.loop-index.index))) (c.in-Ok.is ∙ ap (λ o. Ok o) w.in-Some.is) c.look.ensures.inside))
             (record {
               newer = λ h. let x = w.in_ok-note.ensures.newer h in (x.1, x.2);
@@ -130,7 +130,7 @@ loop-index-preserved g c = record {
             (subst (λ (f : Found). ArePlaced (g.U.Units.groups c.args.units.now) (128 * c.args.group + c.loop-index.index + 1) (key_in f.newest)) (sym w.found-is)
             (placed_below (g.U.Units.groups c.args.units.now) (128 * c.args.group + c.loop-index.index) (128 * c.args.group + c.loop-index.index + 1) (key_in c.loop-index.found.newest) (omega arith) placed))
       ]);
-  many = elim c.match-told.branch [
+  many = elim c.match-reported.branch [
     | in-Some+in_ok-note w ↦ ap (λ (f : Found). length f.newest) w.found-is ∙ w.in_ok-note.ensures.many ∙ c.loop-index.invariant.many
     | in_default w ↦ ap (λ (f : Found). length f.newest) w.found-is ∙ c.loop-index.invariant.many
   ];

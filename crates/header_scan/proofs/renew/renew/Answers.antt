@@ -1,5 +1,5 @@
 use Rattle.map_join.specs.Maps.{at}
-use Rattle.header_scan.proofs.Renewing.{made_shows, made_stands}
+use Rattle.header_scan.proofs.Renewing.{made_shows, made_matches}
 use Rattle.header_scan.proofs.renew.renew.Goals as goal
 
 pub returns-in-Ok-adopt_among-clause-ok : goal.returns-in-Ok-adopt_among-clause-ok
@@ -12,16 +12,16 @@ returns-in-Ok-adopt_among-clause-ok g c =
       keys = at c.in-Ok.map;
       loses = s.leaves;
       adopted = made.ok;
-      told = λ sound. record { scanned = s.map sound; fine = s.fine sound; once = s.once sound };
+      reported = λ sound. record { scanned = s.map sound; fine = s.fine sound; once = s.once sound };
       flat = λ F has there.
           made_shows d.units d.lost d.failures c.args.parts c.scan.new.units c.requires.fit (at c.in-Ok.map) c.in-Ok-adopt_among.made.0 s.leaves s.keeps
           (λ sound. record { scanned = s.map sound; fine = s.fine sound; once = s.once sound }) made.ok.log made.flat F has there;
     }
 
-pub returns-in-Ok-adopt_among-clause-stands : goal.returns-in-Ok-adopt_among-clause-stands
-returns-in-Ok-adopt_among-clause-stands g c sound =
+pub returns-in-Ok-adopt_among-clause-matches : goal.returns-in-Ok-adopt_among-clause-matches
+returns-in-Ok-adopt_among-clause-matches g c sound =
     let d = g.D.Drive in
     let s = c.in-Ok.ensures in
     let made = c.in-Ok-adopt_among.ensures in
-    made_stands d.units d.lost d.failures c.args.parts c.scan.new.units c.requires.fit (at c.in-Ok.map) c.in-Ok-adopt_among.made.0 s.leaves s.keeps
+    made_matches d.units d.lost d.failures c.args.parts c.scan.new.units c.requires.fit (at c.in-Ok.map) c.in-Ok-adopt_among.made.0 s.leaves s.keeps
     (λ ok. record { scanned = s.map ok; fine = s.fine ok; once = s.once ok }) made.ok.log made.flat sound

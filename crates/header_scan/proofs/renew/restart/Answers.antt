@@ -2,7 +2,7 @@ use Rattle.std.proofs.Common.{sym, ◌∙◌, ap, inr}
 use Rattle.std.specs.Prelude.{Result, Ok, Err, IfOk, IfErr}
 use Rattle.std.proofs.lemmas.Result.{IfOk-weaker, IfErr-weaker}
 use Rattle.flat_machine.specs.Flat.{Flat}
-use Rattle.array_parts.specs.Slots.{missing_in}
+use Rattle.unit_store.specs.Slots.{missing_in}
 use Rattle.header_scan.specs.Stops.{standing}
 use Rattle.header_scan.proofs.Stopping.{found, has_found, there_found}
 use Rattle.header_scan.proofs.Again.{fine_left, left_again, not_both}
@@ -25,7 +25,7 @@ and_err (Err y) P Q one two = (one, two)
 pub returns-clause-finished : goal.returns-clause-finished
 returns-clause-finished g c =
     IfOk-weaker c.renew.result _ _ (λ r h. (c.in_default.ensures, (c.finish.new.self, c.finish.ensures.finished, h)))
-    (both_ok c.renew.result _ _ c.renew.ensures.ok c.renew.ensures.stands)
+    (both_ok c.renew.result _ _ c.renew.ensures.ok c.renew.ensures.matches)
 
 pub returns-clause-stopped : goal.returns-clause-stopped
 returns-clause-stopped g c =

@@ -2,13 +2,13 @@ use Rattle.std.proofs.Common.{◌++◌, ◌∷◌, ℕ, List, [], length, refl, 
 use Rattle.std.specs.Prelude.{Err}
 use Rattle.byte_store.specs.declared.fault.StoreFault.{StoreFault}
 use Rattle.history.specs.Entries.{Course}
-use Rattle.extent_groups.specs.Planned.{Wanted, after}
+use Rattle.extent_groups.specs.Planned.{Intended, after}
 use Rattle.vault.specs.Images.{Image, recovered}
-use Rattle.vault.specs.Moments.{IsLogged, StandsForSome}
+use Rattle.vault.specs.Moments.{IsLogged, RepresentsSome}
 use Rattle.vault.specs.declared.store.Stop.TheVariants.{Killed}
 use Rattle.vault.proofs.Runs.{started, weaker}
 use Rattle.cached_drive.specs.Saving.{Units}
-use Rattle.journaled_store.specs.Steps.{IsBeforeOrNow, IsLive, UnlessSync}
+use Rattle.journaled_store.specs.Steps.{IsBeforeOrNow, IsUpToDate, UnlessSync}
 use Rattle.journaled_store.proofs.Batching.{all_logged_still, before_or_now, kept_by, live_same, logged_now, logged_still, some_appended, unless_refused}
 use Rattle.journaled_store.proofs.publishing.publish.Goals as goal
 
@@ -36,9 +36,9 @@ returns-in-Ok-clause-step g c known lost live =
     let new = recovered (v.seen c.append.new.vault) in
     let old = recovered (v.seen c.args.vault.now) in
     let e = c.in-Ok.ensures in
-    subst (λ (k : Course Units). IsLive lost k now.noted now.batch new) (sym e.keeper)
-    (subst (λ (m : List ℕ). IsLive lost mid.keeper m now.batch new) (sym e.marks.1)
-    (subst (λ (b : List Wanted). IsLive lost mid.keeper mid.noted b new) (sym e.empty)
+    subst (λ (k : Course Units). IsUpToDate lost k now.noted now.batch new) (sym e.keeper)
+    (subst (λ (m : List ℕ). IsUpToDate lost mid.keeper m now.batch new) (sym e.marks.1)
+    (subst (λ (b : List Intended). IsUpToDate lost mid.keeper mid.noted b new) (sym e.empty)
     (live_same lost mid.keeper mid.noted mid.batch old new (e.ok known)
     (record { step = c.collect.ensures.step lost old live.step; noted = c.collect.ensures.noted old live.noted }))))
 
@@ -50,13 +50,13 @@ returns-in-Err-clause-step g c known lost live =
     let new = recovered (v.seen c.append.new.vault) in
     let old = recovered (v.seen c.args.vault.now) in
     let e = c.in-Err.ensures in
-    let still : IsLive lost mid.keeper mid.noted mid.batch old = record { step = c.collect.ensures.step lost old live.step; noted = c.collect.ensures.noted old live.noted } in
-    subst (λ (f : StoreFault). UnlessSync (Err f) (IsLive lost now.keeper now.noted now.batch new)) (sym c.fault_of.ensures)
-    (unless_refused (IsLive lost now.keeper now.noted now.batch new) c.append.result c.in-Err.error c.in-Err.is (λ refused.
-    subst (λ (i : Image). IsLive lost now.keeper now.noted now.batch (recovered i)) (sym (c.append.ensures.refused known refused).finds)
-    (subst (λ (k : Course Units). IsLive lost k now.noted now.batch old) (sym e.keeper)
-    (subst (λ (m : List ℕ). IsLive lost mid.keeper m now.batch old) (sym e.marks.1)
-    (subst (λ (b : List Wanted). IsLive lost mid.keeper mid.noted b old) (sym e.kept) still)))))
+    let still : IsUpToDate lost mid.keeper mid.noted mid.batch old = record { step = c.collect.ensures.step lost old live.step; noted = c.collect.ensures.noted old live.noted } in
+    subst (λ (f : StoreFault). UnlessSync (Err f) (IsUpToDate lost now.keeper now.noted now.batch new)) (sym c.fault_of.ensures)
+    (unless_refused (IsUpToDate lost now.keeper now.noted now.batch new) c.append.result c.in-Err.error c.in-Err.is (λ refused.
+    subst (λ (i : Image). IsUpToDate lost now.keeper now.noted now.batch (recovered i)) (sym (c.append.ensures.refused known refused).finds)
+    (subst (λ (k : Course Units). IsUpToDate lost k now.noted now.batch old) (sym e.keeper)
+    (subst (λ (m : List ℕ). IsUpToDate lost mid.keeper m now.batch old) (sym e.marks.1)
+    (subst (λ (b : List Intended). IsUpToDate lost mid.keeper mid.noted b old) (sym e.kept) still)))))
 
 pub returns-in-Ok-clause-any_moment : goal.returns-in-Ok-clause-any_moment
 returns-in-Ok-clause-any_moment g c known lost live stop low is =
@@ -67,7 +67,7 @@ returns-in-Ok-clause-any_moment g c known lost live stop low is =
     let base = v.seen vault in
     let all = after (recovered base) mid.batch in
     let kept = kept_by lost drives mid.noted all (c.if-not-collect.ensures.has refl lost (recovered base) live.step) (c.collect.ensures.noted (recovered base) live.noted) (c.if-not-collect.ensures.marks refl) in
-    weaker v.moment v.left_since stop vault c.append.new.vault (StandsForSome lost base.cells low (base.journal ++ mid.batch ∷ [])) (IsBeforeOrNow lost base low drives)
+    weaker v.moment v.left_since stop vault c.append.new.vault (RepresentsSome lost base.cells low (base.journal ++ mid.batch ∷ [])) (IsBeforeOrNow lost base low drives)
     (c.append.ensures.any_moment known lost stop low is)
     (λ i some. before_or_now lost base i low mid.batch drives kept some)
 
@@ -80,7 +80,7 @@ returns-in-Err-clause-any_moment g c known lost live stop low is =
     let base = v.seen vault in
     let all = after (recovered base) mid.batch in
     let kept = kept_by lost drives mid.noted all (c.if-not-collect.ensures.has refl lost (recovered base) live.step) (c.collect.ensures.noted (recovered base) live.noted) (c.if-not-collect.ensures.marks refl) in
-    weaker v.moment v.left_since stop vault c.append.new.vault (StandsForSome lost base.cells low (base.journal ++ mid.batch ∷ [])) (IsBeforeOrNow lost base low drives)
+    weaker v.moment v.left_since stop vault c.append.new.vault (RepresentsSome lost base.cells low (base.journal ++ mid.batch ∷ [])) (IsBeforeOrNow lost base low drives)
     (c.append.ensures.any_moment known lost stop low is)
     (λ i some. before_or_now lost base i low mid.batch drives kept some)
 
@@ -96,10 +96,10 @@ returns-in-Err-clause-batches g c known lost live =
     let base = v.seen c.args.vault.now in
     let now = v.seen c.append.new.vault in
     let drives = c.args.store.now.tiers.world.array.parts.drives in
-    let P : Type 0 = (low : ℕ) (i : Image) → StandsForSome lost now.cells low now.journal i → IsBeforeOrNow lost base low drives i in
+    let P : Type 0 = (low : ℕ) (i : Image) → RepresentsSome lost now.cells low now.journal i → IsBeforeOrNow lost base low drives i in
     subst (λ (f : StoreFault). UnlessSync (Err f) P) (sym c.fault_of.ensures)
     (unless_refused P c.append.result c.in-Err.error c.in-Err.is (λ refused low i some.
-    inl (subst (λ (s : Image). StandsForSome lost s.cells low s.journal i) (c.append.ensures.refused known refused).finds some)))
+    inl (subst (λ (s : Image). RepresentsSome lost s.cells low s.journal i) (c.append.ensures.refused known refused).finds some)))
 
 pub returns-in-Ok-clause-batches : goal.returns-in-Ok-clause-batches
 returns-in-Ok-clause-batches g c known lost live low i some =

@@ -1,9 +1,9 @@
-use Rattle.migrator.proofs.Firsts.{found_behind, found_fresh}
+use Rattle.migrator.proofs.Firsts.{found_following, found_fresh}
 use Rattle.migrator.proofs.first.first_append.Goals as goal
 
 pub returns-in-Some : goal.returns-in-Some
 returns-in-Some g c =
-    found_behind c.args.end.now c.args.groups.now (g.L.Live.keys c.args.live.now) (g.F.Free.free c.args.free.now) c.in-Some.slot c.in-Some.ensures
+    found_following c.args.end.now c.args.groups.now (g.L.Live.keys c.args.live.now) (g.F.Free.free c.args.free.now) c.in-Some.slot c.in-Some.ensures
 
 pub returns : goal.returns
 returns g c =

@@ -7,8 +7,8 @@ use Rattle.extent_groups.specs.Cells.{cells, held}
 use Rattle.extent_groups.specs.Groups.{Groups}
 use Rattle.extent_groups.specs.Missing.{missing_of, IsGoneAt, IsGone}
 use Rattle.extent_groups.specs.Units.{Pair, site_of}
-use Rattle.extent_groups.specs.Planned.{Wanted, IsPlanned, IsPlan}
-use Rattle.extent_groups.specs.PlanLists.{as_wanted, listed}
+use Rattle.extent_groups.specs.Planned.{Intended, IsWritePlan, IsPlan}
+use Rattle.extent_groups.specs.PlanLists.{as_expected, listed}
 use Rattle.extent_groups.proofs.Finishing.{planned_pair, planned_one}
 use Rattle.extent_groups.proofs.Listing.{pair_plan, both_listed, first_listed, second_listed}
 use Rattle.extent_groups.proofs.LayoutLaw.{layout_law}
@@ -30,10 +30,10 @@ pub is_there-there-requires-clause-inside : goal.is_there-there-requires-clause-
 is_there-there-requires-clause-inside g c = (site_places _ _ _ c.args.slot _ c.pair_of.ensures.groups c.requires.drives c.pair_of.ensures.site _ (inr refl)).inside
 
 -- a list of one write, and of two
-one_listed : (xs ys : List (ℕ × ℕ × Vec ℕ Global)) (a : ℕ × ℕ × Vec ℕ Global) (A : Wanted) → xs ≡ [] → ys ≡ xs ++ a ∷ [] → as_wanted a ≡ A → A ∷ [] ≡ listed ys
+one_listed : (xs ys : List (ℕ × ℕ × Vec ℕ Global)) (a : ℕ × ℕ × Vec ℕ Global) (A : Intended) → xs ≡ [] → ys ≡ xs ++ a ∷ [] → as_expected a ≡ A → A ∷ [] ≡ listed ys
 one_listed xs ys a A none more is = sym (ap listed (more ∙ ap (λ l. l ++ a ∷ []) none) ∙ ap (λ w. w ∷ []) is)
 
-two_listed : (xs ys zs : List (ℕ × ℕ × Vec ℕ Global)) (a b : ℕ × ℕ × Vec ℕ Global) (A B : Wanted) → xs ≡ [] → ys ≡ xs ++ a ∷ [] → zs ≡ ys ++ b ∷ [] → as_wanted a ≡ A → as_wanted b ≡ B
+two_listed : (xs ys zs : List (ℕ × ℕ × Vec ℕ Global)) (a b : ℕ × ℕ × Vec ℕ Global) (A B : Intended) → xs ≡ [] → ys ≡ xs ++ a ∷ [] → zs ≡ ys ++ b ∷ [] → as_expected a ≡ A → as_expected b ≡ B
     → A ∷ B ∷ [] ≡ listed zs
 two_listed xs ys zs a b A B none more last is also =
     sym (ap listed (last ∙ ap (λ l. l ++ b ∷ []) (more ∙ ap (λ l. l ++ a ∷ []) none)) ∙ λ i. is i ∷ also i ∷ [])
@@ -42,7 +42,7 @@ pub returns-then-there-clause-ok : goal.returns-then-there-clause-ok
 returns-then-there-clause-ok g c =
     let d = g.D.Drive in
     let all = cells d.units d.lost c.args.drives.now in (
-      subst (λ ws. IsPlanned c.args.groups.now all c.args.slot c.args.unit.now (λ z. c.args.unit.now) ws)
+      subst (λ ws. IsWritePlan c.args.groups.now all c.args.slot c.args.unit.now (λ z. c.args.unit.now) ws)
           (two_listed _ _ _ _ _ _ _ c.in-Ok.ensures.items c.push_reserved.ensures.items c.push_reserved-then-there.ensures.items c.in-Ok-write_of.ensures c.in-Ok-write_of-2.ensures)
           (planned_pair c.args.groups.now all c.args.slot _ _ c.args.unit.now (layout_law _ c.pair_of.ensures.groups) c.pair_of.ensures.site (sized_cells d.units d.lost _ _ c.requires.drives)
           (site_whole _ c.args.slot _ c.pair_of.ensures.groups c.pair_of.ensures.site) (λ both. c.if-here.ensures both.0)),
@@ -53,7 +53,7 @@ pub returns-then-here-clause-ok : goal.returns-then-here-clause-ok
 returns-then-here-clause-ok g c =
     let d = g.D.Drive in
     let all = cells d.units d.lost c.args.drives.now in (
-      subst (λ ws. IsPlanned c.args.groups.now all c.args.slot c.args.unit.now (λ z. c.args.unit.now) ws)
+      subst (λ ws. IsWritePlan c.args.groups.now all c.args.slot c.args.unit.now (λ z. c.args.unit.now) ws)
           (one_listed _ _ _ _ c.in-Ok.ensures.items c.push_reserved.ensures.items c.in-Ok-write_of.ensures)
           (planned_one c.args.groups.now all c.args.slot _ _ _ _ c.args.unit.now (layout_law _ c.pair_of.ensures.groups) c.pair_of.ensures.site (sized_cells d.units d.lost _ _ c.requires.drives)
           (site_whole _ c.args.slot _ c.pair_of.ensures.groups c.pair_of.ensures.site) (inl (refl, refl)) c.if-here.ensures c.if-there.ensures),
@@ -64,7 +64,7 @@ pub returns-then-there-2-clause-ok : goal.returns-then-there-2-clause-ok
 returns-then-there-2-clause-ok g c =
     let d = g.D.Drive in
     let all = cells d.units d.lost c.args.drives.now in (
-      subst (λ ws. IsPlanned c.args.groups.now all c.args.slot c.args.unit.now (λ z. c.args.unit.now) ws)
+      subst (λ ws. IsWritePlan c.args.groups.now all c.args.slot c.args.unit.now (λ z. c.args.unit.now) ws)
           (one_listed _ _ _ _ c.in-Ok.ensures.items c.push_reserved-then-there-2.ensures.items c.in-Ok-write_of-2.ensures)
           (planned_one c.args.groups.now all c.args.slot _ _ _ _ c.args.unit.now (layout_law _ c.pair_of.ensures.groups) c.pair_of.ensures.site (sized_cells d.units d.lost _ _ c.requires.drives)
           (site_whole _ c.args.slot _ c.pair_of.ensures.groups c.pair_of.ensures.site) (inr (refl, refl)) c.if-there-2.ensures c.if-here.ensures),

@@ -6,7 +6,7 @@ use Rattle.extent_groups.proofs.Losses.{kept_fades}
 use Rattle.extent_groups.proofs.StoreCalls.{read_keeps, slot_unit, sized_cells, drives_kept}
 use Rattle.extent_groups.specs.PlanLists.{listed, parity_listed}
 use Rattle.extent_groups.specs.Planned.{IsPlan}
-use Rattle.extent_groups.proofs.Finishing.{wanted_of}
+use Rattle.extent_groups.proofs.Finishing.{expected_of}
 use Rattle.parity_store.specs.declared.way.Way.TheVariants as way
 use Rattle.parity_store.specs.Drafts.{IsDraft, writes_by, parity_by}
 use Rattle.parity_store.specs.Targets.{row_to}
@@ -66,8 +66,8 @@ returns-clause-ok g c =
     let long : length s ≡ length u = search rules in
     let sized = sized_cells g.D.Drive.units g.D.Drive.lost c.args.groups.now _ (drives_kept _ c.find_way-way.ensures.touched c.requires.drives) in
     let layout = layout_law _ c.of_slot-target.ensures.groups in (
-      wanted_of c.of_slot-target.result.home u s,
-      subst (λ ws. IsPlan c.args.groups.now (cells g.D.Drive.units g.D.Drive.lost c.find_way-way.new.drives) c.args.slot u (wanted_of c.of_slot-target.result.home u s) ws) lists
+      expected_of c.of_slot-target.result.home u s,
+      subst (λ ws. IsPlan c.args.groups.now (cells g.D.Drive.units g.D.Drive.lost c.find_way-way.new.drives) c.args.slot u (expected_of c.of_slot-target.result.home u s) ws) lists
           (way_plan (row_to c.args.groups.now c.of_slot-target.result) _ _ _ _ u s home c.args.groups.now (cells g.D.Drive.units g.D.Drive.lost c.find_way-way.new.drives) c.args.slot layout c.of_slot-target.ensures.site c.requires.unit (long ∙ c.requires.unit) sized c.find_way-way.result found drafted),
       parity
           ∙ way_parity (row_to c.args.groups.now c.of_slot-target.result) _ _ _ _ u s home c.args.groups.now (cells g.D.Drive.units g.D.Drive.lost c.find_way-way.new.drives) c.args.slot layout c.of_slot-target.ensures.site c.requires.unit (long ∙ c.requires.unit) sized c.find_way-way.result found drafted,

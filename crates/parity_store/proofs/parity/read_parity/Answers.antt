@@ -23,8 +23,8 @@ read_stripe-requires-clause-member g c =
 pub read_stripe-requires-clause-readable : goal.read_stripe-requires-clause-readable
 read_stripe-requires-clause-readable g c = readable _ _ _ _ _ _ c.requires.drives (omega (arith, c.requires.unit)) (c.requires.offset, c.parity_member-parity.ensures.inside.1)
 
-pub returns-clause-told : goal.returns-clause-told
-returns-clause-told g c =
+pub returns-clause-reported : goal.returns-clause-reported
+returns-clause-reported g c =
     subst (λ n. unit_at n (cells g.D.Drive.units g.D.Drive.lost c.read_stripe.new.drives) (InStripe (row_at c.args.groups.now c.args.group c.args.offset) (parity_of (length (members_of c.args.groups.now c.args.group)) (c.args.offset / 2)) (parity_of (length (members_of c.args.groups.now c.args.group)) (c.args.offset / 2))) ≡ if_ok c.read_stripe.result c.read_stripe.new.front)
     c.requires.unit
     (subst (λ p. unit_at (length c.args.unit.now) (cells g.D.Drive.units g.D.Drive.lost c.read_stripe.new.drives) (InStripe (row_at c.args.groups.now c.args.group c.args.offset) p p) ≡ if_ok c.read_stripe.result c.read_stripe.new.front)

@@ -25,7 +25,7 @@ find_without-requires-clause-target g c = record { home = c.requires.target.home
 pub find_without-requires-clause-lost : goal.find_without-requires-clause-lost
 find_without-requires-clause-lost g c =
     let missed : c.read_two-read.result ≡ way.Missed = search rules in
-    subst (IsRead (cells g.D.Drive.units g.D.Drive.lost c.read_two-read.new.drives) c.args.target.now.home c.args.target.now.parity c.args.unit.now c.read_two-read.new.sum) missed c.read_two-read.ensures.told
+    subst (IsRead (cells g.D.Drive.units g.D.Drive.lost c.read_two-read.new.drives) c.args.target.now.home c.args.target.now.parity c.args.unit.now c.read_two-read.new.sum) missed c.read_two-read.ensures.reported
 
 -- both places are on the group's drives
 two_elsewhere : {D : Type 0} (t : Groups) (g o i p : ℕ) (home parity : Place) (a b : List D) → slice_get (row_at t g o) i ≡ Some home → slice_get (row_at t g o) p ≡ Some parity

@@ -10,5 +10,5 @@ returns-in-Ok-restart c =
       loses = c.in-Ok-None.ensures.only;
       sound = found;
       made = c.in-Ok-restart.ensures.ok note;
-      shows = c.in-Ok-restart.ensures.stands note found;
+      shows = c.in-Ok-restart.ensures.matches note found;
     }

@@ -2,7 +2,7 @@ use Rattle.std.proofs.Common.{◌≡◌, ◌+◌, ◌++◌, ◌∷◌, [], None,
 use Rattle.map_join.specs.Maps.{IsListOf}
 use Rattle.map_join.specs.Record.{record_at}
 use Rattle.slot_tables.specs.Views.{key_at}
-use Rattle.slot_tables.proofs.Newest.{told_past}
+use Rattle.slot_tables.proofs.Newest.{reported_past}
 use Rattle.extent_groups.specs.Groups.{group_at, slots_in}
 use Rattle.script_exec.proofs.Newest.{AreListed, none_listed, none_more, one_more, all_listed, no_records}
 use Rattle.script_exec.proofs.carry.newest_records.Goals as goal
@@ -14,9 +14,9 @@ loop-block-preserved g c =
     let at = c.loop-block in
     elim c.match-newest.branch [
       | in-Some+in_ok-push w ↦
-          (let told : record_at at.block (keys at.block) ≡ Some w.in-Some.record = search rules in
+          (let reported : record_at at.block (keys at.block) ≡ Some w.in-Some.record = search rules in
           let items : c.match-newest.records.items ≡ at.records.items ++ w.in-Some.record ∷ [] = search rules in
-          subst (AreListed keys (at.block + 1)) (sym items) (one_more keys at.block at.records.items w.in-Some.record told at.invariant))
+          subst (AreListed keys (at.block + 1)) (sym items) (one_more keys at.block at.records.items w.in-Some.record reported at.invariant))
       | in_default w ↦
           (let none : record_at at.block (keys at.block) ≡ None = search rules in
           let items : c.match-newest.records.items ≡ at.records.items = search rules in
@@ -26,7 +26,7 @@ loop-block-preserved g c =
 pub returns : goal.returns
 returns g c =
     all_listed (key_at c.args.array.now) c.loop-block.block c.loop-block.records.items
-    (λ b past. told_past c.args.array.now b c.whole.ensures.room (omega (arith, past, c.loop-block-test.false, c.shape-block-end.ensures.of_blocks))) c.loop-block.invariant
+    (λ b past. reported_past c.args.array.now b c.whole.ensures.room (omega (arith, past, c.loop-block-test.false, c.shape-block-end.ensures.of_blocks))) c.loop-block.invariant
 
 pub returns-then-are_zero : goal.returns-then-are_zero
 returns-then-are_zero g c =

@@ -1,9 +1,9 @@
-use Rattle.background.specs.Steps as tier
+use Rattle.tiered_array.specs.Steps as tier
 use Rattle.script_syntax.specs.Order as o
-use Rattle.script_exec.proofs.Carried.{told_tier}
+use Rattle.script_exec.proofs.Carried.{reported_tier}
 use Rattle.script_exec.proofs.carry.plug.Goals as goal
 
 pub returns-clause-carried : goal.returns-clause-carried
 returns-clause-carried c w =
-    told_tier c.put_outcome.result c.args.bench.now c.plug.new.self (o.Plug w) (tier.Plug w) c.in_ok-outcome.outcome _ _ c.put_outcome.ensures.told
+    reported_tier c.put_outcome.result c.args.bench.now c.plug.new.self (o.Plug w) (tier.Plug w) c.in_ok-outcome.outcome _ _ c.put_outcome.ensures.reported
     (c.in_ok-outcome.ensures.ok w) (λ P text t steps. steps)

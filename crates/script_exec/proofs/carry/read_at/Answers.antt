@@ -1,10 +1,10 @@
 use Rattle.flat_machine.specs.Steps as s
 use Rattle.script_syntax.specs.Order as o
-use Rattle.script_exec.proofs.Carried.{told_noted}
+use Rattle.script_exec.proofs.Carried.{reported_noted}
 use Rattle.script_exec.proofs.carry.read_at.Goals as goal
 
 pub returns-clause-carried : goal.returns-clause-carried
 returns-clause-carried c =
-    told_noted c.put_answer.result c.args.bench.now _ (o.At c.args.record)
-    (s.ReadAt c.args.record) _ _ _ c.put_answer.ensures.told
+    reported_noted c.put_answer.result c.args.bench.now _ (o.At c.args.record)
+    (s.ReadAt c.args.record) _ _ _ c.put_answer.ensures.reported
     c.in_ok-answer.ensures.ok (λ P text t steps. steps)

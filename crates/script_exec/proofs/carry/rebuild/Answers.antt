@@ -1,9 +1,9 @@
-use Rattle.background.specs.Regrouping.{RebuildCase}
+use Rattle.tiered_array.specs.Regrouping.{RebuildCase}
 use Rattle.script_syntax.specs.Order as o
-use Rattle.script_exec.proofs.Regrouped.{told_regroup}
+use Rattle.script_exec.proofs.Regrouped.{reported_regroup}
 use Rattle.script_exec.proofs.carry.rebuild.Goals as goal
 
 pub returns-clause-carried : goal.returns-clause-carried
 returns-clause-carried c =
-    told_regroup c.put_regrouped.result c.args.bench.now c.rebuild.new.self (o.Rebuild c.args.drive) (λ F outcome G. RebuildCase F c.args.drive outcome G) c.in_ok-outcome.outcome _ _
-    c.put_regrouped.ensures.told c.in_ok-outcome.ensures.ok (λ P text t steps. steps)
+    reported_regroup c.put_regrouped.result c.args.bench.now c.rebuild.new.self (o.Rebuild c.args.drive) (λ F outcome G. RebuildCase F c.args.drive outcome G) c.in_ok-outcome.outcome _ _
+    c.put_regrouped.ensures.reported c.in_ok-outcome.ensures.ok (λ P text t steps. steps)

@@ -1,9 +1,9 @@
 use Rattle.flat_machine.specs.Steps as s
 use Rattle.script_syntax.specs.Order as o
-use Rattle.script_exec.proofs.Carried.{told_noted}
+use Rattle.script_exec.proofs.Carried.{reported_noted}
 use Rattle.script_exec.proofs.carry.release.Goals as goal
 
 pub returns-clause-carried : goal.returns-clause-carried
 returns-clause-carried c =
-    told_noted c.put_answer.result c.args.bench.now _ (o.Release c.args.worker c.args.slot)
-    (s.Release c.args.worker c.args.slot) _ _ _ c.put_answer.ensures.told c.release-answer.ensures.flat (λ P text t steps. steps)
+    reported_noted c.put_answer.result c.args.bench.now _ (o.Release c.args.worker c.args.slot)
+    (s.Release c.args.worker c.args.slot) _ _ _ c.put_answer.ensures.reported c.release-answer.ensures.flat (λ P text t steps. steps)

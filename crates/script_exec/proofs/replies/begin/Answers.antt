@@ -2,9 +2,9 @@ use Rattle.std.proofs.Common.{ℕ, nat_le, codes, refl, sym, ap, subst, ◌∙�
 use Rattle.extents.specs.Failures.{no_failures}
 use Rattle.extent_groups.specs.Groups.{Groups}
 use Rattle.flat_machine.specs.Flat.{new_flat}
-use Rattle.background.specs.Tiered.{begun}
-use Rattle.background.specs.Stands.{StandsFor}
-use Rattle.background.specs.Views.{TiersView}
+use Rattle.tiered_array.specs.Tiered.{begun}
+use Rattle.tiered_array.specs.Matches.{RepresentsTiers}
+use Rattle.tiered_array.specs.Views.{TiersView}
 use Rattle.script_exec.specs.State.{State, nothing_taken}
 use Rattle.script_exec.proofs.replies.begin.Goals as goal
 
@@ -35,11 +35,11 @@ returns-clause-replied c =
           text_is = refl;
           state_is = ap (begun_state groups) some.0;
         };
-        stands = record {
-          tiers = subst (λ (t : TiersView). StandsFor t (begun (new_flat groups c.in-Some.drives (nat_le c.in-Some.drives) (λ _. no_failures)))) (sym c.new-3.ensures.tiers)
+        matches = record {
+          tiers = subst (λ (t : TiersView). RepresentsTiers t (begun (new_flat groups c.in-Some.drives (nat_le c.in-Some.drives) (λ _. no_failures)))) (sym c.new-3.ensures.tiers)
               (c.in_ok-tiers.ensures.ok _ c.in-Ok.ensures.ok);
           maps = c.new-3.ensures.maps;
         };
-        out = c.in_ok-put.ensures.told;
+        out = c.in_ok-put.ensures.reported;
       };
     }

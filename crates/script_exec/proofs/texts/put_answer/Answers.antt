@@ -1,5 +1,5 @@
 use Rattle.std.proofs.Common.{rules}
 use Rattle.script_exec.proofs.texts.put_answer.Goals as goal
 
-pub returns-in-Found-clause-told : goal.returns-in-Found-clause-told
-returns-in-Found-clause-told c = search rules
+pub returns-in-Found-clause-reported : goal.returns-in-Found-clause-reported
+returns-in-Found-clause-reported c = search rules

@@ -1,12 +1,12 @@
 use Rattle.std.proofs.Common.{false, refl}
 use Rattle.script_io.proofs.Feeds.{not_empty}
-use Rattle.script_io.proofs.Writes.{behind, part_written, wrote_more, wrote_none}
+use Rattle.script_io.proofs.Writes.{following, part_written, wrote_more, wrote_none}
 use Rattle.script_io.proofs.calls.write_out.Goals as goal
 
 pub loop-rest-preserved : goal.loop-rest-preserved
 loop-rest-preserved g c =
     let contents = g.W.Write.contents in
-    rw behind (wrote_more (contents c.args.writer.now) (contents c.loop-rest.writer) (contents c.write.new.self) c.args.bytes.now
+    rw following (wrote_more (contents c.args.writer.now) (contents c.loop-rest.writer) (contents c.write.new.self) c.args.bytes.now
     c.loop-rest.rest.now c.in-Ok.count c.loop-rest.invariant c.in-Ok.ensures.bytes)
 
 pub returns-in-Ok-eq0-clause-part : goal.returns-in-Ok-eq0-clause-part

@@ -3,15 +3,15 @@ use Rattle.script_io.proofs.Writes.{broken_fed, wrote_bytes}
 use Rattle.script_io.proofs.run.go_on.Goals as goal
 
 pub returns-in-Err-clause-said : goal.returns-in-Err-clause-said
-returns-in-Err-clause-said g c state stands =
+returns-in-Err-clause-said g c state matches =
     broken_fed c.feed-fed.result c.args.script.now state c.feed-fed.new.self c.args.chunk.now _ _ c.deref.result.now
-    (c.feed-fed.ensures.fed state stands) c.deref.ensures.value c.requires.written c.in-Err.ensures.part
+    (c.feed-fed.ensures.fed state matches) c.deref.ensures.value c.requires.written c.in-Err.ensures.part
 
 pub returns-in-Ok-fed-clause-said : goal.returns-in-Ok-fed-clause-said
-returns-in-Ok-fed-clause-said g c state stands =
-    let a = c.in-Ok-fed.ensures.fed state stands in record {
+returns-in-Ok-fed-clause-said g c state matches =
+    let a = c.in-Ok-fed.ensures.fed state matches in record {
       next = a.next;
-      stands = a.stands;
+      matches = a.matches;
       whole = a.whole;
       lines = a.lines;
       text_is = a.text_is;

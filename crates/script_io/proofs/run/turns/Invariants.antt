@@ -1,6 +1,6 @@
 use Rattle.std.proofs.Common.{◌≡◌, []}
 use Rattle.script_exec.specs.State.{State}
-use Rattle.script_exec.specs.Carrying.{Stands}
+use Rattle.script_exec.specs.Carrying.{MatchesState}
 use Rattle.script_io.specs.Feeding.{IsScript, most_left}
 use Rattle.script_io.specs.Turns.{PartSaid}
 use Rattle.script_io.proofs.run.turns.Given as goal
@@ -12,7 +12,7 @@ invariant-loop-writer g l =
     let contents = g.W.Write.contents in record {
       good : IsScript l.script;
       written : l.script.out.items ≡ [];
-      said : (state : State) → Stands l.fn.script.bench state → PartSaid (remaining l.fn.reader) (remaining l.reader)
+      said : (state : State) → MatchesState l.fn.script.bench state → PartSaid (remaining l.fn.reader) (remaining l.reader)
           l.fn.script state l.script (contents l.fn.writer) (contents l.writer);
     }
 

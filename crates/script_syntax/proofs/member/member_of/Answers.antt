@@ -7,13 +7,13 @@ returns-in_default-clause-none c member short e =
 
 pub returns-in_default-number_of-clause-none : goal.returns-in_default-number_of-clause-none
 returns-in_default-number_of-clause-none c member short e =
-    let told = around_dot c.args.word.now c.cut.result.0.now c.in-Some.extent.now (rw c.in-Some.is at c.cut.ensures) member short e in
-    c.in_default-number_of.ensures.none member.drive short.drive told.0
+    let reported = around_dot c.args.word.now c.cut.result.0.now c.in-Some.extent.now (rw c.in-Some.is at c.cut.ensures) member short e in
+    c.in_default-number_of.ensures.none member.drive short.drive reported.0
 
 pub returns-in_default-number_of-2-clause-none : goal.returns-in_default-number_of-2-clause-none
 returns-in_default-number_of-2-clause-none c member short e =
-    let told = around_dot c.args.word.now c.cut.result.0.now c.in-Some.extent.now (rw c.in-Some.is at c.cut.ensures) member short e in
-    c.in_default-number_of-2.ensures.none member.extent short.extent told.1
+    let reported = around_dot c.args.word.now c.cut.result.0.now c.in-Some.extent.now (rw c.in-Some.is at c.cut.ensures) member short e in
+    c.in_default-number_of-2.ensures.none member.extent short.extent reported.1
 
 pub returns-clause-some : goal.returns-clause-some
 returns-clause-some c =

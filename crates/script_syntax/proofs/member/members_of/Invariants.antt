@@ -8,7 +8,7 @@ use Rattle.script_syntax.proofs.member.members_of.Given as goal
 -- the members so far and what is left are all words
 abbrev pub invariant-loop : goal.invariant-loop
 invariant-loop l = record {
-  told : words_left (text_of l.fn.text) ≡ map member_word l.members.items ++ words_left (text_of l.rest);
+  reported : words_left (text_of l.fn.text) ≡ map member_word l.members.items ++ words_left (text_of l.rest);
   short : AllByRecursion IsWritableMember l.members.items;
   count : length l.members.items ≡ l.counter;
 }

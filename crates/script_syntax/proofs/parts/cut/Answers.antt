@@ -1,6 +1,6 @@
 use Rattle.std.proofs.Common.{◌≡◌, ◌==◌, ◌+◌, ◌≤◌, length, arith}
 use Rattle.std.proofs.lemmas.Simd.{run_in_chunk_fails, run_in_chunk_stops}
-use Rattle.script_syntax.proofs.Splits.{uncut, cut_at, there}
+use Rattle.script_syntax.proofs.Splits.{cut_at}
 use Rattle.script_syntax.proofs.parts.cut.Goals as goal
 
 pub returns-then-front-lt-LOOK : goal.returns-then-front-lt-LOOK
@@ -15,11 +15,3 @@ returns-then-front-lt-LOOK c =
     let other = run_in_chunk_fails (λ byte. byte == c.args.separator) text 0 8 front 0 room counted k low (omega (arith, below)) in
     absurd (cc (other, is)))
     (rw same at (run_in_chunk_stops (λ byte. byte == c.args.separator) text 0 8 front 0 room counted c.if-front-lt-LOOK.true))
-
-pub returns-then-text-at : goal.returns-then-text-at
-returns-then-text-at c =
-    cut_at c.args.separator c.args.text.now c.loop-at.at c.loop-at-test.true c.loop-at.invariant
-    (there c.args.separator c.args.text.now c.loop-at.at c.if-text-at.true)
-
-pub returns : goal.returns
-returns c = uncut c.args.separator c.args.text.now (λ k low high. c.loop-at.invariant k low (omega (arith, high, c.loop-at-test.false)))

@@ -8,6 +8,6 @@ use Rattle.script_syntax.proofs.words.next_numbers.Given as goal
 -- the numbers so far and what is left are all words
 abbrev pub invariant-loop-place : goal.invariant-loop-place
 invariant-loop-place l = record {
-  told : words_left (text_of l.fn.text) ≡ map decimal (take l.place l.numbers) ++ words_left (text_of l.rest);
+  reported : words_left (text_of l.fn.text) ≡ map decimal (take l.place l.numbers) ++ words_left (text_of l.rest);
   writable : AllByRecursion IsWritable (take l.place l.numbers);
 }

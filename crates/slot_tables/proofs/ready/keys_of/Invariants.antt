@@ -8,5 +8,5 @@ invariant-loop-block l = record {
   many : length l.keys.items ≡ l.blocks;
   before : (b : ℕ) → b < l.block → slice_index l.keys.items b ≡ at l.map b;
   rest : (b : ℕ) → l.block ≤ b → slice_index l.keys.items b ≡ 0;
-  told : (b : ℕ) → b < l.block → IsKey (at l.map b);
+  reported : (b : ℕ) → b < l.block → IsKey (at l.map b);
 }

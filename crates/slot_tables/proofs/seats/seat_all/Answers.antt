@@ -6,7 +6,7 @@ use Rattle.slot_tables.proofs.seats.seat_all.Goals as goal
 
 pub loop-claim-init : goal.loop-claim-init
 loop-claim-init g c = record {
-  seated = none_seated g.C.Hold.names c.args.claims.items c.args.wanted.items (kepts_of c.args.places.now.items) c.args.others.now.items
+  seated = none_seated g.C.Hold.names c.args.claims.items c.args.expected.items (kepts_of c.args.places.now.items) c.args.others.now.items
       (kepts_many c.args.places.now.items (let m = c.requires.most in let l = c.args.places.now.ok.0 in omega (arith, m, l))) c.requires.free c.requires.all (sym c.args.others.now.ok.0 ∙ c.requires.none);
   of = c.requires.claims;
   places = refl;
@@ -18,13 +18,13 @@ seat-requires-clause-many g c =
     let many = c.loop-claim.invariant.seated.many in
     let same = c.loop-claim.invariant.places in
     let first = c.requires.many in
-    let own = c.loop-claim.wanted.ok.0 in
-    let own_first = c.args.wanted.ok.0 in
+    let own = c.loop-claim.expected.ok.0 in
+    let own_first = c.args.expected.ok.0 in
     omega (arith, many, same, first, own, own_first)
 
 pub loop-claim-preserved-in-None : goal.loop-claim-preserved-in-None
 loop-claim-preserved-in-None g c = record {
-  seated = seated_one g.C.Hold.names c.args.claims.items c.args.wanted.items c.pop.new.self.items c.in-Some.claim c.loop-claim.wanted.items c.seat.new.wanted.items (kepts_of c.loop-claim.places.items) (kepts_of c.seat.new.places.items) c.loop-claim.others.items
+  seated = seated_one g.C.Hold.names c.args.claims.items c.args.expected.items c.pop.new.self.items c.in-Some.claim c.loop-claim.expected.items c.seat.new.expected.items (kepts_of c.loop-claim.places.items) (kepts_of c.seat.new.places.items) c.loop-claim.others.items
       c.in-None.ensures.slot (record { seated = c.in-None.ensures.seated; left = c.in-None.ensures.left })
       (rw (sym c.in-Some.ensures.items) c.loop-claim.invariant.seated);
   of = c.in-None.ensures.claims;
@@ -34,7 +34,7 @@ loop-claim-preserved-in-None g c = record {
 
 pub loop-claim-preserved : goal.loop-claim-preserved
 loop-claim-preserved g c = record {
-  seated = rw (c.push_reserved.ensures.items) (left_one g.C.Hold.names c.args.claims.items c.args.wanted.items c.pop.new.self.items c.in-Some.claim c.in-Some-seat.other c.loop-claim.wanted.items c.seat.new.wanted.items (kepts_of c.loop-claim.places.items) (kepts_of c.seat.new.places.items) c.loop-claim.others.items
+  seated = rw (c.push_reserved.ensures.items) (left_one g.C.Hold.names c.args.claims.items c.args.expected.items c.pop.new.self.items c.in-Some.claim c.in-Some-seat.other c.loop-claim.expected.items c.seat.new.expected.items (kepts_of c.loop-claim.places.items) (kepts_of c.seat.new.places.items) c.loop-claim.others.items
       (record { seated = c.in-Some-seat.ensures.seated; left = c.in-Some-seat.ensures.left })
       (rw (sym c.in-Some.ensures.items) c.loop-claim.invariant.seated));
   of = c.in-Some-seat.ensures.claims;
@@ -44,9 +44,9 @@ loop-claim-preserved g c = record {
 
 pub returns-clause-kept : goal.returns-clause-kept
 returns-clause-kept g c slot =
-    all_seated g.C.Hold.names c.args.claims.items c.args.wanted.items c.loop-claim.wanted.items (kepts_of c.loop-claim.places.items) c.loop-claim.others.items (seats_end g.C.Hold.names c.args.claims.items c.args.wanted.items c.loop-claim.claims.items c.loop-claim.wanted.items (kepts_of c.loop-claim.places.items) c.loop-claim.others.items (sym c.loop-claim.claims.ok.0 ∙ c.in_default.ensures.cases.0) c.loop-claim.invariant.seated) slot
+    all_seated g.C.Hold.names c.args.claims.items c.args.expected.items c.loop-claim.expected.items (kepts_of c.loop-claim.places.items) c.loop-claim.others.items (seats_end g.C.Hold.names c.args.claims.items c.args.expected.items c.loop-claim.claims.items c.loop-claim.expected.items (kepts_of c.loop-claim.places.items) c.loop-claim.others.items (sym c.loop-claim.claims.ok.0 ∙ c.in_default.ensures.cases.0) c.loop-claim.invariant.seated) slot
 
 pub returns-clause-shared : goal.returns-clause-shared
 returns-clause-shared g c slot =
-    let h = (seats_end g.C.Hold.names c.args.claims.items c.args.wanted.items c.loop-claim.claims.items c.loop-claim.wanted.items (kepts_of c.loop-claim.places.items) c.loop-claim.others.items (sym c.loop-claim.claims.ok.0 ∙ c.in_default.ensures.cases.0) c.loop-claim.invariant.seated).shared slot in
+    let h = (seats_end g.C.Hold.names c.args.claims.items c.args.expected.items c.loop-claim.claims.items c.loop-claim.expected.items (kepts_of c.loop-claim.places.items) c.loop-claim.others.items (sym c.loop-claim.claims.ok.0 ∙ c.in_default.ensures.cases.0) c.loop-claim.invariant.seated).shared slot in
     omega (arith, h)

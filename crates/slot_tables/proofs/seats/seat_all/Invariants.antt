@@ -5,7 +5,7 @@ use Rattle.slot_tables.proofs.seats.seat_all.Given as goal
 
 abbrev pub invariant-loop-claim : goal.invariant-loop-claim
 invariant-loop-claim g l = record {
-  seated : AreSeated g.C.Hold.names l.fn.claims.items l.fn.wanted.items l.claims.items l.wanted.items (kepts_of l.places.items) l.others.items;
+  seated : AreSeated g.C.Hold.names l.fn.claims.items l.fn.expected.items l.claims.items l.expected.items (kepts_of l.places.items) l.others.items;
   of : AreOf g.C.Hold.names l.places.items;
   places : vec_len l.places ≡ vec_len l.fn.places;
   room : vec_len l.claims + vec_len l.others ≤ vec_capacity l.others;

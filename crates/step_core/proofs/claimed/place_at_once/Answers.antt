@@ -8,7 +8,7 @@ use Rattle.slot_tables.specs.Represents.{ShowsArray}
 use Rattle.step_core.specs.Placing.{Again, put_answer, put_for, put_step}
 use Rattle.step_core.specs.declared.claimed.What.{What}
 use Rattle.step_core.specs.declared.claimed.What.TheVariants as what
-use Rattle.step_core.proofs.Placing.{less_told, same_block}
+use Rattle.step_core.proofs.Placing.{less_reported, same_block}
 use Rattle.step_core.proofs.claimed.place_at_once.Goals as goal
 
 pub returns-in-Payload-clause-flat : goal.returns-in-Payload-clause-flat
@@ -19,7 +19,7 @@ returns-in-Payload-clause-flat g c F w shows held =
     let a = c.place.new.self in
     subst (λ (x : What). MatchResult r (λ done. ArePutAtOnce F (put_step (put_for x) w s b) (put_answer (put_for x) s) w s b done.emitted a)
     (λ e. IfSome e.0 (λ q. MayRefuse q (Unit {0}) ((G : Flat) × (Case F (put_step (put_for x) w s b) (Refused q) G) × (ShowsArray a G)))))
-    (sym (c.in-Fresh.is ∙ ap what.Fresh c.in-Payload.is)) (less_told _ _ _ r (c.place.ensures.flat F w shows held))
+    (sym (c.in-Fresh.is ∙ ap what.Fresh c.in-Payload.is)) (less_reported _ _ _ r (c.place.ensures.flat F w shows held))
 
 pub returns-in-Trim-clause-flat : goal.returns-in-Trim-clause-flat
 returns-in-Trim-clause-flat g c F w shows held =
@@ -29,7 +29,7 @@ returns-in-Trim-clause-flat g c F w shows held =
     let a = c.place-in-Trim.new.self in
     subst (λ (x : What). MatchResult r (λ done. ArePutAtOnce F (put_step (put_for x) w s b) (put_answer (put_for x) s) w s b done.emitted a)
     (λ e. IfSome e.0 (λ q. MayRefuse q (Unit {0}) ((G : Flat) × (Case F (put_step (put_for x) w s b) (Refused q) G) × (ShowsArray a G)))))
-    (sym (c.in-Fresh.is ∙ ap what.Fresh c.in-Trim.is)) (less_told _ _ _ r (c.place-in-Trim.ensures.flat F w shows held))
+    (sym (c.in-Fresh.is ∙ ap what.Fresh c.in-Trim.is)) (less_reported _ _ _ r (c.place-in-Trim.ensures.flat F w shows held))
 
 pub returns-in-CopyOf-clause-flat : goal.returns-in-CopyOf-clause-flat
 returns-in-CopyOf-clause-flat g c F w shows held =
@@ -43,4 +43,4 @@ returns-in-CopyOf-clause-flat g c F w shows held =
     (sym c.in-CopyOf.is)
     (subst (λ n. MatchResult r (λ done. ArePutAtOnce F (put_step Again w s n) (put_answer Again s) w s n done.emitted a)
     (λ e. IfSome e.0 (λ q. MayRefuse q (Unit {0}) ((G : Flat) × (Case F (put_step Again w s n) (Refused q) G) × (ShowsArray a G)))))
-    of (less_told _ _ _ r (c.place_copy.ensures.flat F w shows held)))
+    of (less_reported _ _ _ r (c.place_copy.ensures.flat F w shows held)))

@@ -2,7 +2,7 @@ use Rattle.std.proofs.Common.{rules, ◌≡◌, ◌∙◌, Ok, inr, true, sym, a
 use Rattle.flat_machine.specs.Flat.{Worker}
 use Rattle.slot_tables.specs.Represents.{ShowsArray}
 use Rattle.slot_tables.specs.Views.{SameSizes}
-use Rattle.step_core.specs.Placing.{Commits, GivesUp, Puts, PutTells, block_for, put_for}
+use Rattle.step_core.specs.Placing.{Commits, GivesUp, Puts, PutReports, block_for, put_for}
 use Rattle.step_core.proofs.Placing.{either, put_of_block, puts_then}
 use Rattle.step_core.proofs.claimed.put_and_finish.Goals as goal
 
@@ -18,7 +18,7 @@ returns-in-Ok-put-clause-flat g c =
     let slot : g.C.Hold.names c.in-Err-None-default.claim ≡ s = ap g.C.Hold.names c.in-Err-None-default.ensures.err.0 in
     let puts : Puts now mid what s b =
     λ H x shows held. put_of_block {C = g.row.C.Denot} c.args.what b (Ok c.in-Ok-put.ticket) H x s mid c.requires.of
-    (subst (λ n. PutTells {C = g.row.C.Denot} (Ok c.in-Ok-put.ticket) H x what n (block_for c.args.what) mid) slot
+    (subst (λ n. PutReports {C = g.row.C.Denot} (Ok c.in-Ok-put.ticket) H x what n (block_for c.args.what) mid) slot
     (c.in-Ok-put.ensures.flat H x (subst (λ a. ShowsArray a H) (sym same) shows) (subst (λ n. H.held n (Worker x) ≡ true) (sym slot) held)))
     in
     let named : c.in-Ok-put.ticket ≡ s = c.in-Ok-put.ensures.ticket ∙ slot in

@@ -2,7 +2,7 @@ use Rattle.std.proofs.Common.{◌≡◌, ◌≤◌, take, map, length, vec_len, 
 use Rattle.flat_machine.specs.Flat.{Flat}
 use Rattle.step_core.proofs.Runnings.{StandingRun}
 use Rattle.step_core.specs.Headline.{StepsTo}
-use Rattle.step_core.specs.Told.{flat_answer, flat_step}
+use Rattle.step_core.specs.Reported.{flat_answer, flat_step}
 use Rattle.slot_tables.specs.Represents.{Represents}
 use Rattle.slot_tables.specs.Views.{SameSizes}
 use Rattle.step_core.proofs.run.run_by.Given as goal

@@ -1,8 +1,6 @@
-use Rattle.std.proofs.Common.{map}
-use Rattle.slot_tables.specs.Views.{ArrayView}
-use Rattle.storm.specs.Ending.{HaveBegun}
+use Rattle.std.proofs.Common.{◌≡◌, ◌++◌, map}
 use Rattle.storm.proofs.crew.dismiss.Given as goal
 
--- the first hand comes first
+-- the hands so far, and those of the workers that are left
 abbrev pub invariant-loop-worker : goal.invariant-loop-worker
-invariant-loop-worker g l = (array : ArrayView) → HaveBegun (map (λ e. e.hand) l.initial.ended.items) array → HaveBegun (map (λ e. e.hand) l.ended.items) array
+invariant-loop-worker g l = map (λ e. e.hand) l.ended.items ++ map (λ w. w.hand) l.worker-iterator.rest.items ≡ map (λ e. e.hand) l.initial.ended.items ++ map (λ w. w.hand) l.fn.hired.items

@@ -1,8 +1,8 @@
 use Rattle.std.proofs.Common.{rules}
-use Rattle.storm.specs.Ending.{IsNew}
+use Rattle.storm.specs.Ending.{IsFreshArray}
 use Rattle.storm.proofs.life.open.Goals as goal
 
-pub returns-in-Ok-new : goal.returns-in-Ok-new
-returns-in-Ok-new g c =
-    let new : IsNew g.N.Sizes.payload c.is_fused.new.array = record { log = search rules; blocks = search rules; payloads = search rules } in
+pub returns-in-Ok-new-clause-first : goal.returns-in-Ok-new-clause-first
+returns-in-Ok-new-clause-first g c =
+    let new : IsFreshArray g.N.Sizes.payload c.is_fused.new.array = record { log = search rules; blocks = search rules; payloads = search rules } in
     (c.is_fused.new.array, new, (search rules))

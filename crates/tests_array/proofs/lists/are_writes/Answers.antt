@@ -1,6 +1,6 @@
 use Rattle.std.proofs.Common.{subst}
-use Rattle.array_parts.specs.Memory.{held_units}
-use Rattle.array_parts.specs.Micros.{AreWrites}
+use Rattle.unit_store.specs.Memory.{held_units}
+use Rattle.unit_store.specs.Micros.{AreWrites}
 use Rattle.tests_array.proofs.Written.{each_write}
 use Rattle.tests_array.proofs.lists.are_writes.Goals as goal
 

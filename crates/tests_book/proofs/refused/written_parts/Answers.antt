@@ -1,10 +1,10 @@
 use Rattle.std.proofs.Common.{sym, subst}
 use Rattle.extent_groups.specs.Groups.{Groups}
 use Rattle.extent_groups.specs.Stores.{AreSound}
-use Rattle.array_parts.proofs.Calls.{shows_in}
-use Rattle.array_parts.specs.Memory.{held_units, held_lost, held_failures}
-use Rattle.array_parts.specs.Slots.{cells_in}
-use Rattle.array_parts.specs.Views.{PartsView, Shows}
+use Rattle.unit_store.proofs.Calls.{shows_in}
+use Rattle.unit_store.specs.Memory.{held_units, held_lost, held_failures}
+use Rattle.unit_store.specs.Slots.{cells_in}
+use Rattle.unit_store.specs.Views.{PartsView, Shows}
 use Rattle.tests_book.proofs.refused.written_parts.Goals as goal
 
 -- the array's slots are sound, so they are once it is taken apart, and once one of them is written

@@ -1,10 +1,10 @@
 use Rattle.std.proofs.Common.{List, Bool, rules, sym, ◌∙◌, subst, arith}
 use Rattle.std.proofs.lemmas.Result.{on_ok_weaker}
-use Rattle.vault.specs.Images.{Image, SameOn, Stands, recovered}
+use Rattle.vault.specs.Images.{Image, SameOn, Matches, recovered}
 use Rattle.vault.specs.Moments.{AreLogged, AreTorn, IsTorn, emptied}
 use Rattle.vault.specs.declared.store.Stop.{Stop}
 use Rattle.vault.proofs.Runs.{weaker, goes_on}
-use Rattle.vault.proofs.Writes.{front_torn, torn_stands, cleared_stands, front_empty}
+use Rattle.vault.proofs.Writes.{front_torn, torn_matches, cleared_matches, front_empty}
 use Rattle.vault.proofs.Carried.{same_more, kept, cause_later, cause_passed, if_err_of, on_ok_both, unless_journal, still_kept}
 use Rattle.vault.proofs.carry.settle.Goals as goal
 
@@ -18,8 +18,8 @@ returns-in_err-write_batches-clause-kept g c = λ known logged. if_err_of _ c.fr
 pub returns-in_err-write_batches-clause-any_moment : goal.returns-in_err-write_batches-clause-any_moment
 returns-in_err-write_batches-clause-any_moment g c = λ known logged stop.
     let base = g.V.Vault.seen c.args.vault.now in
-    weaker g.V.Vault.moment g.V.Vault.left_since stop c.args.vault.now c.write_batches.new.vault (IsTorn c.args.lost.now base) (Stands c.args.lost.now (recovered base))
-    ((c.write_batches.ensures.underway known).moments (start g.V.Vault.seen g.V.Vault.may_leave c.args.lost.now c.args.vault.now logged) stop) (λ i torn. torn_stands c.args.lost.now base i torn)
+    weaker g.V.Vault.moment g.V.Vault.left_since stop c.args.vault.now c.write_batches.new.vault (IsTorn c.args.lost.now base) (Matches c.args.lost.now (recovered base))
+    ((c.write_batches.ensures.underway known).moments (start g.V.Vault.seen g.V.Vault.may_leave c.args.lost.now c.args.vault.now logged) stop) (λ i torn. torn_matches c.args.lost.now base i torn)
 
 pub returns-in_err-write_batches-clause-cause : goal.returns-in_err-write_batches-clause-cause
 returns-in_err-write_batches-clause-cause g c = λ known.
@@ -38,8 +38,8 @@ returns-in_err-sync_units-clause-any_moment g c = λ known logged stop.
     let now = c.write_batches.ensures.stays known in
     let underway = same_more g.V.Vault.seen g.V.Vault.may_leave g.V.Vault.moment g.V.Vault.left_since c.args.lost.now c.args.vault.now c.write_batches.new.vault c.sync_units.new.self
     (c.write_batches.ensures.underway known) (c.sync_units.ensures.seen now) (c.sync_units.ensures.time now) in
-    weaker g.V.Vault.moment g.V.Vault.left_since stop c.args.vault.now c.sync_units.new.self (IsTorn c.args.lost.now base) (Stands c.args.lost.now (recovered base))
-    (underway.moments (start g.V.Vault.seen g.V.Vault.may_leave c.args.lost.now c.args.vault.now logged) stop) (λ i torn. torn_stands c.args.lost.now base i torn)
+    weaker g.V.Vault.moment g.V.Vault.left_since stop c.args.vault.now c.sync_units.new.self (IsTorn c.args.lost.now base) (Matches c.args.lost.now (recovered base))
+    (underway.moments (start g.V.Vault.seen g.V.Vault.may_leave c.args.lost.now c.args.vault.now logged) stop) (λ i torn. torn_matches c.args.lost.now base i torn)
 
 pub returns-in_err-sync_units-clause-cause : goal.returns-in_err-sync_units-clause-cause
 returns-in_err-sync_units-clause-cause g c = λ known.
@@ -88,9 +88,9 @@ returns-clause-any_moment g c = λ known logged stop.
     let synced = c.sync_units.ensures.stays now in
     let underway = same_more g.V.Vault.seen g.V.Vault.may_leave g.V.Vault.moment g.V.Vault.left_since c.args.lost.now c.args.vault.now c.write_batches.new.vault c.sync_units.new.self
     (c.write_batches.ensures.underway known) (c.sync_units.ensures.seen now) (c.sync_units.ensures.time now) in
-    goes_on g.V.Vault.moment g.V.Vault.left_since stop c.args.vault.now c.sync_units.new.self c.clear.new.self (Stands lost (recovered base)) (emptied (g.V.Vault.may_leave c.sync_units.new.self stop)) _
-    (weaker g.V.Vault.moment g.V.Vault.left_since stop c.args.vault.now c.sync_units.new.self (IsTorn lost base) (Stands lost (recovered base)) (underway.moments (start g.V.Vault.seen g.V.Vault.may_leave c.args.lost.now c.args.vault.now logged) stop) (λ i torn. torn_stands lost base i torn))
+    goes_on g.V.Vault.moment g.V.Vault.left_since stop c.args.vault.now c.sync_units.new.self c.clear.new.self (Matches lost (recovered base)) (emptied (g.V.Vault.may_leave c.sync_units.new.self stop)) _
+    (weaker g.V.Vault.moment g.V.Vault.left_since stop c.args.vault.now c.sync_units.new.self (IsTorn lost base) (Matches lost (recovered base)) (underway.moments (start g.V.Vault.seen g.V.Vault.may_leave c.args.lost.now c.args.vault.now logged) stop) (λ i torn. torn_matches lost base i torn))
     (c.clear.ensures.time synced stop)
-    (λ i from. cleared_stands lost base from.0 i
+    (λ i from. cleared_matches lost base from.0 i
     (λ x live. c.in_ok-sync_units.ensures.durable now stop from.0 from.1 x live ∙ c.in_ok-write_batches.ensures.written known x live)
     (underway.leaves (start g.V.Vault.seen g.V.Vault.may_leave c.args.lost.now c.args.vault.now logged) stop from.0 from.1).journal from.2)

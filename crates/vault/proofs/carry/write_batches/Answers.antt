@@ -1,6 +1,6 @@
 use Rattle.std.proofs.Common.{rules, ◌∙◌}
 use Rattle.std.proofs.lemmas.Result.{on_ok_weaker}
-use Rattle.vault.proofs.Writes.{torn_stands}
+use Rattle.vault.proofs.Writes.{torn_matches}
 use Rattle.vault.proofs.Carried.{both_more, cause_later, cause_passed}
 use Rattle.vault.proofs.carry.write_batches.Goals as goal
 
@@ -16,7 +16,7 @@ returns-clause-underway g c = λ known.
 pub returns-clause-written : goal.returns-clause-written
 returns-clause-written g c = λ known.
     on_ok_weaker c.write_all.result
-    (λ same x live. same x live ∙ torn_stands c.args.lost.now (g.V.Vault.seen c.args.vault.now) (g.V.Vault.seen c.write_last.new.vault) (c.write_last.ensures.underway known).finds x live)
+    (λ same x live. same x live ∙ torn_matches c.args.lost.now (g.V.Vault.seen c.args.vault.now) (g.V.Vault.seen c.write_last.new.vault) (c.write_last.ensures.underway known).finds x live)
     (c.write_all.ensures.written (c.write_last.ensures.stays known))
 
 pub returns-clause-cause : goal.returns-clause-cause

@@ -1,5 +1,5 @@
 use Rattle.std.proofs.Common.{◌≡◌, ◌+◌, ◌-◌, ◌++◌, ◌∷◌, suc, drop, rules, sym, ◌∙◌, ap, subst, arith}
-use Rattle.extent_groups.specs.Planned.{Wanted, after}
+use Rattle.extent_groups.specs.Planned.{Intended, after}
 use Rattle.vault.specs.Images.{Image, SameOn, flat}
 use Rattle.vault.specs.Marks.{HasPlaces}
 use Rattle.vault.specs.Moments.{IsWrittenTo}
@@ -39,7 +39,7 @@ loop-done-preserved g c = record {
       let count = c.len-count.result in
       let done = c.loop-done.done in
       let low = c.loop-done-test.true in
-      let w : Wanted = record { place = c.place.result; unit = c.unit.result.now } in
+      let w : Intended = record { place = c.place.result; unit = c.unit.result.now } in
       let before = c.loop-done.invariant.written known base later are so_far in
       let here : count - (done + 1) ≡ count - 1 - done = omega (arith, low) in
       let next : suc (count - 1 - done) ≡ count - done = omega (arith, low) in

@@ -1,11 +1,11 @@
 use Rattle.std.proofs.Common.{[], ◌∷◌, ◌++◌, length, ap, arith, length-append, subst, sym}
 use Rattle.std.proofs.lemmas.Result.{on_ok_weaker}
 use Rattle.vault.specs.Images.{with_journal}
-use Rattle.vault.specs.Moments.{IsFront, StandsForSome}
+use Rattle.vault.specs.Moments.{IsFront, RepresentsSome}
 use Rattle.vault.specs.declared.store.Stop.TheVariants.{Killed}
 use Rattle.vault.proofs.Carried.{on_ok_both}
 use Rattle.vault.proofs.Runs.{one_call}
-use Rattle.vault.proofs.Writes.{appended, appended_whole, front_alike, front_more, front_stands}
+use Rattle.vault.proofs.Writes.{appended, appended_whole, front_alike, front_more, front_matches}
 use Rattle.vault.proofs.commit.add.Goals as goal
 
 pub returns-clause-added : goal.returns-clause-added
@@ -35,7 +35,7 @@ returns-clause-any_moment g c = λ known lost stop low is.
     let base = g.V.Vault.seen c.args.vault.now in
     let writes = c.args.batch.now in
     let longer = with_journal base (base.journal ++ writes ∷ []) in
-    one_call g.V.Vault.moment g.V.Vault.left_since stop c.args.vault.now c.append.new.self (StandsForSome lost base.cells low (base.journal ++ writes ∷ []))
+    one_call g.V.Vault.moment g.V.Vault.left_since stop c.args.vault.now c.append.new.self (RepresentsSome lost base.cells low (base.journal ++ writes ∷ []))
     (g.V.Vault.may_leave c.args.vault.now stop) _ _ (g.met.V.Vault.only_now c.args.vault.now known stop) (c.append.ensures.time known stop)
-    (λ i was. front_stands lost longer i low (front_more lost base i writes low is.flushed (is.leaves i was)))
-    (λ i now. front_stands lost longer i low (appended lost base i writes low (g.V.Vault.may_leave c.args.vault.now stop) is.flushed is.leaves now))
+    (λ i was. front_matches lost longer i low (front_more lost base i writes low is.flushed (is.leaves i was)))
+    (λ i now. front_matches lost longer i low (appended lost base i writes low (g.V.Vault.may_leave c.args.vault.now stop) is.flushed is.leaves now))

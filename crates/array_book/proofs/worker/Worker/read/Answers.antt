@@ -1,8 +1,8 @@
 use Rattle.std.proofs.Common.{◌≡◌, rules, subst}
-use Rattle.step_core.specs.Told.{Lesson}
+use Rattle.step_core.specs.Reported.{Lesson}
 use Rattle.map_join.specs.declared.records.Record.{Record}
-use Rattle.array_book.specs.Takes.{taker_of, IsTold, Learnt}
-use Rattle.array_book.proofs.Telling.{told_is}
+use Rattle.array_book.specs.Takes.{taker_of, IsReadRecord, Learnt}
+use Rattle.array_book.proofs.Telling.{reported_is}
 use Rattle.array_book.proofs.worker.Worker.read.Goals as goal
 
 pub returns-in-Ok-clause-some : goal.returns-in-Ok-clause-some
@@ -12,17 +12,17 @@ returns-in-Ok-clause-some g c reading is =
     let after = taker_of c.args.controller c.learn.new.self.even c.learn.new.self.odd in
     let found = c.in-Some.found in
     let same : c.in-Ok.reading ≡ reading = search rules in
-    let told : c.record.result ≡ c.in-Ok.reading.told = cc in
-    let learned = subst (λ (r : Record). Learnt r found between after) told c.learn.ensures.learnt in
-    subst (λ (l : Lesson). IsTold before c.args.block after l.told) same
-    (told_is before between after c.args.block found c.in-Ok.reading.told (search rules) (search rules) (search rules)
+    let reported : c.record.result ≡ c.in-Ok.reading.reported = cc in
+    let learned = subst (λ (r : Record). Learnt r found between after) reported c.learn.ensures.learnt in
+    subst (λ (l : Lesson). IsReadRecord before c.args.block after l.reported) same
+    (reported_is before between after c.args.block found c.in-Ok.reading.reported (search rules) (search rules) (search rules)
     (search rules) (search rules) learned)
 
 pub returns-in-Ok-clause-called : goal.returns-in-Ok-clause-called
 returns-in-Ok-clause-called g c =
     let between = taker_of c.args.controller c.find.new.self.even c.find.new.self.odd in
     let after = taker_of c.args.controller c.learn.new.self.even c.learn.new.self.odd in
-    let told : c.record.result ≡ c.in-Ok.reading.told = cc in
+    let reported : c.record.result ≡ c.in-Ok.reading.reported = cc in
     record {
       found = c.in-Some.found;
       between = between;
@@ -30,7 +30,7 @@ returns-in-Ok-clause-called g c =
       written = search rules;
       asked = search rules;
       learned = search rules;
-      learnt = subst (λ (r : Record). Learnt r c.in-Some.found between after) told c.learn.ensures.learnt;
+      learnt = subst (λ (r : Record). Learnt r c.in-Some.found between after) reported c.learn.ensures.learnt;
     }
 
 pub returns-in-Err-clause-called : goal.returns-in-Err-clause-called
@@ -39,6 +39,6 @@ returns-in-Err-clause-called g c = record {
   of = search rules;
   asked = search rules;
   why = c.in-Err.refusal;
-  told_is = search rules;
+  reported_is = search rules;
   noted = search rules;
 }

@@ -1,7 +1,7 @@
 use Rattle.std.proofs.Common.{ℕ, List, [], false, sym, subst, refl}
 use Rattle.std.specs.Prelude.{Contains}
 use Rattle.history.specs.Entries.{entry}
-use Rattle.cached_drive.specs.Saving.{AreMarked, AreSaved, last_of}
+use Rattle.cached_drive.specs.Saving.{AreDirtyMarks, AreSaved, last_of}
 use Rattle.cached_drive.proofs.Bringing.{saved_now}
 use Rattle.cached_drive.proofs.Marking.{is_listed, none_marked}
 use Rattle.cached_drive.proofs.drive.CachedDrive.save.Goals as goal
@@ -24,4 +24,4 @@ unmark_all-requires g c at mark =
 
 pub invariant_of-self-2-clause-marked : goal.invariant_of-self-2-clause-marked
 invariant_of-self-2-clause-marked g c =
-    subst (AreMarked c.unmark_all.new.marks.items) (sym c.clear.ensures.items) (none_marked c.unmark_all.new.marks.items c.unmark_all.ensures)
+    subst (AreDirtyMarks c.unmark_all.new.marks.items) (sym c.clear.ensures.items) (none_marked c.unmark_all.new.marks.items c.unmark_all.ensures)

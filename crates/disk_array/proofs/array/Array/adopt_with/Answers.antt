@@ -1,7 +1,7 @@
 use Rattle.std.proofs.Common.{◌≤◌, length, sym, ◌∙◌, arith}
 use Rattle.std.proofs.lemmas.List.{length-map}
 use Rattle.map_join.specs.Maps.{at}
-use Rattle.array_parts.specs.Views.{drive_view, view_of}
+use Rattle.unit_store.specs.Views.{drive_view, view_of}
 use Rattle.slot_tables.proofs.Adopting.{adopted_shows}
 use Rattle.disk_array.specs.Inside.{seen}
 use Rattle.slot_tables.proofs.Places.{none_kept}
@@ -18,7 +18,7 @@ pub seat_all-requires-clause-claims : goal.seat_all-requires-clause-claims
 seat_all-requires-clause-claims g c = free_of g.C.Hold.names c.in-Ok.ready.room.places.items c.in-Ok.ensures.ok.room.free
 
 pub seat_all-requires-clause-many : goal.seat_all-requires-clause-many
-seat_all-requires-clause-many g c = c.in-Ok.ready.wanted.ok.0 ∙ c.in-Ok.ensures.ok.wanted.many
+seat_all-requires-clause-many g c = c.in-Ok.ready.expected.ok.0 ∙ c.in-Ok.ensures.ok.expected.many
 
 pub seat_all-requires-clause-most : goal.seat_all-requires-clause-most
 seat_all-requires-clause-most g c = c.in-Ok.ensures.ok.places.most
@@ -45,9 +45,9 @@ returns-in-Ok-clause-ok g c =
     is_adopted d.units d.lost d.failures g.C.Hold.names c.args.parts (at c.args.map) c.deref.result.now c.in-Ok.ready c.seat_all.new.places c.counted-live.result c.args.buffers c.requires.places c.in-Ok.ensures.ok c.seat_all.ensures.kept
 
 pub returns-in-Ok-clause-flat : goal.returns-in-Ok-clause-flat
-returns-in-Ok-clause-flat g c F has tells =
+returns-in-Ok-clause-flat g c F has reports =
     let d = g.D.Drive in
     let many = sym (length-map c.args.parts.drives.items (drive_view d.units d.lost d.failures)) in
     adopted_shows (view_of d.units d.lost d.failures c.args.parts) (at c.args.map) (seen d.units d.lost d.failures (adopted c.args.parts c.in-Ok.ready c.seat_all.new.places c.counted-live.result c.args.buffers)) F
     (is_adopted d.units d.lost d.failures g.C.Hold.names c.args.parts (at c.args.map) c.deref.result.now c.in-Ok.ready c.seat_all.new.places c.counted-live.result c.args.buffers c.requires.places c.in-Ok.ensures.ok c.seat_all.ensures.kept)
-    c.requires.places (fit_parts d.units d.lost d.failures c.args.parts c.requires.fit) (rw (sym many) c.requires.fit.least) (rw (sym many) c.requires.fit.most) has tells
+    c.requires.places (fit_parts d.units d.lost d.failures c.args.parts c.requires.fit) (rw (sym many) c.requires.fit.least) (rw (sym many) c.requires.fit.most) has reports

@@ -1,5 +1,5 @@
-use Rattle.array_parts.proofs.Views.{view_drives}
-use Rattle.array_parts.specs.Views.{view_of}
+use Rattle.unit_store.proofs.Views.{view_drives}
+use Rattle.unit_store.specs.Views.{view_of}
 use Rattle.disk_array.specs.Inside.{seen}
 use Rattle.disk_array.proofs.Ready.{parts_ready}
 use Rattle.disk_array.proofs.Regrouping.{grown_whole, grown_groups}

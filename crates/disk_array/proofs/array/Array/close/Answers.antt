@@ -2,11 +2,11 @@ use Rattle.std.proofs.Common.{subst, sym, ◌∙◌, arith}
 use Rattle.slot_tables.specs.Changes.{IsClosed}
 use Rattle.slot_tables.specs.Views.{ArrayView}
 use Rattle.slot_tables.proofs.Unmaking.{unmade_whole}
-use Rattle.array_parts.proofs.Views.{view_drives}
-use Rattle.array_parts.specs.Views.{view_of}
+use Rattle.unit_store.proofs.Views.{view_drives}
+use Rattle.unit_store.specs.Views.{view_of}
 use Rattle.disk_array.specs.Inside.{seen}
 use Rattle.slot_tables.specs.Kept.{kepts_of}
-use Rattle.slot_tables.specs.Shut.{CanUnmake, count_in}
+use Rattle.slot_tables.specs.Shut.{CanUnmake, slots_in_group}
 use Rattle.slot_tables.proofs.Places.{places_many}
 use Rattle.slot_tables.proofs.Shutting.{at_most_one, free_kept, closed_number, counts_closed, of_first, first_one}
 use Rattle.disk_array.proofs.Ready.{taken_ready}
@@ -21,14 +21,14 @@ close_all-requires-clause-inside g c slot some =
     let can : CanUnmake g.C.Hold.names now c.args.group c.args.claims.items = subst (λ (v : ArrayView). CanUnmake g.C.Hold.names v c.args.group c.args.claims.items) (sym c.self.view_is) c.requires in
     let enough = c.self.invariant.2.places.made c.args.group can.made in
     let all = can.all slot in
-    let here = (of_first c.args.group (count_in now c.args.group) slot (first_one c.args.group (count_in now c.args.group) slot (omega (arith, some, all)))).0 in
+    let here = (of_first c.args.group (slots_in_group now c.args.group) slot (first_one c.args.group (slots_in_group now c.args.group) slot (omega (arith, some, all)))).0 in
     omega (arith, enough, here)
 
 pub returns-clause-closed : goal.returns-clause-closed
 returns-clause-closed g c =
     let now = seen g.D.Drive.units g.D.Drive.lost g.D.Drive.failures c.self.inside in
     let can : CanUnmake g.C.Hold.names now c.args.group c.args.claims.items = subst (λ (v : ArrayView). CanUnmake g.C.Hold.names v c.args.group c.args.claims.items) (sym c.self.view_is) c.requires in
-    subst (λ (v : ArrayView). IsClosed c.args.group (count_in v c.args.group) v.kept (kepts_of c.close_all.new.places.items)) c.self.view_is
+    subst (λ (v : ArrayView). IsClosed c.args.group (slots_in_group v c.args.group) v.kept (kepts_of c.close_all.new.places.items)) c.self.view_is
     (closed_number g.C.Hold.names now c.args.group c.args.claims.items now.kept (kepts_of c.close_all.new.places.items) can
     (places_many c.close_all.new.places (let same = c.close_all.ensures.room in let most = c.self.invariant.2.places.most in omega (arith, same, most)) ∙ sym c.self.invariant.0.room.kept) c.close_all.ensures.closed)
 

@@ -5,15 +5,15 @@ use Rattle.extents.specs.declared.header.Header.TheVariants.{Is}
 use Rattle.extents.specs.Header.{IsHeader}
 use Rattle.flat_machine.specs.Flat.{Flat}
 use Rattle.flat_machine.specs.Steps.{Commit, Committed, Refused}
-use Rattle.flat_machine.specs.Cases.{CommitCase, IsWanted}
-use Rattle.array_parts.specs.Slots.{IsSlot}
-use Rattle.array_parts.specs.Views.{view_of, FoundGone, WasCarried}
+use Rattle.flat_machine.specs.Cases.{CommitCase, IsAllocating}
+use Rattle.unit_store.specs.Slots.{IsSlot}
+use Rattle.unit_store.specs.Views.{view_of, FoundGone, WasCarried}
 use Rattle.slot_tables.specs.Changes.{commit_view, commit_record, commit_reason, kind_given}
 use Rattle.slot_tables.specs.Represents.{ShowsArray}
 use Rattle.slot_tables.specs.Views.{ArrayView, IsWhole, Nothing, is_waiting, kept_at, key_at, with_parts}
 use Rattle.slot_tables.proofs.Fills.{as_whole, as_shown}
 use Rattle.slot_tables.proofs.Commits.{commit_whole, old_found, passed_apart}
-use Rattle.slot_tables.proofs.Committing.{commit_case, commit_gone, commit_refused, commit_slot, commit_waits, commit_wants, commit_ok}
+use Rattle.slot_tables.proofs.Committing.{commit_case, commit_gone, commit_refused, commit_slot, commit_waits, commit_needs, commit_ok}
 use Rattle.disk_array.specs.Inside.{seen}
 use Rattle.disk_array.proofs.Ready.{as_many, either_way, Keeps, keeps, uncarried_keeps, carried_gone, still_whole, still_ready, as_refused}
 use Rattle.disk_array.proofs.array.Array.commit.Goals as goal
@@ -24,7 +24,7 @@ returns-in-Err-clause-flat g c F w shows mine =
 
 pub returns-then-is_err-clause-flat : goal.returns-then-is_err-clause-flat
 returns-then-is_err-clause-flat g c F w shows mine =
-    commit_wants c.args.self.now F w c.args.ticket c.args.block (subst IsWhole c.self.view_is c.self.invariant.0) (search rules) shows mine
+    commit_needs c.args.self.now F w c.args.ticket c.args.block (subst IsWhole c.self.view_is c.self.invariant.0) (search rules) shows mine
 
 pub carry-requires-clause-from : goal.carry-requires-clause-from
 carry-requires-clause-from g c =
@@ -64,7 +64,7 @@ returns-in-Err-carry-clause-flat g c F w shows mine =
     subst (λ n. FoundGone c.args.self.now.parts b n q) c.slot-slot.ensures
     (subst (λ (v : ArrayView). FoundGone v.parts b c.slot-slot.result q) c.self.view_is (carried_gone now.parts b c.slot-slot.result q c.in-Err-carry.ensures.err))
     in
-    as_refused q (IsWanted F (Commit w s c.args.block)) (λ G. CommitCase F w s c.args.block (Refused q) G) _ (with_parts c.args.self.now b)
+    as_refused q (IsAllocating F (Commit w s c.args.block)) (λ G. CommitCase F w s c.args.block (Refused q) G) _ (with_parts c.args.self.now b)
     (ap (λ l. record now { parts = b; log = l }) c.reserve.ensures.items ∙ ap (λ (v : ArrayView). with_parts v b) c.self.view_is)
     (commit_gone c.args.self.now b F w s c.args.block q (subst IsWhole c.self.view_is c.self.invariant.0) (search rules) gone shows mine)
 

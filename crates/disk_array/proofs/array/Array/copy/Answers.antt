@@ -8,9 +8,9 @@ use Rattle.flat_machine.specs.Cases.{CopyCase, CopyPasses}
 use Rattle.extent_groups.specs.Groups.{Groups}
 use Rattle.flat_machine.specs.Groups.{class_at}
 use Rattle.slot_tables.proofs.Placing.{placed_slot}
-use Rattle.array_parts.specs.Slots.{IsSlot}
-use Rattle.array_parts.specs.Views.{view_of, WasCopied, WasNotCarried}
-use Rattle.array_parts.proofs.Views.{view_drives}
+use Rattle.unit_store.specs.Slots.{IsSlot}
+use Rattle.unit_store.specs.Views.{view_of, WasCopied, WasNotCarried}
+use Rattle.unit_store.proofs.Views.{view_drives}
 use Rattle.slot_tables.specs.Changes.{copy_view}
 use Rattle.slot_tables.specs.Views.{ArrayView, Moving, Nothing, kept_at, key_at, with_parts}
 use Rattle.slot_tables.proofs.Fills.{as_whole, as_shown}
@@ -18,8 +18,8 @@ use Rattle.slot_tables.proofs.Finds.{read_slot}
 use Rattle.slot_tables.proofs.Copies.{CanCopy, can_copy, copy_slot, copy_case, copy_gone, copy_refused, copy_whole}
 use Rattle.slot_tables.specs.Counted.{is_newest}
 use Rattle.disk_array.specs.Inside.{seen}
-use Rattle.disk_array.proofs.Ready.{either_way, Keeps, keeps, uncarried_keeps, still_ready, still_stands, slot_ready, as_refused}
-use Rattle.disk_array.proofs.Refusing.{uncarried_told, uncopied_told}
+use Rattle.disk_array.proofs.Ready.{either_way, Keeps, keeps, uncarried_keeps, still_ready, still_matches, slot_ready, as_refused}
+use Rattle.disk_array.proofs.Refusing.{uncarried_reported, uncopied_reported}
 use Rattle.disk_array.proofs.array.Array.copy.Goals as goal
 
 pub returns-in-Err-clause-flat : goal.returns-in-Err-clause-flat
@@ -30,7 +30,7 @@ returns-in-Err-clause-flat g c F w shows held =
 pub copy-requires-clause-from : goal.copy-requires-clause-from
 copy-requires-clause-from g c =
     subst (λ (v : ArrayView). IsSlot v.parts.groups c.in-Ok.source.place) (sym c.self.view_is)
-    (read_slot c.args.self.now c.args.block c.in-Ok.source c.told.ensures.whole (sym c.told.ensures.value ∙ c.in-Ok.ensures.ok.1))
+    (read_slot c.args.self.now c.args.block c.in-Ok.source c.reported.ensures.whole (sym c.reported.ensures.value ∙ c.in-Ok.ensures.ok.1))
 
 pub copy-requires-clause-to : goal.copy-requires-clause-to
 copy-requires-clause-to g c =
@@ -43,7 +43,7 @@ invariant_of-self g c =
     let a = view_of d.units d.lost d.failures c.self.inside.parts in
     let b = view_of d.units d.lost d.failures c.copy.new.self in
     let same : Keeps a b = either_way {P = Keeps a b} c.copy.result (λ x w. keeps a b w.fares w.rest) (λ q e. uncarried_keeps a b _ _ q e) c.copy.ensures.ok c.copy.ensures.err in
-    still_stands d.units d.lost d.failures c.self.inside c.copy.new.self _ _ same c.copy.ensures.fit c.self.invariant
+    still_matches d.units d.lost d.failures c.self.inside c.copy.new.self _ _ same c.copy.ensures.fit c.self.invariant
 
 pub returns-in-Err-copy-clause-flat : goal.returns-in-Err-copy-clause-flat
 returns-in-Err-copy-clause-flat g c F w shows held =
@@ -56,7 +56,7 @@ returns-in-Err-copy-clause-flat g c F w shows held =
     (subst (λ (v : ArrayView). WasNotCarried v.parts b c.in-Ok.source.place c.slot-slot.result q) c.self.view_is c.in-Err-copy.ensures.err)
     in
     as_refused q ((r : Record) × CopyPasses F w s c.args.block r) (λ G. CopyCase F w s c.args.block (Refused q) G) _ (with_parts c.args.self.now b) (ap (λ (v : ArrayView). with_parts v b) c.self.view_is)
-    (copy_gone c.args.self.now b F w s c.args.block c.in-Ok.source q (sym c.told.ensures.value ∙ c.in-Ok.ensures.ok.1) (search rules) missed shows held)
+    (copy_gone c.args.self.now b F w s c.args.block c.in-Ok.source q (sym c.reported.ensures.value ∙ c.in-Ok.ensures.ok.1) (search rules) missed shows held)
 
 pub put_in-requires-clause-inside : goal.put_in-requires-clause-inside
 put_in-requires-clause-inside g c =
@@ -87,7 +87,7 @@ invariant_of-self-2 g c =
     subst (λ (v : ArrayView). WasCopied v.parts b c.in-Ok.source.place s k) c.self.view_is c.in-Ok-copy.ensures.ok
     in (
       as_whole _ (copy_view (with_parts c.args.self.now b) s c.in-Ok.source k) (search rules)
-          (copy_whole c.args.self.now b s c.in-Ok.source k (search rules) was (search rules) (view_drives d.units d.lost d.failures p c.copy.ensures.fit.drives) c.told.ensures.whole),
+          (copy_whole c.args.self.now b s c.in-Ok.source k (search rules) was (search rules) (view_drives d.units d.lost d.failures p c.copy.ensures.fit.drives) c.reported.ensures.whole),
       c.put_in.ensures.claims,
       slot_ready d.units (record a { parts = p; unit = with_items a.unit c.copy.new.unit; scratch = with_items a.scratch c.copy.new.scratch }) c.put_in.new.places s (Moving c.in-Ok.source k) c.put_in.ensures.room
           c.put_in.ensures.kept c.self.invariant.0.room.kept (search rules) (ap is_newest free) refl ready,
@@ -105,15 +105,15 @@ returns-clause-flat g c F w shows held =
     subst (λ n. WasCopied c.args.self.now.parts b r.place n k) (sym c.of.ensures) (subst (λ (v : ArrayView). WasCopied v.parts b r.place c.slot-slot.result k) c.self.view_is c.in-Ok-copy.ensures.ok)
     in
     as_shown (λ G. CopyCase F w s c.args.block (Copied s) G) _ (copy_view (with_parts c.args.self.now b) s r k) (search rules)
-    (copy_case c.args.self.now b F w s c.args.block r k (search rules) (search rules) (sym c.told.ensures.value ∙ c.in-Ok.ensures.ok.1) was (search rules)
-    c.told.ensures.whole shows (ap (λ n. F.held n (Worker w)) is ∙ held))
+    (copy_case c.args.self.now b F w s c.args.block r k (search rules) (search rules) (sym c.reported.ensures.value ∙ c.in-Ok.ensures.ok.1) was (search rules)
+    c.reported.ensures.whole shows (ap (λ n. F.held n (Worker w)) is ∙ held))
 
 pub returns-clause-ticket : goal.returns-clause-ticket
 returns-clause-ticket g c = search rules
 
 pub returns-in-Err-clause-memory : goal.returns-in-Err-clause-memory
 returns-in-Err-clause-memory g c =
-    uncopied_told c.args.self.now (g.C.Hold.names c.args.claim) (record_at c.args.block (key_at c.args.self.now c.args.block)) c.in-Err.refusal (search rules)
+    uncopied_reported c.args.self.now (g.C.Hold.names c.args.claim) (record_at c.args.block (key_at c.args.self.now c.args.block)) c.in-Err.refusal (search rules)
 
 pub returns-in-Err-copy-clause-memory : goal.returns-in-Err-copy-clause-memory
-returns-in-Err-copy-clause-memory g c = uncarried_told _ _ _ _ c.in-Err-copy.refusal c.in-Err-copy.ensures.err
+returns-in-Err-copy-clause-memory g c = uncarried_reported _ _ _ _ c.in-Err-copy.refusal c.in-Err-copy.ensures.err

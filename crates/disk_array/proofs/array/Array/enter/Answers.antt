@@ -2,8 +2,8 @@ use Rattle.std.proofs.Common.{◌∙◌, ap, get_or, sym, subst, vec_len, None}
 use Rattle.extent_groups.specs.Groups.{Groups}
 use Rattle.extent_groups.specs.Stores.{unit_bytes}
 use Rattle.flat_machine.specs.Groups.{IsLowestFree}
-use Rattle.array_parts.proofs.Views.{view_drives}
-use Rattle.array_parts.specs.Views.{view_of}
+use Rattle.unit_store.proofs.Views.{view_drives}
+use Rattle.unit_store.specs.Views.{view_of}
 use Rattle.slot_tables.specs.Changes.{IsOpened, opened_view}
 use Rattle.slot_tables.specs.Making.{IsMakeReason}
 use Rattle.slot_tables.specs.Views.{ArrayView, Nothing}

@@ -4,14 +4,14 @@ use Rattle.extents.specs.declared.header.Kind.TheVariants as kind
 use Rattle.flat_machine.specs.Flat.{Worker, Payload, waiting_unit}
 use Rattle.flat_machine.specs.Steps.{Filled, Refused}
 use Rattle.flat_machine.specs.Cases.{FillCase, FillPasses}
-use Rattle.array_parts.specs.Slots.{IsSlot}
-use Rattle.array_parts.specs.Views.{view_of, FoundGone, WasPut}
-use Rattle.array_parts.proofs.Views.{view_drives}
+use Rattle.unit_store.specs.Slots.{IsSlot}
+use Rattle.unit_store.specs.Views.{view_of, FoundGone, WasPut}
+use Rattle.unit_store.proofs.Views.{view_drives}
 use Rattle.slot_tables.specs.Changes.{fill_view}
 use Rattle.slot_tables.specs.Views.{ArrayView, IsWhole, Pending, with_parts}
 use Rattle.slot_tables.proofs.Fills.{fill_slot, fill_case, fill_gone, fill_refused, fill_whole, as_whole, as_shown}
-use Rattle.disk_array.proofs.Ready.{either_way, Keeps, keeps, gone_keeps, still_ready, still_stands, slot_ready, as_refused}
-use Rattle.disk_array.proofs.Refusing.{gone_told, unfilled_told}
+use Rattle.disk_array.proofs.Ready.{either_way, Keeps, keeps, gone_keeps, still_ready, still_matches, slot_ready, as_refused}
+use Rattle.disk_array.proofs.Refusing.{gone_reported, unfilled_reported}
 use Rattle.disk_array.proofs.array.Array.fill.Goals as goal
 
 pub returns-in-Some-clause-flat : goal.returns-in-Some-clause-flat
@@ -28,7 +28,7 @@ invariant_of-self g c =
     let a = view_of d.units d.lost d.failures c.self.inside.parts in
     let b = view_of d.units d.lost d.failures c.put.new.self in
     let same : Keeps a b = either_way {P = Keeps a b} c.put.result (λ x w. keeps a b w.fares w.rest) (λ q e. gone_keeps a b _ q e) c.put.ensures.ok c.put.ensures.err in
-    still_stands d.units d.lost d.failures c.self.inside c.put.new.self _ _ same c.put.ensures.fit c.self.invariant
+    still_matches d.units d.lost d.failures c.self.inside c.put.new.self _ _ same c.put.ensures.fit c.self.invariant
 
 pub returns-in-Err-clause-flat : goal.returns-in-Err-clause-flat
 returns-in-Err-clause-flat g c F w shows held =
@@ -74,7 +74,7 @@ pub returns-clause-ticket : goal.returns-clause-ticket
 returns-clause-ticket g c = search rules
 
 pub returns-in-Some-clause-memory : goal.returns-in-Some-clause-memory
-returns-in-Some-clause-memory g c = unfilled_told c.args.self.now (g.C.Hold.names c.args.claim) c.in-Some.refusal (search rules)
+returns-in-Some-clause-memory g c = unfilled_reported c.args.self.now (g.C.Hold.names c.args.claim) c.in-Some.refusal (search rules)
 
 pub returns-in-Err-clause-memory : goal.returns-in-Err-clause-memory
-returns-in-Err-clause-memory g c = gone_told _ _ _ c.in-Err.refusal c.in-Err.ensures.err
+returns-in-Err-clause-memory g c = gone_reported _ _ _ c.in-Err.refusal c.in-Err.ensures.err

@@ -1,17 +1,17 @@
 use Rattle.std.proofs.Common.{◌≡◌, ◌+◌, ◌*◌, sym, subst, None}
 use Rattle.extent_groups.specs.Cells.{Cells}
 use Rattle.extent_groups.specs.Stores.{unit_of, AreHeaders, AreSound}
-use Rattle.array_parts.specs.Views.{cells_of}
-use Rattle.array_parts.proofs.Views.{view_cells}
+use Rattle.unit_store.specs.Views.{drive_cells}
+use Rattle.unit_store.proofs.Views.{view_cells}
 use Rattle.slot_tables.specs.Views.{ArrayView}
-use Rattle.disk_array.proofs.UnitReads.{only_loses, units_kept, still_sound, read_stands}
+use Rattle.disk_array.proofs.UnitReads.{only_loses, units_kept, still_sound, read_matches}
 use Rattle.disk_array.proofs.array.Array.headers_at.Goals as goal
 
 pub returns-clause-read : goal.returns-clause-read
 returns-clause-read g c =
     let d = g.D.Drive in
     let p = c.self.inside.parts in
-    subst (λ (v : ArrayView). AreSound v.parts.groups (cells_of v.parts) → AreHeaders v.parts.groups (cells_of v.parts) c.args.group c.read_headers.result c.read_headers.new.headers) c.self.view_is
+    subst (λ (v : ArrayView). AreSound v.parts.groups (drive_cells v.parts) → AreHeaders v.parts.groups (drive_cells v.parts) c.args.group c.read_headers.result c.read_headers.new.headers) c.self.view_is
     (λ sound. subst (λ (x : Cells). AreHeaders p.groups x c.args.group c.read_headers.result c.read_headers.new.headers) (sym (view_cells d.units d.lost d.failures p))
     (c.read_headers.ensures.read (subst (AreSound p.groups) (view_cells d.units d.lost d.failures p) sound)))
 
@@ -43,4 +43,4 @@ pub invariant_of-self : goal.invariant_of-self
 invariant_of-self g c =
     let d = g.D.Drive in
     let e = c.read_headers.ensures in
-    read_stands d.units d.lost d.failures c.self.inside c.read_headers.new.self e.only e.fares e.units e.sound c.read_headers.new.scratch e.fit c.self.invariant
+    read_matches d.units d.lost d.failures c.self.inside c.read_headers.new.self e.only e.fares e.units e.sound c.read_headers.new.scratch e.fit c.self.invariant

@@ -1,8 +1,8 @@
 use Rattle.std.proofs.Common.{◌≡◌, subst, ap}
-use Rattle.array_parts.specs.Views.{PartsView, view_of}
+use Rattle.unit_store.specs.Views.{PartsView, view_of}
 use Rattle.slot_tables.specs.Views.{ArrayView}
 use Rattle.disk_array.specs.Losing.{WasLost}
-use Rattle.disk_array.proofs.Pulled.{was_lost, drive_below, still_stands}
+use Rattle.disk_array.proofs.Pulled.{was_lost, drive_below, still_matches}
 use Rattle.disk_array.proofs.array.Array.lose.Goals as goal
 
 pub invariant_of-self : goal.invariant_of-self
@@ -12,7 +12,7 @@ invariant_of-self g c =
     let was = was_lost g.D.Drive.units g.D.Drive.lost g.D.Drive.failures c.self.inside.parts c.lose.new.self c.args.drive e.lost within
     e.missing e.failures e.units e.sound e.tables
     in
-    still_stands g.D.Drive.units g.D.Drive.lost g.D.Drive.failures g.C.Hold.names c.self.inside c.lose.new.self (record { tables = was.rest; many = was.many }) e.fit c.self.invariant
+    still_matches g.D.Drive.units g.D.Drive.lost g.D.Drive.failures g.C.Hold.names c.self.inside c.lose.new.self (record { tables = was.rest; many = was.many }) e.fit c.self.invariant
 
 pub returns-clause-lost : goal.returns-clause-lost
 returns-clause-lost g c =

@@ -1,5 +1,5 @@
 use Rattle.std.proofs.Common.{◌≡◌, ℕ, ◌<◌, length, get_or, true}
-use Rattle.array_parts.specs.Views.{lost_of}
+use Rattle.unit_store.specs.Views.{lost_of}
 use Rattle.disk_array.proofs.array.Array.lost.Given as goal
 
 abbrev pub invariant-loop-drive : goal.invariant-loop-drive

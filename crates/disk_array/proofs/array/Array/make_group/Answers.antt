@@ -1,11 +1,11 @@
 use Rattle.std.proofs.Common.{◌≡◌, ◌⊎◌, List, subst, sym, rules, None}
 use Rattle.extent_groups.specs.declared.class.Member.{Member}
 use Rattle.extent_groups.specs.Groups.{AreThere}
-use Rattle.flat_machine.specs.Groups.{IsLowestFree, IsFull}
+use Rattle.flat_machine.specs.Groups.{IsLowestFree, IsTableFull}
 use Rattle.flat_machine.specs.declared.refusal.Refusal.TheVariants.{Memory}
 use Rattle.flat_machine.specs.Steps.{MadeGroup}
 use Rattle.flat_machine.specs.Cases.{MakeCase}
-use Rattle.array_parts.specs.Views.{Entered, FoundLost}
+use Rattle.unit_store.specs.Views.{Entered, FoundLost}
 use Rattle.slot_tables.specs.Making.{IsMakeReason}
 use Rattle.slot_tables.specs.Views.{ArrayView}
 use Rattle.slot_tables.proofs.Fills.{as_shown}
@@ -20,7 +20,7 @@ returns-in-Some-clause-flat g c F shows =
 pub returns-in_default-lowest_free-clause-flat : goal.returns-in_default-lowest_free-clause-flat
 returns-in_default-lowest_free-clause-flat g c F shows =
     make_full c.args.self.now F c.args.class c.args.members.now (subst (IsMakeReason c.args.self.now c.args.members.now) c.in_default.is c.make_fault.ensures.reason)
-    (subst (λ (v : ArrayView). IsFull v.parts.groups) c.self.view_is (c.lowest_free.ensures.none (search rules))) shows
+    (subst (λ (v : ArrayView). IsTableFull v.parts.groups) c.self.view_is (c.lowest_free.ensures.none (search rules))) shows
 
 pub returns-in-Err-clause-flat : goal.returns-in-Err-clause-flat
 returns-in-Err-clause-flat g c F shows =

@@ -1,7 +1,7 @@
 use Rattle.std.proofs.Common.{◌≤◌, sym, subst, rules}
 use Rattle.std.proofs.lemmas.List.{length-map}
-use Rattle.array_parts.specs.Views.{drive_view}
-use Rattle.array_parts.proofs.Views.{view_drives}
+use Rattle.unit_store.specs.Views.{drive_view}
+use Rattle.unit_store.proofs.Views.{view_drives}
 use Rattle.slot_tables.proofs.News.{new_whole, new_shows, shape_sizes}
 use Rattle.disk_array.proofs.News.{of_tables, is_new, is_ready, are_of}
 use Rattle.disk_array.proofs.array.Array.new.Goals as goal

@@ -9,10 +9,10 @@ use Rattle.flat_machine.specs.Flat.{kind_of, content_under}
 use Rattle.flat_machine.specs.Steps.{Fill, Filled, Refused}
 use Rattle.flat_machine.specs.Cases.{FillCase, FillPasses, next_version}
 use Rattle.flat_machine.proofs.Commits.{emitted_by}
-use Rattle.array_parts.specs.Slots.{IsSlot}
-use Rattle.array_parts.specs.Views.{PartsView, view_of, placed_unit, FoundGone, WasPut}
-use Rattle.array_parts.proofs.Views.{view_drives}
-use Rattle.slot_tables.specs.Changes.{fill_reason, fill_view, commit_view, passed, version_reason, IsPlaceOf}
+use Rattle.unit_store.specs.Slots.{IsSlot}
+use Rattle.unit_store.specs.Views.{PartsView, view_of, placed_unit, FoundGone, WasPut}
+use Rattle.unit_store.proofs.Views.{view_drives}
+use Rattle.slot_tables.specs.Changes.{fill_reason, fill_view, commit_view, without_old, version_reason, IsPlaceOf}
 use Rattle.slot_tables.specs.Views.{ArrayView, Nothing, Pending, Newest, kept_at, key_at, with_parts}
 use Rattle.slot_tables.specs.Kept.{kepts_of}
 use Rattle.slot_tables.proofs.AtOnce.{fresh_whole, fresh_at_once}
@@ -22,7 +22,7 @@ use Rattle.slot_tables.proofs.Placing.{placed_slot}
 use Rattle.disk_array.specs.Inside.{seen}
 use Rattle.disk_array.proofs.Placed.{shown, placed_is, as_put, kind_back}
 use Rattle.disk_array.proofs.Ready.{either_way, Keeps, keeps, gone_keeps, still_whole, still_ready, as_many, as_refused}
-use Rattle.disk_array.proofs.Refusing.{gone_told, unfilled_told}
+use Rattle.disk_array.proofs.Refusing.{gone_reported, unfilled_reported}
 use Rattle.disk_array.proofs.array.Array.place.Given as given
 use Rattle.disk_array.proofs.array.Array.place.Goals.{After-of}
 use Rattle.disk_array.proofs.array.Array.place.Goals as goal
@@ -79,7 +79,7 @@ keep_placed-old-requires-clause-free g c =
 pub keep_placed-old-requires-clause-newest : goal.keep_placed-old-requires-clause-newest
 keep_placed-old-requires-clause-newest g c x is =
     ap (λ (v : ArrayView). get_or v.kept x.place Nothing) c.self.view_is
-    ∙ place_kept c.args.self.now c.args.block c.told-found.ensures.whole x (sym c.told-found.ensures.value ∙ is)
+    ∙ place_kept c.args.self.now c.args.block c.reported-found.ensures.whole x (sym c.reported-found.ensures.value ∙ is)
 
 -- the record, what was written, and what the array shows then
 abbrev stamp : (g : given.Over) (c : After-of g) → Record
@@ -88,25 +88,25 @@ stamp g c = emitted_by c.args.block (g.C.Hold.names c.args.claim) (next_version 
 abbrev parts : (g : given.Over) (c : After-of g) → PartsView
 parts g c = view_of g.D.Drive.units g.D.Drive.lost g.D.Drive.failures c.put_placed.new.self
 
-told : (g : given.Over) (c : After-of g) → c.in-Some-fresh_record.stamp ≡ stamp g c
-told g c = c.in-Some-fresh_record.ensures.2 ∙ (λ i. emitted_by c.args.block (c.slot-slot.ensures i) (next_version (c.told-found.ensures.value i)) 0)
+reported : (g : given.Over) (c : After-of g) → c.in-Some-fresh_record.stamp ≡ stamp g c
+reported g c = c.in-Some-fresh_record.ensures.2 ∙ (λ i. emitted_by c.args.block (c.slot-slot.ensures i) (next_version (c.reported-found.ensures.value i)) 0)
 
 none : (g : given.Over) (c : After-of g) → fill_reason c.args.self.now (g.C.Hold.names c.args.claim) ≡ None
 none g c = search rules
 
 left : (g : given.Over) (c : After-of g) → version_reason (record_at c.args.block (key_at c.args.self.now c.args.block)) ≡ None
-left g c = ap version_reason (sym c.told-found.ensures.value) ∙ c.in-Some-fresh_record.ensures.0
+left g c = ap version_reason (sym c.reported-found.ensures.value) ∙ c.in-Some-fresh_record.ensures.0
 
 was : (g : given.Over) (c : After-of g)
     → WasPut c.args.self.now.parts (parts g c) (g.C.Hold.names c.args.claim) (placed_unit (stamp g c) c.args.self.now.parts.groups.payload (content_under c.args.kind c.args.payload.now))
 was g c =
     let x = content_under c.args.kind c.args.payload.now in
-    subst (λ r. WasPut c.args.self.now.parts (parts g c) (g.C.Hold.names c.args.claim) (placed_unit r c.args.self.now.parts.groups.payload x)) (told g c)
+    subst (λ r. WasPut c.args.self.now.parts (parts g c) (g.C.Hold.names c.args.claim) (placed_unit r c.args.self.now.parts.groups.payload x)) (reported g c)
     (subst (λ n. WasPut c.args.self.now.parts (parts g c) n (placed_unit c.in-Some-fresh_record.stamp c.args.self.now.parts.groups.payload x)) c.slot-slot.ensures
     (subst (λ (v : ArrayView). WasPut v.parts (parts g c) c.slot-slot.result (placed_unit c.in-Some-fresh_record.stamp v.parts.groups.payload x)) c.self.view_is c.in_default-put_placed.ensures.ok))
 
 apart : (g : given.Over) (c : After-of g) (q : Record) → record_at c.args.block (key_at c.args.self.now c.args.block) ≡ Some q → q.place ≡ g.C.Hold.names c.args.claim → ⊥
-apart g c = place_apart c.args.self.now (g.C.Hold.names c.args.claim) c.args.block c.told-found.ensures.whole (can_fill c.args.self.now _ (none g c)).free
+apart g c = place_apart c.args.self.now (g.C.Hold.names c.args.claim) c.args.block c.reported-found.ensures.whole (can_fill c.args.self.now _ (none g c)).free
 
 shows_then : (g : given.Over) (c : After-of g)
     → shown (parts g c) c.push_reserved.new.self.items (set c.self.inside.keys.items c.args.block c.key.result) (kepts_of c.keep_placed-old.new.places.items)
@@ -115,10 +115,10 @@ shows_then : (g : given.Over) (c : After-of g)
 shows_then g c =
     placed_is c.args.self.now (parts g c) (g.C.Hold.names c.args.claim) c.args.block (Pending c.args.kind) (record_at c.args.block (key_at c.args.self.now c.args.block)) (stamp g c) _ _ _
     (apart g c)
-    (c.push_reserved.ensures.items ∙ (λ i. (c.reserve.ensures.items ∙ ap (λ (v : ArrayView). v.log) c.self.view_is) i ++ (told g c i) ∷ []))
-    (λ i. set (c.self.view_is i).keys c.args.block ((c.key.ensures.value ∙ ap key_of (told g c)) i))
+    (c.push_reserved.ensures.items ∙ (λ i. (c.reserve.ensures.items ∙ ap (λ (v : ArrayView). v.log) c.self.view_is) i ++ (reported g c i) ∷ []))
+    (λ i. set (c.self.view_is i).keys c.args.block ((c.key.ensures.value ∙ ap key_of (reported g c)) i))
     (c.keep_placed-old.ensures.kept
-    ∙ (λ i. set (passed (c.self.view_is i).kept (c.told-found.ensures.value i)) (c.slot-slot.ensures i) (Newest c.args.block)))
+    ∙ (λ i. set (without_old (c.self.view_is i).kept (c.reported-found.ensures.value i)) (c.slot-slot.ensures i) (Newest c.args.block)))
 
 pub invariant_of-self-2 : goal.invariant_of-self-2
 invariant_of-self-2 g c =
@@ -129,7 +129,7 @@ invariant_of-self-2 g c =
     let same : Keeps now.parts b = either_way {P = Keeps now.parts b} c.put_placed.result (λ x w. keeps now.parts b w.fares w.rest) (λ q e. gone_keeps now.parts b _ q e) c.put_placed.ensures.ok c.put_placed.ensures.err in (
       as_whole _ _ (shows_then g at)
           (fresh_whole c.args.self.now b (g.C.Hold.names c.args.claim) c.args.block (search rules) (search rules)
-          (view_drives d.units d.lost d.failures c.put_placed.new.self c.put_placed.ensures.fit.drives) c.told-found.ensures.whole
+          (view_drives d.units d.lost d.failures c.put_placed.new.self c.put_placed.ensures.fit.drives) c.reported-found.ensures.whole
           (content_under c.args.kind c.args.payload.now) (none g at) (left g at) (was g at) c.args.kind),
       c.keep_placed-old.ensures.claims,
       (let ready = still_ready d.units d.lost d.failures c.self.inside c.put_placed.new.self c.put_placed.new.unit c.put_placed.new.scratch same c.put_placed.ensures.fit c.self.invariant.2 in
@@ -145,13 +145,13 @@ invariant_of-self-2 g c =
 pub returns-clause-done : goal.returns-clause-done
 returns-clause-done g c =
     let at = (goal.at.returns-clause-done g c).After-of in
-    let told_is : c.of.result ≡ stamp g at = c.of.ensures ∙ told g at in
+    let reported_is : c.of.result ≡ stamp g at = c.of.ensures ∙ reported g at in
     let x = content_under c.args.kind c.args.payload.now in (
       shows_then g at ∙ ap (λ r. commit_view (fill_view (with_parts c.args.self.now (parts g at)) (g.C.Hold.names c.args.claim) c.args.kind) (g.C.Hold.names c.args.claim) c.args.block
-          (record_at c.args.block (key_at c.args.self.now c.args.block)) r) (sym told_is),
-      told_is,
-      subst (λ o. IsPlaceOf g.C.Hold.names c.keep_placed-old.result o) c.told-found.ensures.value c.keep_placed-old.ensures.old,
-      subst (λ r. WasPut c.args.self.now.parts (parts g at) (g.C.Hold.names c.args.claim) (placed_unit r c.args.self.now.parts.groups.payload x)) (sym told_is) (was g at),
+          (record_at c.args.block (key_at c.args.self.now c.args.block)) r) (sym reported_is),
+      reported_is,
+      subst (λ o. IsPlaceOf g.C.Hold.names c.keep_placed-old.result o) c.reported-found.ensures.value c.keep_placed-old.ensures.old,
+      subst (λ r. WasPut c.args.self.now.parts (parts g at) (g.C.Hold.names c.args.claim) (placed_unit r c.args.self.now.parts.groups.payload x)) (sym reported_is) (was g at),
     )
 
 pub returns-clause-flat : goal.returns-clause-flat
@@ -164,14 +164,14 @@ returns-clause-flat g c F w shows held =
     let found = record_at c.args.block (key_at c.args.self.now c.args.block) in
     as_put F (Fill w s x) (Filled s) w s c.args.block c.of.result (stamp g at) _
     (commit_view (fill_view (with_parts c.args.self.now (parts g at)) s (kind_of x)) s c.args.block found (stamp g at))
-    (c.of.ensures ∙ told g at)
+    (c.of.ensures ∙ reported g at)
     (shows_then g at ∙ ap (λ k. commit_view (fill_view (with_parts c.args.self.now (parts g at)) s k) s c.args.block found (stamp g at)) (sym kind))
     (fresh_at_once c.args.self.now (parts g at) s c.args.block (search rules) (search rules)
-    (view_drives d.units d.lost d.failures c.put_placed.new.self c.put_placed.ensures.fit.drives) c.told-found.ensures.whole
+    (view_drives d.units d.lost d.failures c.put_placed.new.self c.put_placed.ensures.fit.drives) c.reported-found.ensures.whole
     x (none g at) (left g at) (was g at) F w (search rules) c.requires.payload shows held)
 
 pub returns-in-Some-clause-memory : goal.returns-in-Some-clause-memory
-returns-in-Some-clause-memory g c is = unfilled_told c.args.self.now (g.C.Hold.names c.args.claim) c.in-Some.refusal (search rules) (same_Some _ _ is)
+returns-in-Some-clause-memory g c is = unfilled_reported c.args.self.now (g.C.Hold.names c.args.claim) c.in-Some.refusal (search rules) (same_Some _ _ is)
 
 pub returns-in-Err-clause-memory : goal.returns-in-Err-clause-memory
-returns-in-Err-clause-memory g c is = gone_told _ _ _ c.in-Err.refusal c.in-Err.ensures.err (same_Some _ _ is)
+returns-in-Err-clause-memory g c is = gone_reported _ _ _ c.in-Err.refusal c.in-Err.ensures.err (same_Some _ _ is)

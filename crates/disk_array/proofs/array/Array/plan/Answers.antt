@@ -7,13 +7,13 @@ use Rattle.extent_groups.specs.Groups.{Groups}
 use Rattle.extent_groups.specs.Missing.{IsGone}
 use Rattle.extent_groups.specs.PlanLists.{listed, parity_listed}
 use Rattle.flat_machine.specs.declared.refusal.Refusal.TheVariants as refusal
-use Rattle.array_parts.specs.declared.parts.Parts.{Parts}
-use Rattle.array_parts.specs.Losses.{KeepsTables}
-use Rattle.array_parts.specs.Notes.{IsSlotPlan}
-use Rattle.array_parts.specs.Slots.{TellsGone}
-use Rattle.array_parts.specs.Views.{DriveView, PartsView, view_of, drive_view, FoundGone, Loses}
-use Rattle.array_parts.proofs.Calls.{loses_view, found_gone}
-use Rattle.array_parts.proofs.Views.{view_cells, view_lost}
+use Rattle.unit_store.specs.declared.parts.Parts.{Parts}
+use Rattle.unit_store.specs.Losses.{KeepsTables}
+use Rattle.unit_store.specs.Notes.{IsSlotPlan}
+use Rattle.unit_store.specs.Slots.{ReportsGone}
+use Rattle.unit_store.specs.Views.{DriveView, PartsView, view_of, drive_view, FoundGone, Loses}
+use Rattle.unit_store.proofs.Calls.{loses_view, found_gone}
+use Rattle.unit_store.proofs.Views.{view_cells, view_lost}
 use Rattle.slot_tables.specs.Views.{ArrayView, with_parts}
 use Rattle.disk_array.specs.Inside.{seen}
 use Rattle.disk_array.proofs.Ready.{loses_keeps, still_whole, parts_ready}
@@ -65,9 +65,9 @@ returns-clause-err g c =
     let b = view_of d.units d.lost d.failures q in
     let e = c.plan.ensures in
     subst (λ (v : ArrayView). IfErr c.plan.result (λ why. ((why ≡ refusal.Memory) × (record now { parts = b } ≡ v)) ⊎ FoundGone v.parts b c.args.slot why)) c.self.view_is
-    (IfErr-weaker c.plan.result (λ why. ((why ≡ refusal.Memory) × (q.drives.items ≡ p.drives.items)) ⊎ TellsGone d.units d.lost q c.args.slot why)
+    (IfErr-weaker c.plan.result (λ why. ((why ≡ refusal.Memory) × (q.drives.items ≡ p.drives.items)) ⊎ ReportsGone d.units d.lost q c.args.slot why)
     (λ why. ((why ≡ refusal.Memory) × (record now { parts = b } ≡ now)) ⊎ FoundGone now.parts b c.args.slot why)
-    (λ why told. elim told [
+    (λ why reported. elim reported [
       | inl none ↦ inl (
         none.0,
         ap (λ (v : PartsView). record now { parts = v }) (same_view d.units d.lost d.failures p q e.only.tables none.1),

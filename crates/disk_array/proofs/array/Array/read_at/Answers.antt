@@ -2,7 +2,7 @@ use Rattle.std.proofs.Common.{inr, rules}
 use Rattle.extents.specs.declared.header.Kind.TheVariants as kind
 use Rattle.flat_machine.specs.Flat.{Trim}
 use Rattle.flat_machine.specs.Steps.{Data, Stale}
-use Rattle.flat_machine.specs.Cases.{IsBehind}
+use Rattle.flat_machine.specs.Cases.{IsNotAhead}
 use Rattle.slot_tables.specs.Reads.{WasSeen}
 use Rattle.slot_tables.proofs.Newest.{newest_is}
 use Rattle.slot_tables.proofs.Seeing.{ahead_case, seen_case, unseen_case}
@@ -11,7 +11,7 @@ use Rattle.disk_array.proofs.array.Array.read_at.Goals as goal
 
 pub returns-in-Err-clause-flat : goal.returns-in-Err-clause-flat
 returns-in-Err-clause-flat g c F shows =
-    let e = c.in-Err.ensures.err in ahead_case (IsBehind F c.args.asked) c.args.self.now F c.args.asked c.in-Err.refusal shows e.0 e.1
+    let e = c.in-Err.ensures.err in ahead_case (IsNotAhead F c.args.asked) c.args.self.now F c.args.asked c.in-Err.refusal shows e.0 e.1
 
 pub returns-in-Err-no_payload-clause-flat : goal.returns-in-Err-no_payload-clause-flat
 returns-in-Err-no_payload-clause-flat g c F shows =

@@ -2,8 +2,8 @@ use Rattle.std.proofs.Common.{◌≡◌, ◌∙◌, ◌*◌, ap, sym, subst, Non
 use Rattle.extent_groups.specs.Groups.{Groups, group_at, swapped_in}
 use Rattle.extent_groups.specs.Stores.{unit_bytes}
 use Rattle.flat_machine.specs.Moves.{IsMoveReason}
-use Rattle.array_parts.proofs.Views.{view_drives}
-use Rattle.array_parts.specs.Views.{view_of}
+use Rattle.unit_store.proofs.Views.{view_drives}
+use Rattle.unit_store.specs.Views.{view_of}
 use Rattle.slot_tables.specs.Views.{ArrayView, IsWhole}
 use Rattle.slot_tables.proofs.Regroups.{moved_whole}
 use Rattle.disk_array.specs.Inside.{seen}

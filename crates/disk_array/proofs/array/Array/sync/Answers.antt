@@ -1,9 +1,9 @@
 use Rattle.std.proofs.Common.{sym, subst}
-use Rattle.array_parts.specs.Views.{view_of}
+use Rattle.unit_store.specs.Views.{view_of}
 use Rattle.slot_tables.specs.Represents.{ShowsArray}
 use Rattle.slot_tables.specs.Views.{ArrayView}
 use Rattle.slot_tables.proofs.Fares.{fared, lost_leaves, lost_shows}
-use Rattle.disk_array.proofs.UnitReads.{only_loses, sync_stands}
+use Rattle.disk_array.proofs.UnitReads.{only_loses, sync_matches}
 use Rattle.disk_array.proofs.array.Array.sync.Goals as goal
 
 pub returns-clause-loses : goal.returns-clause-loses
@@ -25,4 +25,4 @@ pub invariant_of-self : goal.invariant_of-self
 invariant_of-self g c =
     let d = g.D.Drive in
     let e = c.sync.ensures in
-    sync_stands d.units d.lost d.failures c.self.inside c.sync.new.self e.only e.fares e.units e.sound e.fit c.self.invariant
+    sync_matches d.units d.lost d.failures c.self.inside c.sync.new.self e.only e.fares e.units e.sound e.fit c.self.invariant

@@ -1,8 +1,8 @@
 use Rattle.std.proofs.Common.{◌≡◌, sym, subst, OnOk, Some}
 use Rattle.extent_groups.specs.Cells.{Cells}
 use Rattle.extent_groups.specs.Stores.{unit_of}
-use Rattle.array_parts.proofs.Views.{view_cells}
-use Rattle.disk_array.proofs.UnitReads.{slot_gone, only_loses, units_kept, still_sound, read_stands}
+use Rattle.unit_store.proofs.Views.{view_cells}
+use Rattle.disk_array.proofs.UnitReads.{slot_gone, only_loses, units_kept, still_sound, read_matches}
 use Rattle.disk_array.proofs.array.Array.unit_at.Goals as goal
 
 pub returns-clause-ok : goal.returns-clause-ok
@@ -38,4 +38,4 @@ pub invariant_of-self : goal.invariant_of-self
 invariant_of-self g c =
     let d = g.D.Drive in
     let e = c.read.ensures in
-    read_stands d.units d.lost d.failures c.self.inside c.read.new.self e.only e.fares e.units e.sound c.read.new.scratch e.fit c.self.invariant
+    read_matches d.units d.lost d.failures c.self.inside c.read.new.self e.only e.fares e.units e.sound c.read.new.scratch e.fit c.self.invariant

@@ -1,7 +1,7 @@
 use Rattle.std.proofs.Common.{◌∙◌, ◌++◌, ap, map}
-use Rattle.array_parts.specs.Views.{drive_view}
+use Rattle.unit_store.specs.Views.{drive_view}
 use Rattle.slot_tables.specs.Views.{ArrayView}
-use Rattle.disk_array.proofs.Visits.{seen_same, shown_stands}
+use Rattle.disk_array.proofs.Visits.{seen_same, shown_matches}
 use Rattle.disk_array.proofs.array.Array.visit_drives.Goals as goal
 
 pub returns-clause-same : goal.returns-clause-same
@@ -18,5 +18,5 @@ returns-clause-shown g c is =
 pub invariant_of-self : goal.invariant_of-self
 invariant_of-self g c =
     let d = g.D.Drive in
-    shown_stands d.units d.lost d.failures c.self.inside c.deref_mut-drives.result.now c.show_drives.new.drives c.deref_mut-drives.ensures.value c.show_drives.ensures.drives
+    shown_matches d.units d.lost d.failures c.self.inside c.deref_mut-drives.result.now c.show_drives.new.drives c.deref_mut-drives.ensures.value c.show_drives.ensures.drives
     c.self.invariant.2.fit c.self.invariant

@@ -1,12 +1,12 @@
 use Rattle.std.proofs.Common.{◌≡◌, rules, subst, ap}
 use Rattle.flat_machine.specs.Moves.{with_fuse}
-use Rattle.array_parts.specs.Views.{PartsView}
+use Rattle.unit_store.specs.Views.{PartsView}
 use Rattle.slot_tables.specs.Views.{ArrayView}
 use Rattle.slot_tables.specs.Represents.{ShowsArray}
 use Rattle.disk_array.specs.Losing.{WasFused}
-use Rattle.array_parts.specs.Memory.{held_units, held_lost, held_failures}
+use Rattle.unit_store.specs.Memory.{held_units, held_lost, held_failures}
 use Rattle.disk_array.proofs.Losings.{was_fused, fuse_array, held_parts}
-use Rattle.disk_array.proofs.Pulled.{still_stands}
+use Rattle.disk_array.proofs.Pulled.{still_matches}
 use Rattle.disk_array.proofs.memory.Array+MemDrive+C.fuse.Goals as goal
 
 -- the drive in the parts was given its fuse
@@ -23,7 +23,7 @@ invariant_of-self g c =
     let was = was_fused c.self.inside.parts c.fuse.new.self c.args.self.now.parts c.args.drive c.args.calls (ap (λ (a : ArrayView). a.parts) c.self.view_is) c.requires.drive
     e.fused e.missing e.failures e.units e.sound e.tables
     in
-    still_stands held_units held_lost held_failures g.C.Hold.names c.self.inside c.fuse.new.self (record { tables = was.rest; many = was.many }) e.fit c.self.invariant
+    still_matches held_units held_lost held_failures g.C.Hold.names c.self.inside c.fuse.new.self (record { tables = was.rest; many = was.many }) e.fit c.self.invariant
 
 pub returns-clause-fused : goal.returns-clause-fused
 returns-clause-fused = fused_parts

@@ -2,7 +2,7 @@ use Rattle.std.proofs.Common.{rules, ◌≡◌, inl, refl, sym, ◌∙◌, ap, s
 use Rattle.vault.specs.declared.store.Stop.TheVariants.{Killed}
 use Rattle.file_vault.specs.declared.mem_files.FileCall.TheVariants.{Write, Cut}
 use Rattle.file_vault.specs.Folders.{Wrote, wrote_at}
-use Rattle.file_vault.specs.Calls.{folder_of, seen_from, leaves_at, over}
+use Rattle.file_vault.specs.Calls.{folder_of, seen_from, leaves_at, file_patched}
 use Rattle.file_vault.proofs.Replayed.{kept_or_not, found, left, over_wrote, whole_mixed, time_cut, time_write, cut_mixed}
 use Rattle.file_vault.proofs.mem_files.MemFilesFiles.write_at.Goals as goal
 
@@ -17,7 +17,7 @@ returns-then-is_cut-clause-time c = λ known stop. let same : c.in-Ok.copy.items
 pub returns-clause-wrote : goal.returns-clause-wrote
 returns-clause-wrote c = λ known. let same : c.in-Ok.copy.items ≡ c.args.bytes.now = search rules in let more : c.keep-2.new.calls.items ≡ c.args.self.now.calls.items ++ Write c.args.file c.args.at c.in-Ok.copy ∷ [] = search (rules, c.keep-2.ensures.ok, c.if-is_err.false) in
     subst (λ g. Wrote c.args.file c.args.at c.args.bytes.now (seen_from (folder_of c.args.self.now.first.items) c.args.self.now.calls.items) g)
-    (sym (found (folder_of c.args.self.now.first.items) c.args.self.now.calls.items c.keep-2.new.calls.items (Write c.args.file c.args.at c.in-Ok.copy) more ∙ ap (λ (b : List ℕ). over (seen_from (folder_of c.args.self.now.first.items) c.args.self.now.calls.items) c.args.file c.args.at b) same))
+    (sym (found (folder_of c.args.self.now.first.items) c.args.self.now.calls.items c.keep-2.new.calls.items (Write c.args.file c.args.at c.in-Ok.copy) more ∙ ap (λ (b : List ℕ). file_patched (seen_from (folder_of c.args.self.now.first.items) c.args.self.now.calls.items) c.args.file c.args.at b) same))
     (over_wrote (seen_from (folder_of c.args.self.now.first.items) c.args.self.now.calls.items) c.args.file c.args.at c.args.bytes.now)
 
 pub returns-clause-mixed : goal.returns-clause-mixed

@@ -1,7 +1,7 @@
 use Rattle.std.proofs.Common.{arith, refl, sym, ◌∙◌, ap, subst, rules, [], ◌∷◌, ◌++◌, ◌+◌, List, ℕ}
 use Rattle.std.proofs.lemmas.Bool.{true≢false}
 use Rattle.vault.specs.declared.store.Stop.TheVariants.{Killed}
-use Rattle.file_vault.specs.Journals.{MayPut, IsRecord}
+use Rattle.file_vault.specs.Journals.{MayPut, IsBatchRecord}
 use Rattle.file_vault.specs.Vaults.{plan_of}
 use Rattle.file_vault.proofs.Boots.{boot_units, boot_units_on}
 use Rattle.file_vault.proofs.Gates.{sound_as}
@@ -15,7 +15,7 @@ returns-in-Ok-clause-stays g c = λ known.
     let may : MayPut g.F.Files.seen g.F.Files.may_leave c.args.self.now.files c.args.self.now.gates.items some.batches c.args.self.now.end c.args.self.now.durable c.deref.result.now c.args.batch.now =
     record {
       sound = some.sound;
-      put = subst (λ (b : List ℕ). IsRecord b c.args.batch.now) (sym c.deref.ensures.value) c.in_ok-make_record.ensures;
+      put = subst (λ (b : List ℕ). IsBatchRecord b c.args.batch.now) (sym c.deref.ensures.value) c.in_ok-make_record.ensures;
       room = omega (arith, c.deref.ensures.len, c.len-length.ensures, c.if-length-gt-LIMIT.false, c.if-self-gt-LIMIT.false);
     } in
     record {
@@ -38,7 +38,7 @@ returns-in-Ok-clause-appended g c = λ known.
     let may : MayPut g.F.Files.seen g.F.Files.may_leave c.args.self.now.files c.args.self.now.gates.items some.batches c.args.self.now.end c.args.self.now.durable c.deref.result.now c.args.batch.now =
     record {
       sound = some.sound;
-      put = subst (λ (b : List ℕ). IsRecord b c.args.batch.now) (sym c.deref.ensures.value) c.in_ok-make_record.ensures;
+      put = subst (λ (b : List ℕ). IsBatchRecord b c.args.batch.now) (sym c.deref.ensures.value) c.in_ok-make_record.ensures;
       room = omega (arith, c.deref.ensures.len, c.len-length.ensures, c.if-length-gt-LIMIT.false, c.if-self-gt-LIMIT.false);
     } in
     appended (plan_of c.args.self.now.layout) g.F.Files.seen g.F.Files.may_leave c.args.self.now.files c.args.self.now.gates.items some.batches c.args.self.now.end c.args.self.now.durable some.sound
@@ -50,7 +50,7 @@ returns-in-Ok-clause-killed g c = λ known.
     let may : MayPut g.F.Files.seen g.F.Files.may_leave c.args.self.now.files c.args.self.now.gates.items some.batches c.args.self.now.end c.args.self.now.durable c.deref.result.now c.args.batch.now =
     record {
       sound = some.sound;
-      put = subst (λ (b : List ℕ). IsRecord b c.args.batch.now) (sym c.deref.ensures.value) c.in_ok-make_record.ensures;
+      put = subst (λ (b : List ℕ). IsBatchRecord b c.args.batch.now) (sym c.deref.ensures.value) c.in_ok-make_record.ensures;
       room = omega (arith, c.deref.ensures.len, c.len-length.ensures, c.if-length-gt-LIMIT.false, c.if-self-gt-LIMIT.false);
     } in
     append_killed (plan_of c.args.self.now.layout) g.F.Files.seen g.F.Files.may_leave c.args.self.now.files c.args.self.now.gates.items some.batches c.args.self.now.end c.args.self.now.durable some.sound
@@ -62,7 +62,7 @@ returns-in-Ok-clause-time g c = λ known stop.
     let may : MayPut g.F.Files.seen g.F.Files.may_leave c.args.self.now.files c.args.self.now.gates.items some.batches c.args.self.now.end c.args.self.now.durable c.deref.result.now c.args.batch.now =
     record {
       sound = some.sound;
-      put = subst (λ (b : List ℕ). IsRecord b c.args.batch.now) (sym c.deref.ensures.value) c.in_ok-make_record.ensures;
+      put = subst (λ (b : List ℕ). IsBatchRecord b c.args.batch.now) (sym c.deref.ensures.value) c.in_ok-make_record.ensures;
       room = omega (arith, c.deref.ensures.len, c.len-length.ensures, c.if-length-gt-LIMIT.false, c.if-self-gt-LIMIT.false);
     } in
     lifted (plan_of c.args.self.now.layout) c.args.self.now.boot stop _ _ _ _ _ _ _
@@ -75,7 +75,7 @@ returns-in-Err-clause-stays g c = λ known.
     let may : MayPut g.F.Files.seen g.F.Files.may_leave c.args.self.now.files c.args.self.now.gates.items some.batches c.args.self.now.end c.args.self.now.durable c.deref.result.now c.args.batch.now =
     record {
       sound = some.sound;
-      put = subst (λ (b : List ℕ). IsRecord b c.args.batch.now) (sym c.deref.ensures.value) c.in_ok-make_record.ensures;
+      put = subst (λ (b : List ℕ). IsBatchRecord b c.args.batch.now) (sym c.deref.ensures.value) c.in_ok-make_record.ensures;
       room = omega (arith, c.deref.ensures.len, c.len-length.ensures, c.if-length-gt-LIMIT.false, c.if-self-gt-LIMIT.false);
     } in
     record {
@@ -93,7 +93,7 @@ returns-in-Err-clause-time g c = λ known stop.
     let may : MayPut g.F.Files.seen g.F.Files.may_leave c.args.self.now.files c.args.self.now.gates.items some.batches c.args.self.now.end c.args.self.now.durable c.deref.result.now c.args.batch.now =
     record {
       sound = some.sound;
-      put = subst (λ (b : List ℕ). IsRecord b c.args.batch.now) (sym c.deref.ensures.value) c.in_ok-make_record.ensures;
+      put = subst (λ (b : List ℕ). IsBatchRecord b c.args.batch.now) (sym c.deref.ensures.value) c.in_ok-make_record.ensures;
       room = omega (arith, c.deref.ensures.len, c.len-length.ensures, c.if-length-gt-LIMIT.false, c.if-self-gt-LIMIT.false);
     } in
     lifted (plan_of c.args.self.now.layout) c.args.self.now.boot stop _ _ _ _ _ _ _

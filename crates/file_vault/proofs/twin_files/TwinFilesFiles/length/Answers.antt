@@ -1,7 +1,7 @@
 use Rattle.std.proofs.Common.{◌∙◌, ap}
 use Rattle.std.proofs.lemmas.Result.{IfOk-weaker}
 use Rattle.file_vault.specs.Folders.{Bytes}
-use Rattle.file_vault.specs.Twins.{lead_of, file_of, behind_of}
+use Rattle.file_vault.specs.Twins.{lead_of, file_of, after_first_block}
 use Rattle.file_vault.proofs.Shown.{shown_elapses, with_other}
 use Rattle.file_vault.proofs.TwinCalls.{held_read}
 use Rattle.file_vault.proofs.twin_files.TwinFilesFiles.length.Goals as goal
@@ -39,5 +39,5 @@ returns-in-Neither-clause-time g c = λ known stop. shown_elapses _ _ _ _ _ _ _ 
 pub returns-then-file-ne-JOURNAL-clause-zeros : goal.returns-then-file-ne-JOURNAL-clause-zeros
 returns-then-file-ne-JOURNAL-clause-zeros g c = λ known.
     IfOk-weaker c.length.result _ _
-    (λ end zeros k past. ap (λ (b : Bytes). b k) (with_other (behind_of (g.F.Files.seen c.args.self.now.files (file_of (lead_of c.args.self.now.held)))) (g.F.Files.seen c.args.self.now.files) c.args.file c.if-file-ne-JOURNAL.true c.if-file-eq-SECOND.false) ∙ zeros k past)
+    (λ end zeros k past. ap (λ (b : Bytes). b k) (with_other (after_first_block (g.F.Files.seen c.args.self.now.files (file_of (lead_of c.args.self.now.held)))) (g.F.Files.seen c.args.self.now.files) c.args.file c.if-file-ne-JOURNAL.true c.if-file-eq-SECOND.false) ∙ zeros k past)
     (c.length.ensures.zeros known.0)

@@ -1,3 +1,4 @@
+use Rattle.array_store.specs.Blocks.{Holds}
 use Rattle.journaled_store.specs.Outlasting.{Outlasts, OutlastsSince, point}
 use Rattle.journaled_store.proofs.Lasting.{lasts_at}
 use Rattle.journaled_store.proofs.Storing.{same_sizes}
@@ -12,4 +13,7 @@ returns-clause-sizes g c = same_sizes c.args.self.now.store c.kept_flush.new.sel
 pub returns-clause-lasts : goal.returns-clause-lasts
 returns-clause-lasts g c F is =
     let v = g.V.Vault in
-    lasts_at point (Outlasts v.known v.seen v.may_leave) (λ r. v.moment r.vault) (OutlastsSince v.left_since) F.bytes F.bytes c.args.self.now c.kept_flush.new.self (c.kept_flush.ensures.lasts F is)
+    lasts_at point (Outlasts Holds v.known v.seen v.may_leave) (λ r. v.moment r.vault) (OutlastsSince Holds v.left_since) F.bytes F.bytes c.args.self.now c.kept_flush.new.self (c.kept_flush.ensures.lasts F is)
+
+pub returns-clause-map : goal.returns-clause-map
+returns-clause-map g c F keys is has = c.kept_flush.ensures.map F keys is has

@@ -20,26 +20,26 @@ fetch_max-requires g c =
 pub invariant_of-taker : goal.invariant_of-taker
 invariant_of-taker g c =
     let is : IsRecord c.args.«record» = record { block = search rules; written = search rules; version = search rules; hop = search rules; place = search rules } in
-    let told = c.fetch_max.ensures.2 c.args.«record» is (sym c.place_of-place.ensures) (sym c.key.ensures.value) in
-    rw told.1.1 (
+    let reported = c.fetch_max.ensures.2 c.args.«record» is (sym c.place_of-place.ensures) (sym c.key.ensures.value) in
+    rw reported.1.1 (
       (search rules),
       (search rules),
       (search rules),
       All-push (λ (r : Record). r.block < blocks_of g.N.Naming.table) c.taker.inside.seat.me.0.taken c.args.«record» c.taker.invariant.3 c.requires.block,
       All-push (λ (f : Found). f.block < blocks_of g.N.Naming.table) c.taker.inside.seat.me.0.found
-          (found_at c.args.«record».block told.1.0 c.fetch_max.result (max c.fetch_max.result (key_of c.args.«record»))) c.taker.invariant.4 c.requires.block,
+          (found_at c.args.«record».block reported.1.0 c.fetch_max.result (max c.fetch_max.result (key_of c.args.«record»))) c.taker.invariant.4 c.requires.block,
       (search rules),
-      told.2,
+      reported.2,
     )
 
 pub returns-clause-newest : goal.returns-clause-newest
 returns-clause-newest g c =
     let is : IsRecord c.args.«record» = record { block = search rules; written = search rules; version = search rules; hop = search rules; place = search rules } in
-    let told = c.fetch_max.ensures.2 c.args.«record» is (sym c.place_of-place.ensures) (sym c.key.ensures.value) in
-    rw (← c.taker.view_is) told.0
+    let reported = c.fetch_max.ensures.2 c.args.«record» is (sym c.place_of-place.ensures) (sym c.key.ensures.value) in
+    rw (← c.taker.view_is) reported.0
 
 pub returns-clause-taken : goal.returns-clause-taken
 returns-clause-taken g c =
     let is : IsRecord c.args.«record» = record { block = search rules; written = search rules; version = search rules; hop = search rules; place = search rules } in
-    let told = c.fetch_max.ensures.2 c.args.«record» is (sym c.place_of-place.ensures) (sym c.key.ensures.value) in
-    rw (← c.taker.view_is) told.1
+    let reported = c.fetch_max.ensures.2 c.args.«record» is (sym c.place_of-place.ensures) (sym c.key.ensures.value) in
+    rw (← c.taker.view_is) reported.1

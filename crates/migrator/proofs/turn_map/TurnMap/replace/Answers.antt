@@ -1,6 +1,6 @@
 use Rattle.std.proofs.Common.{◌∙◌, ◌<◌, Some, None, ap, sym, subst, set, is_some, nat_eq, arith}
 use Rattle.indexmap.specs.IndexMap.{get, spare}
-use Rattle.migrator.specs.Inside.{IsWritten, turns_of}
+use Rattle.migrator.specs.Inside.{IsTurnTable, turns_of}
 use Rattle.migrator.proofs.Written.{length_turns, read_turn, spare_for, turns_more, written_more}
 use Rattle.migrator.proofs.turn_map.TurnMap.replace.Goals as goal
 
@@ -31,7 +31,7 @@ pub invariant_of-self-2 : goal.invariant_of-self-2
 invariant_of-self-2 c =
     let i = c.self.inside in
     let low = length_turns i.blocks i.written c.args.self.now c.self.view_is in
-    let w = subst (IsWritten i.blocks) (sym c.get_mut.follows.holds-at-none) c.self.invariant in
+    let w = subst (IsTurnTable i.blocks) (sym c.get_mut.follows.holds-at-none) c.self.invariant in
     let e = c.write_first.ensures in
     written_more i.blocks c.args.block c.args.turn c.get_mut.follows.lender-at-none c.write_first.new.written w
     (omega (arith, low, c.requires)) e.updates e.unique (omega (arith, e.len, e.room, w.room))

@@ -9,12 +9,12 @@ returns-clause-fewer c =
     c.answer.new.self.number c.requires line_is (ap (λ line. length line.items) c.replace-line.ensures.after ∙ ap length c.new.ensures.items)
     (ap length c.in_ok-answer.ensures.none) (ap length c.clear.ensures.items) c.in_ok-answer.ensures.fewer
 
-pub returns-clause-told : goal.returns-clause-told
-returns-clause-told c state stands =
+pub returns-clause-reported : goal.returns-clause-reported
+returns-clause-reported c state matches =
     let line_is : c.deref.result.now ≡ c.args.self.now.line.items = c.deref.ensures.value ∙ ap (λ line. line.items) c.replace-line.ensures.value in
-    let answered = c.in_ok-answer.ensures.told state stands in
+    let answered = c.in_ok-answer.ensures.reported state matches in
     record {
       number = answered.number;
       none = c.clear.ensures.items;
-      told = rw line_is at answered.told;
+      reported = rw line_is at answered.reported;
     }

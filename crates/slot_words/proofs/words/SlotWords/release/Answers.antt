@@ -1,6 +1,6 @@
 use Rattle.std.proofs.Common.{rules, ap}
 use Rattle.std.proofs.lemmas.List.Elements.{Contains-append_right}
-use Rattle.slot_words.specs.ClaimRule.{held}
+use Rattle.slot_words.specs.ClaimRule.{held_pair}
 use Rattle.slot_words.proofs.Plays.{frees}
 use Rattle.slot_words.proofs.words.SlotWords.release.Goals as goal
 
@@ -9,7 +9,7 @@ store-requires g c = (
   (search rules),
   (search rules),
   rw c.place_of.ensures
-      (frees c.args.self.now.table.shared.key _ _ (held c.claim.inside.slot c.claim.inside.generation) _ (search rules) (search rules) (search rules) (search rules)),
+      (frees c.args.self.now.table.shared.key _ _ (held_pair c.claim.inside.slot c.claim.inside.generation) _ (search rules) (search rules) (search rules) (search rules)),
 )
 
 pub returns-clause-won : goal.returns-clause-won

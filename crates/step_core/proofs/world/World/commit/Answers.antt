@@ -2,7 +2,7 @@ use Rattle.std.proofs.Common.{List, rules, subst, sym, ap, ◌≡◌, ◌∙◌,
 use Rattle.map_join.specs.Record.{record_at}
 use Rattle.flat_machine.specs.Flat.{Flat, Ticket}
 use Rattle.flat_machine.specs.Steps.{Commit, Committed, Refused}
-use Rattle.flat_machine.specs.Cases.{CommitCase, IsWanted}
+use Rattle.flat_machine.specs.Cases.{CommitCase, IsAllocating}
 use Rattle.slot_tables.specs.Changes.{IsPlaceOf, passed_hands, MayRefuse}
 use Rattle.slot_tables.specs.declared.hold.Plain.{Plain}
 use Rattle.slot_tables.specs.Views.{ArrayView, WorldView, hand_at, key_at}
@@ -51,8 +51,8 @@ returns-in-Err g c =
     c.refused.ensures.ok c.refused.ensures.err
     (λ F rep. block_there v F b rep c.requires)
     (refused_sizes v.array a r is) (refused_same v.array a r is)
-    (λ F rep. subst (λ t. MayRefuse r (IsWanted F (Commit w t b)) ((G : Flat) × (CommitCase F w t b (Refused r) G) × (ShowsArray a G))) c.in-Some.ensures.1
+    (λ F rep. subst (λ t. MayRefuse r (IsAllocating F (Commit w t b)) ((G : Flat) × (CommitCase F w t b (Refused r) G) × (ShowsArray a G))) c.in-Some.ensures.1
     (c.in-Err.ensures.flat F w (subst (λ (x : ArrayView). ShowsArray x F) (sym array) rep.array)
     (λ _. ap (λ n. F.held n (Ticket w)) c.in-Some.ensures.1 ∙ (rep.hands s).tickets w ∙ held)))
     in
-    record { ok = all.ok; err = all.err; wants = all.wants; room = all.room }
+    record { ok = all.ok; err = all.err; needs = all.needs; room = all.room }

@@ -32,8 +32,8 @@ returns-in-Err g c =
     let a = c.copy.new.self in
     let r = c.in-Err.refusal in
     let held : is_claim (hand_at c.args.self.now.hands s) w ≡ true = search rules in
-    let told = array_refused _ c.args.self.now a (Copy w s c.args.block) r c.refused.result c.refused.result c.self.view_is refl c.refused.ensures.ok c.refused.ensures.err
+    let reported = array_refused _ c.args.self.now a (Copy w s c.args.block) r c.refused.result c.refused.result c.self.view_is refl c.refused.ensures.ok c.refused.ensures.err
     (λ F rep. (search rules, block_there c.args.self.now F c.args.block rep c.requires))
     (refused_sizes _ a r c.in-Err.ensures.err.1) (refused_same _ a r c.in-Err.ensures.err.1) (λ F rep shows. c.in-Err.ensures.flat F w shows ((rep.hands s).claims w ∙ held))
     in
-    record { ok = told.ok; succeeds = answered c.refused.result r c.refused.ensures.err c.in-Err.ensures.memory; err = told.err; wants = told.wants; room = told.room }
+    record { ok = reported.ok; succeeds = answered c.refused.result r c.refused.ensures.err c.in-Err.ensures.memory; err = reported.err; needs = reported.needs; room = reported.room }

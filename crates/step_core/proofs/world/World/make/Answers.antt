@@ -12,7 +12,7 @@ returns g c =
     let a = c.make_group.new.self in
     let class = c.args.class in
     let members = c.args.members.now in
-    let told : WasStep v (record { array = a; hands = c.self.inside.hands }) (Make class members) c.match-make_group.result =
+    let reported : WasStep v (record { array = a; hands = c.self.inside.hands }) (Make class members) c.match-make_group.result =
     elim c.match-make_group.branch [
       | in-Ok w ↦
           let g = w.in-Ok.group in
@@ -24,4 +24,4 @@ returns g c =
           (refused_sizes _ a r w.in-Err.ensures.err) (refused_same _ a r w.in-Err.ensures.err) (λ F rep shows. w.in-Err.ensures.flat F shows)
     ]
     in
-    record { ok = told.ok; err = told.err; wants = told.wants; room = told.room }
+    record { ok = reported.ok; err = reported.err; needs = reported.needs; room = reported.room }

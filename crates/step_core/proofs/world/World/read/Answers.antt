@@ -1,7 +1,7 @@
 use Rattle.std.proofs.Common.{}
 use Rattle.flat_machine.specs.Steps.{Read, Found}
 use Rattle.step_core.specs.declared.step.Answer.TheVariants as answer
-use Rattle.step_core.specs.Told.{version_of}
+use Rattle.step_core.specs.Reported.{version_of}
 use Rattle.step_core.proofs.Worlds.{stays_world}
 use Rattle.step_core.proofs.Refusals.{WasStep, array_done, array_refused, found_sizes, not_found_sizes, not_found_same}
 use Rattle.step_core.proofs.world.World.read.Goals as goal
@@ -12,7 +12,7 @@ returns g c =
     let v = c.args.self.now in
     let a = c.read.new.self in
     let block = c.args.block in
-    let told : WasStep v (record { array = a; hands = c.self.inside.hands }) (Read block) c.match-read.result =
+    let reported : WasStep v (record { array = a; hands = c.self.inside.hands }) (Read block) c.match-read.result =
     elim c.match-read.branch [
       | in-Ok w ↦
           let found = w.in-Ok.found in
@@ -24,4 +24,4 @@ returns g c =
           (not_found_sizes _ a block r w.in-Err.ensures.err) (not_found_same _ a block r w.in-Err.ensures.err) (λ F rep shows. w.in-Err.ensures.flat F shows)
     ]
     in
-    record { ok = told.ok; err = told.err; wants = told.wants; room = told.room }
+    record { ok = reported.ok; err = reported.err; needs = reported.needs; room = reported.room }

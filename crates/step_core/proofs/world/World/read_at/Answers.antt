@@ -1,7 +1,7 @@
 use Rattle.std.proofs.Common.{}
 use Rattle.flat_machine.specs.Steps.{ReadAt, FoundAt}
 use Rattle.step_core.specs.declared.step.Answer.TheVariants as answer
-use Rattle.step_core.specs.Told.{seen_of}
+use Rattle.step_core.specs.Reported.{seen_of}
 use Rattle.step_core.proofs.Worlds.{stays_world}
 use Rattle.step_core.proofs.Refusals.{WasStep, array_done, array_refused, seen_sizes, refused_sizes, refused_same}
 use Rattle.step_core.proofs.world.World.read_at.Goals as goal
@@ -12,7 +12,7 @@ returns g c =
     let v = c.args.self.now in
     let a = c.read_at.new.self in
     let asked = c.args.asked in
-    let told : WasStep v (record { array = a; hands = c.self.inside.hands }) (ReadAt asked) c.match-read_at.result =
+    let reported : WasStep v (record { array = a; hands = c.self.inside.hands }) (ReadAt asked) c.match-read_at.result =
     elim c.match-read_at.branch [
       | in-Ok w ↦
           let seen = seen_of w.in-Ok.at in
@@ -24,4 +24,4 @@ returns g c =
           (refused_sizes _ a r w.in-Err.ensures.err) (refused_same _ a r w.in-Err.ensures.err) (λ F rep shows. w.in-Err.ensures.flat F shows)
     ]
     in
-    record { ok = told.ok; err = told.err; wants = told.wants; room = told.room }
+    record { ok = reported.ok; err = reported.err; needs = reported.needs; room = reported.room }

@@ -1,5 +1,0 @@
-use Rattle.array_parts.specs.Making.{AreWipedTo}
-use Rattle.array_parts.proofs.make.wipe_members.Given as goal
-
-abbrev pub invariant-loop-member : goal.invariant-loop-member
-invariant-loop-member g l = AreWipedTo g.D.Drive.units g.D.Drive.lost g.D.Drive.failures l.shape.segments l.members l.zeros l.member-index l.fn.drives l.drives

@@ -1,8 +1,0 @@
-use Rattle.background.proofs.Words.{take_at, falls}
-use Rattle.background.proofs.bits.take.Goals as goal
-
-pub returns-clause-taken : goal.returns-clause-taken
-returns-clause-taken c = take_at c.args.words.now c.args.at c.requires.inside
-
-pub returns-clause-less : goal.returns-clause-less
-returns-clause-less c = falls c.args.words.now c.args.at c.requires.inside c.requires.there

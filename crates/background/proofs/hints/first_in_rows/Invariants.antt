@@ -1,9 +1,0 @@
-use Rattle.std.proofs.Common.{get_or}
-use Rattle.background.specs.Hints.{AreHints, IsSought}
-use Rattle.background.proofs.hints.first_in_rows.Given as goal
-
-abbrev pub invariant-loop-bit : goal.invariant-loop-bit
-invariant-loop-bit g l = IsSought l.fn.slots l.slots (g.F.Free.free l.free) × AreHints l.slots l.rows
-
-abbrev pub decreases-loop-bit : goal.decreases-loop-bit
-decreases-loop-bit g l = get_or l.rows l.word 0

@@ -1,7 +1,0 @@
-use Rattle.std.proofs.Common.{ℕ, ◌+◌, ◌*◌, ◌<◌}
-use Rattle.background.specs.Hints.{IsHinted}
-use Rattle.background.proofs.hints.hint_group.Given as goal
-
-abbrev pub invariant-loop-index : goal.invariant-loop-index
-invariant-loop-index l =
-    ((k : ℕ) → k < l.index → IsHinted l.hints (128 * l.group + k)) × ((other : ℕ) → IsHinted l.fn.hints other → IsHinted l.hints other)

@@ -1,9 +1,0 @@
-use Rattle.std.proofs.Common.{◌≡◌, length}
-use Rattle.slot_tables.specs.Views.{key_at}
-use Rattle.background.specs.Marking.{AreMarkedBelow}
-use Rattle.background.proofs.planner.mark_stored.Given as goal
-
-abbrev pub invariant-loop-block : goal.invariant-loop-block
-invariant-loop-block g l =
-    (l.ages.order ≡ l.fn.ages.order) × (length l.ages.marks ≡ length l.fn.ages.marks)
-    × AreMarkedBelow l.ages.marks l.array.parts.groups (key_at l.array) l.block

@@ -1,6 +1,0 @@
-use Rattle.std.proofs.Common.{rules}
-use Rattle.behkuna.specs.declared.status.Status.TheVariants as is
-use Rattle.behkuna.proofs.record.behkuna_record_encode.Goals as goal
-
-pub returns : goal.returns
-returns c = (is.Done, search rules, search rules)

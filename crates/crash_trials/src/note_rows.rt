@@ -1,0 +1,149 @@
+// Rows of notes: a restart over a note that is made manually.
+use crate::cells::found_of;
+use crate::copies::all_units;
+use crate::difference::{agree, holds};
+use crate::payloads::unit_of;
+use crate::reported::fault_text;
+use crate::seen::map_text;
+use crate::setup::Setup;
+use crate::stopped::{Stopped, all_claims, lose, restarted, stopped};
+use crate::table::Row;
+use crate::trouble::Trouble;
+use crate::words::{cells_of, drives_of, number, short};
+use std::alloc::{AllocError, Global};
+use step_core::Plain;
+use unit_store::Note;
+
+/// The drives that are lost before a restart, the note, and the expected answer: that the note is bad, or the map.
+#[derive(Drop)]
+pub(crate) struct NoteRow {
+    id: u32,
+    setup: u32,
+    lost: Vec<u8>,
+    note: Note,
+    answer: String,
+}
+
+/// What a restart that is refused must leave.
+#[derive(Drop)]
+struct Left {
+    units: Vec<u8>,
+    claims: Vec<Plain>,
+}
+
+impl Row for NoteRow {
+    fn file() -> &'static str {
+        "notes.csv"
+    }
+
+    fn head() -> &'static str {
+        "id,setup,lost,slot,unit,parity,answer"
+    }
+
+    fn parse(alloc: Global, line: &str, setup: &Setup) -> Result<NoteRow, Trouble> {
+        let cells = cells_of(alloc, line)?;
+        let [id, number_of_setup, lost, slot, unit, parity, answer] = cells.as_slice() else {
+            return Err(Trouble::Form);
+        };
+        Ok(NoteRow {
+            id: number(id)?,
+            setup: number(number_of_setup)?,
+            lost: drives_of(alloc, lost, setup.drives)?,
+            note: Note {
+                slot: short(number(slot)?)?,
+                unit: bytes_of(alloc, unit)?.unwrap_or(Vec::new(alloc)),
+                parity: bytes_of(alloc, parity)?,
+            },
+            answer: found_of(alloc, answer, setup.shape.blocks)?,
+        })
+    }
+
+    fn id(&self) -> u32 {
+        self.id
+    }
+
+    fn setup(&self) -> u32 {
+        self.setup
+    }
+
+    fn run(&self, alloc: Global, setup: &Setup) -> Result<(), Trouble> {
+        let mut parts = stopped(alloc, setup.built(alloc)?)?;
+        lose(&mut parts, &self.lost)?;
+        parts.note = Some(copy_of(alloc, &self.note)?);
+        let left = Left {
+            units: all_units(alloc, &mut parts)?,
+            claims: all_claims(alloc, &parts.groups)?,
+        };
+        let claims = all_claims(alloc, &parts.groups)?;
+        match restarted(alloc, parts, claims)? {
+            Ok(mut array) => {
+                let map = map_text(alloc, &mut array)?;
+                agree(alloc, "answer", self.answer.as_str(), map.as_str())
+            }
+            Err((fault, parts, claims)) => {
+                let fault_found = fault_text(alloc, fault)?;
+                agree(alloc, "answer", self.answer.as_str(), fault_found.as_str())?;
+                self.is_unchanged(alloc, left, parts, claims)
+            }
+        }
+    }
+}
+
+impl NoteRow {
+    // Returns an error unless units, note and claims are as they were.
+    fn is_unchanged(
+        &self,
+        alloc: Global,
+        left: Left,
+        parts: Stopped,
+        claims: Vec<Plain>,
+    ) -> Result<(), Trouble> {
+        let mut parts = parts;
+        let units = all_units(alloc, &mut parts)?;
+        holds(
+            alloc,
+            "units unchanged",
+            units.as_slice() == left.units.as_slice(),
+        )?;
+        let same = match &parts.note {
+            Some(note) => is_same(note, &self.note),
+            None => false,
+        };
+        holds(alloc, "note unchanged", same)?;
+        holds(
+            alloc,
+            "claims unchanged",
+            claims.as_slice() == left.claims.as_slice(),
+        )
+    }
+}
+
+// The bytes of a cell; none if it is `-`.
+fn bytes_of(alloc: Global, cell: &str) -> Result<Option<Vec<u8>>, Trouble> {
+    match cell {
+        "-" => Ok(None),
+        "empty" => Ok(Some(Vec::new(alloc))),
+        _ => Ok(Some(unit_of(alloc, cell)?)),
+    }
+}
+
+fn copy_of(alloc: Global, note: &Note) -> Result<Note, AllocError> {
+    let parity = match &note.parity {
+        Some(parity) => Some(parity.as_slice().to_vec(alloc)?),
+        None => None,
+    };
+    Ok(Note {
+        slot: note.slot,
+        unit: note.unit.as_slice().to_vec(alloc)?,
+        parity,
+    })
+}
+
+fn is_same(one: &Note, other: &Note) -> bool {
+    let is_parity = match (&one.parity, &other.parity) {
+        (Some(one), Some(other)) => one.as_slice() == other.as_slice(),
+        (None, None) => true,
+        _ => false,
+    };
+    is_parity && one.slot == other.slot && one.unit.as_slice() == other.unit.as_slice()
+}

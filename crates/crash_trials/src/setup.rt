@@ -1,0 +1,112 @@
+// An array that is built step by step.
+use crate::difference::agree;
+use crate::reported::answer_text;
+use crate::steps::step_of;
+use crate::trouble::Trouble;
+use crate::words::{byte, verb_of};
+use std::alloc::Global;
+use step_core::{Array, MemDrive, Plain, Refusal, Shape, Step, World};
+
+/// An array of drives in memory.
+pub(crate) type Memory = Array<MemDrive, Plain>;
+
+/// A step, and its expected answer.
+#[derive(Drop)]
+struct Answered {
+    step: Step,
+    answer: String,
+}
+
+/// The sizes of an array, and the steps that build it.
+#[derive(Drop)]
+pub(crate) struct Setup {
+    pub(crate) drives: u8,
+    pub(crate) shape: Shape,
+    steps: Vec<Answered>,
+}
+
+/// Reads a setup: `array` and its sizes, then lines of a step and its answer with ` > ` between them. `file` is its name.
+pub(crate) fn read_setup(alloc: Global, file: &str, text: &str) -> Result<Setup, Trouble> {
+    let first = text.lines().next().unwrap_or("");
+    let mut setup = match sizes_of(alloc, first) {
+        Ok(setup) => setup,
+        Err(trouble) => return Err(trouble.located(alloc, file, 1)),
+    };
+    let world = setup.world(alloc)?;
+    for (at, line) in text.lines().enumerate().skip(1) {
+        match step_in(alloc, &world, line) {
+            Ok(step) => setup.steps.push(step)?,
+            Err(trouble) => return Err(trouble.located(alloc, file, at.saturating_add(1))),
+        }
+    }
+    Ok(setup)
+}
+
+// A setup of these sizes, without a step.
+fn sizes_of(alloc: Global, line: &str) -> Result<Setup, Trouble> {
+    let (verb, numbers) = verb_of(alloc, line)?;
+    let [drives, extents, segments, payload, blocks] = numbers.as_slice() else {
+        return Err(Trouble::Form);
+    };
+    let drives = byte(*drives)?;
+    if verb != "array" || drives < 3 || drives > 16 {
+        return Err(Trouble::Form);
+    }
+    match Shape::new(*extents, *segments, *payload, *blocks) {
+        Ok(shape) => Ok(Setup {
+            drives,
+            shape,
+            steps: Vec::new(alloc),
+        }),
+        Err(_) => Err(Trouble::Form),
+    }
+}
+
+// The step of a line with its answer, which a world of the setup's sizes has to fit.
+fn step_in(alloc: Global, world: &World, line: &str) -> Result<Answered, Trouble> {
+    let Some((asked, answer)) = line.split_once(" > ") else {
+        return Err(Trouble::Form);
+    };
+    let step = step_of(alloc, asked, world.array().shape().payload)?;
+    let _form = verb_of(alloc, answer)?;
+    if !world.fits(&step) {
+        return Err(Trouble::Form);
+    }
+    Ok(Answered {
+        step,
+        answer: String::from_str(alloc, answer)?,
+    })
+}
+
+// The result of a call that is refused only if out of memory, or that error.
+fn unless_refused<T: Drop>(made: Result<T, Refusal>) -> Result<T, Trouble> {
+    made.ok().ok_or(Trouble::Memory)
+}
+
+impl Setup {
+    // A new world of these sizes.
+    fn world(&self, alloc: Global) -> Result<World, Trouble> {
+        if self.drives < 3 || self.drives > 16 {
+            return Err(Trouble::Form);
+        }
+        unless_refused(World::new(alloc, self.shape, self.drives))
+    }
+
+    /// The array after the steps, with what waits in its slots. Returns an error unless each step is answered as expected.
+    pub(crate) fn built(&self, alloc: Global) -> Result<Memory, Trouble> {
+        let mut world = self.world(alloc)?;
+        for Answered { step, answer } in &self.steps {
+            if !world.fits(step) {
+                return Err(Trouble::Form);
+            }
+            let reported = world.step(alloc, step)?;
+            agree(
+                alloc,
+                "setup",
+                answer.as_str(),
+                answer_text(alloc, &reported)?.as_str(),
+            )?;
+        }
+        Ok(world.into_array())
+    }
+}

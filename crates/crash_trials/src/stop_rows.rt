@@ -1,0 +1,158 @@
+// Rows of stops: a step that stops after some of its writes, and the array that is restarted.
+use crate::cells::{map_of, records_of};
+use crate::copies::{add_up, are_equal};
+use crate::difference::{agree, holds};
+use crate::intents::{intent_of, planned};
+use crate::reported::{at_text, fault_text, record_text, refusal_text};
+use crate::seen::{join, look, map_text, or_none};
+use crate::setup::{Memory, Setup};
+use crate::stopped::{Stopped, lose, restarted, restarted_whole, run, stopped};
+use crate::table::Row;
+use crate::trouble::Trouble;
+use crate::words::{cells_of, drives_of, number};
+use crash_points::Intent;
+use map_join::Record;
+use std::alloc::Global;
+
+/// A step, the drives that are lost before its writes, how many entries of its list are carried out, the drives that are
+/// lost after them, and what is expected: whether there is a note, the map after a restart, and what lies at some records'
+/// places.
+#[derive(Drop)]
+pub(crate) struct StopRow {
+    id: u32,
+    setup: u32,
+    intent: Intent,
+    between: Vec<u8>,
+    entries: u32,
+    then: Vec<u8>,
+    note: String,
+    map: String,
+    records: Vec<Record>,
+    at: String,
+}
+
+impl Row for StopRow {
+    fn file() -> &'static str {
+        "stops.csv"
+    }
+
+    fn head() -> &'static str {
+        "id,setup,intent,between,n,then,note,outcome,map,at"
+    }
+
+    fn parse(alloc: Global, line: &str, setup: &Setup) -> Result<StopRow, Trouble> {
+        let cells = cells_of(alloc, line)?;
+        let [
+            id,
+            number_of_setup,
+            intent,
+            between,
+            n,
+            then,
+            note,
+            outcome,
+            map,
+            at,
+        ] = cells.as_slice()
+        else {
+            return Err(Trouble::Form);
+        };
+        if !matches!(*note, "0" | "1") || !matches!(*outcome, "before" | "after") {
+            return Err(Trouble::Form);
+        }
+        Ok(StopRow {
+            id: number(id)?,
+            setup: number(number_of_setup)?,
+            intent: intent_of(alloc, intent, setup)?,
+            between: drives_of(alloc, between, setup.drives)?,
+            entries: number(n)?,
+            then: drives_of(alloc, then, setup.drives)?,
+            note: String::from_str(alloc, note)?,
+            map: map_of(alloc, map, setup.shape.blocks)?,
+            records: records_of(alloc, at, setup.shape.blocks)?,
+            at: String::from_str(alloc, at)?,
+        })
+    }
+
+    fn id(&self) -> u32 {
+        self.id
+    }
+
+    fn setup(&self) -> u32 {
+        self.setup
+    }
+
+    fn run(&self, alloc: Global, setup: &Setup) -> Result<(), Trouble> {
+        self.leaves_no_note(alloc, setup)?;
+        let parts = self.stop(alloc, setup)?;
+        let note = if parts.note.is_some() { "1" } else { "0" };
+        agree(alloc, "note", self.note.as_str(), note)?;
+        match restarted_whole(alloc, parts)? {
+            Ok(array) => self.is_restarted(alloc, array),
+            Err((fault, _, _)) => agree(
+                alloc,
+                "map",
+                self.map.as_str(),
+                fault_text(alloc, fault)?.as_str(),
+            ),
+        }
+    }
+}
+
+impl StopRow {
+    // The parts that the stop and the losses leave.
+    fn stop(&self, alloc: Global, setup: &Setup) -> Result<Stopped, Trouble> {
+        let mut array = setup.built(alloc)?;
+        let list = match planned(alloc, &mut array, &self.intent)? {
+            Ok(list) => list,
+            Err(refusal) => {
+                agree(
+                    alloc,
+                    "intent",
+                    "list",
+                    refusal_text(alloc, &refusal)?.as_str(),
+                )?;
+                return Err(Trouble::Form);
+            }
+        };
+        let mut parts = stopped(alloc, array)?;
+        lose(&mut parts, &self.between)?;
+        run(&mut parts, list, self.entries as usize)?;
+        lose(&mut parts, &self.then)?;
+        Ok(parts)
+    }
+
+    // Whether a restart without a claim, which finishes the note and then is refused, leaves no note.
+    fn leaves_no_note(&self, alloc: Global, setup: &Setup) -> Result<(), Trouble> {
+        match restarted(alloc, self.stop(alloc, setup)?, Vec::new(alloc))? {
+            // An array that is restarted has no note: that is proved.
+            Ok(_array) => Ok(()),
+            Err((_, parts, _)) => holds(alloc, "no note", parts.note.is_none()),
+        }
+    }
+
+    // Whether the array is as the row says, and its units agree.
+    fn is_restarted(&self, alloc: Global, array: Memory) -> Result<(), Trouble> {
+        let mut array = array;
+        let map = map_text(alloc, &mut array)?;
+        agree(alloc, "map", self.map.as_str(), map.as_str())?;
+        let at = at_all(alloc, &mut array, &self.records)?;
+        agree(alloc, "at", self.at.as_str(), at.as_str())?;
+        let mut parts = stopped(alloc, array)?;
+        holds(alloc, "equal copies", are_equal(alloc, &mut parts)?)?;
+        holds(alloc, "zero sums", add_up(alloc, &mut parts)?)
+    }
+}
+
+// What lies at the places of these records.
+fn at_all(alloc: Global, array: &mut Memory, records: &[Record]) -> Result<String, Trouble> {
+    let mut text = String::new(alloc);
+    for reported in records {
+        let found = look(alloc, array, *reported)?;
+        let answer = at_text(alloc, &found)?;
+        let reported = record_text(alloc, *reported)?;
+        let entry = format!(in alloc; "{reported} > {answer}")?;
+        join(&mut text, entry.as_str())?;
+    }
+    or_none(text)
+}

@@ -1,9 +1,0 @@
-use Rattle.std.proofs.Common.{subst}
-use Rattle.array_parts.specs.Memory.{held_units}
-use Rattle.array_parts.specs.Micros.{AreWrites}
-use Rattle.stops.proofs.Written.{each_write}
-use Rattle.stops.proofs.stopped.are_writes.Goals as goal
-
-pub returns : goal.returns
-returns c = λ yes.
-    subst (λ l. AreWrites held_units c.args.parts.now l) c.deref.ensures.value (each_write held_units c.args.parts.now _ (c.is_each_write.ensures yes))

@@ -1,0 +1,11 @@
+use Rattle.std.proofs.Common.{sym}
+use Rattle.tiered_array.specs.Views.{TiersView}
+use Rattle.tiered_array.proofs.Standing.{makes}
+use Rattle.tiered_array.proofs.tiers.Tiers.make.Goals as goal
+
+pub returns-clause-ok : goal.returns-clause-ok
+returns-clause-ok g c =
+    let a = c.args in
+    let t : TiersView = record { world = c.self.inside.world; planner = c.self.inside.planner; hints = c.self.inside.hints; holes = c.self.inside.holes } in
+    rw (sym c.self.view_is) (makes t c.make.new.self c.hint_made.new.hints c.hint_made-2.new.hints a.class a.members.now c.in_ok-answer.answer c.in_ok-answer.ensures.ok c.hint_made.ensures.made c.hint_made.ensures.others
+    c.hint_made-2.ensures.made c.hint_made-2.ensures.others)

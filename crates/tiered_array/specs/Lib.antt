@@ -1,0 +1,13 @@
+pub mod Tiered
+pub mod Regrouping
+pub mod Placing
+pub mod Steps
+pub mod Marking
+pub mod Planning
+pub mod Bits
+pub mod Hints
+pub mod Views
+pub mod Matches
+pub mod Scanning
+pub mod Room
+pub mod Inside

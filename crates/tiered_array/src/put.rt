@@ -1,0 +1,55 @@
+// Putting a block into a slot, and updating what is kept next to the world.
+ghost use Rattle.std.specs.Prelude.{◌≡◌, ◌≢◌, ◌<◌, IfOk, OnErr, ℕ};
+ghost use Rattle.slot_tables.specs.Views.{SameSizes};
+ghost use Rattle.tiered_array.specs.Marking.{PutsAt};
+ghost use Rattle.tiered_array.specs.Placing.{IsSizedFor, put_of};
+ghost use Rattle.tiered_array.specs.Matches.{RepresentsTiers};
+ghost use Rattle.tiered_array.specs.Steps.{PutStops};
+ghost use Rattle.tiered_array.specs.Tiered.{Tiered};
+
+use crate::hints::hint_left;
+use crate::{Outcome, Tiers};
+use std::alloc::{AllocError, Global};
+use step_core::{Drive, Given, NotPlaced, Refusal};
+
+impl<D: Drive> Tiers<D> {
+    // Puts the block into the slot: what is given, else a copy of the block's last write. Its commit is noted, and its old place
+    // hinted.
+    pub(crate) fn put(
+        &mut self,
+        alloc: Global,
+        slot: u16,
+        block: u32,
+        given: Option<Given>,
+    ) -> Result<Outcome, AllocError>
+        requires block { block < self.old.world.array.parts.groups.blocks }
+        requires given { IsSizedFor self.old.world.array.parts.groups.payload given }
+        ensures ok { (w : ℕ) → IfOk result (λ outcome. (T : Tiered) → RepresentsTiers self.old T
+            → (U : Tiered) × PutsAt T w block (put_of given.entry) slot outcome U × RepresentsTiers self.new U) }
+        ensures err { (w : ℕ) → OnErr result ((T : Tiered) → RepresentsTiers self.old T
+            → (U : Tiered) × PutStops T w (put_of given.entry) block slot U × RepresentsTiers self.new U) }
+        ensures room { SameSizes self.old.world.array self.new.world.array }
+    {
+        match self.world.place(alloc, slot, block, given) {
+            Ok(placed) => {
+                hint_left(&mut self.hints, placed.left);
+                hint_left(&mut self.holes, placed.left);
+                self.planner.note(self.world.array(), placed.newest);
+                Ok(Outcome::Placed(placed.newest))
+            }
+            Err(NotPlaced::Taken) => Ok(Outcome::NoRoom),
+            Err(NotPlaced::Refused(refusal)) => refused(refusal),
+        }
+    }
+}
+
+// The outcome of a refused placing; out of memory is no outcome.
+fn refused(refusal: Refusal) -> Result<Outcome, AllocError>
+    ensures ok { IfOk result (λ outcome. (outcome ≡ Outcome.Refused refusal) × (refusal ≢ Refusal.Memory)) }
+    ensures err { OnErr result (refusal ≡ Refusal.Memory) }
+{
+    match refusal {
+        Refusal::Memory => Err(AllocError),
+        _ => Ok(Outcome::Refused(refusal)),
+    }
+}
