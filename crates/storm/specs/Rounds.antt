@@ -15,11 +15,11 @@ use Rattle.array_book.specs.declared.worker.Migration.{Migration}
 use Rattle.array_book.specs.Outcomes.{HasWritten, HasMoved, HasReadBlock}
 
 -- after this result of a call a worker goes on: it was Ok, no slot was free, or a record was ahead of the array
-abbrev pub GoesOn : {A : Type 0} → Result A WorkFault → Type 0
-GoesOn (Ok answer) = Unit {0}
-GoesOn (Err fault.NoRoom) = Unit {0}
-GoesOn (Err (fault.Core (refusal.Ahead newest))) = Unit {0}
-GoesOn (Err other) = ⊥
+abbrev pub IsTolerated : {A : Type 0} → Result A WorkFault → Type 0
+IsTolerated (Ok answer) = Unit {0}
+IsTolerated (Err fault.NoRoom) = Unit {0}
+IsTolerated (Err (fault.Core (refusal.Ahead newest))) = Unit {0}
+IsTolerated (Err other) = ⊥
 
 -- the block of a worker's round, of 16, and the payload of so many bytes that it writes: the worker's number and the round's, each
 -- with its highest byte first, and zeros after them
@@ -47,7 +47,7 @@ pub record IsRound (sizes : Sized) (size number round : ℕ) (v w : Carried Act)
   pub seen : Result (Option Lesson) WorkFault
   pub knows : View
   pub reads : HasReadBlock moved known (round_block number round) seen knows w
-  pub goes_on : GoesOn written × GoesOn migrated × GoesOn seen
+  pub goes_on : IsTolerated written × IsTolerated migrated × IsTolerated seen
 
 -- rounds from this one on, one after the other, and the hand as it is after each
 abbrev pub AreRounds : Sized → ℕ → ℕ → ℕ → Carried Act → List (Carried Act) → Carried Act → Type 0

@@ -1,7 +1,7 @@
 // What each worker of a storm does.
 ghost use Rattle.std.specs.Prelude.{◌≡◌, ◌*◌, ◌-◌, ◌++◌, length, drop, replicate, OnOk, IfOk};
 ghost use Rattle.std.specs.Int.{w32, to_be_bytes};
-ghost use Rattle.storm.specs.Rounds.{GoesOn, HasPlayed, IsRound};
+ghost use Rattle.storm.specs.Rounds.{IsTolerated, HasPlayed, IsRound};
 
 use crate::outcome::Tally;
 use crate::setting::BLOCKS;
@@ -143,7 +143,7 @@ fn numbers_of(number: u32, round: u32) -> [u8; 8]
 
 // What a call returns; none where no slot was free or a record was ahead of the array, after which a worker goes on.
 fn passed_over<T: Drop>(reported: Result<T, WorkFault>) -> Result<Option<T>, WorkFault>
-    ensures { OnOk result (GoesOn reported) }
+    ensures { OnOk result (IsTolerated reported) }
 {
     match reported {
         Ok(answer) => Ok(Some(answer)),
