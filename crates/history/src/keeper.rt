@@ -36,6 +36,7 @@ impl<N: Chronicle, E> Keeper<N, E> {
         ensures none { IfNone result ((self.new ≡ self.old) × (self.old.hired + 1 ≡ 2 ^ 64)) }
     {
         let number = self.hired;
+        // First, so that without a number left nothing has changed.
         let more = number.checked_add(1)?;
         let seat = hire_in(&history.table, &mut self.seat, number);
         self.hired = more;

@@ -23,7 +23,7 @@ impl Chronicle for Brand {
     ghost chronicle = { no_table };
 }
 
-/// One history, which all threads share. It has one word, which never changes.
+/// One history, which all threads share. It has one word, which never changes, because only what its seats know matters.
 #[derive(Drop)]
 pub struct History<N: Chronicle, E> {
     pub(crate) table: Words<E>,

@@ -19,6 +19,7 @@ pub fn image_of<D: Drive>(
     ensures lost { IfOk result (λ image. is_none image ≡ D.lost drive.new) }
     ensures units { D.units drive.new ≡ D.units drive.old }
 {
+    // Before the buffer, so that a lost drive is None even if out of memory.
     if drive.is_lost() {
         return Ok(None);
     }
