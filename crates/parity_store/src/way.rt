@@ -80,10 +80,12 @@ fn find_without<D: Drive>(
         first: target.at.member,
         second: target.at.parity,
     };
+    // The new unit and all units that stay add up to the new parity, so the old one isn't read.
     sum.copy_from_slice(unit);
     if !add_others(groups, drives, others, sum, part, &mut []) {
         return Way::Missed;
     }
+    // No read has asked the parity's drive, so whether it is lost is tested here.
     if is_there(drives, target.parity) {
         Way::Parity
     } else {
