@@ -32,7 +32,8 @@ const LAST_VERSION: u32 = 4_294_967_295;
 
 pub(crate) const LONGEST_LOG: usize = 4_294_967_295;
 
-/// The record of a commit that was acknowledged. It can't be cloned, and a commit alone makes one.
+/// The record of a commit that was acknowledged. It can't be cloned, and a commit alone makes one, so that its owner knows of
+/// a commit.
 #[derive(Debug, Drop)]
 pub struct Emitted {
     record: Record,
@@ -98,7 +99,10 @@ impl<D: Drive, C: Hold> Array<D, C> {
             Ok(record) => record,
             Err(refusal) => return Err((refusal, ticket)),
         };
+        // From the table, because the header of a slot that waits is blank and has no kind.
         let kind = self.waiting_kind(slot);
+        // After the checks, so that Memory is only the answer to a commit that passes them. Before the drives, so that
+        // nothing can fail after the write.
         if self.log.reserve(1).is_err() {
             return Err((Refusal::Memory, ticket));
         }
@@ -137,6 +141,7 @@ impl<D: Drive, C: Hold> Array<D, C> {
             Some(SlotState::Unmade(_)) => Err(Refusal::NoTicket),
             None => Err(Refusal::NoTicket),
         };
+        // Last, so that a full log is only the answer to a commit that passes all other checks.
         if next.is_ok() && self.log.len() >= LONGEST_LOG {
             return Err(Refusal::LogFull);
         }
@@ -244,6 +249,7 @@ fn moved(source: Record, block: u32, slot: u16, found: Option<Record>) -> Result
     if source.block != block {
         return Err(Refusal::NoTicket);
     }
+    // The place isn't compared, because no two records of a block have the same version and hop.
     if newest.version != source.version || newest.hop != source.hop {
         return Err(Refusal::Outrun(newest));
     }

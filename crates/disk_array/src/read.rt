@@ -47,6 +47,7 @@ impl<D: Drive, C: Hold> Array<D, C> {
         let Some(record) = self.reported(block) else {
             return Ok(None);
         };
+        // Before the drive call, so that out of memory loses no drive.
         let mut payload = match self.no_payload(alloc) {
             Ok(payload) => payload,
             Err(_) => return Err(Refusal::Memory),
@@ -94,6 +95,7 @@ impl<D: Drive, C: Hold> Array<D, C> {
             (IsAllocating F (say.ReadAt asked))
             ((G : Flat) × ReadAtCase F asked (say.Refused refusal) G × ShowsArray self.new G)) }
     {
+        // Before the allocation, so that Memory is only the answer to a record that isn't ahead.
         if let Err(refusal) = self.not_ahead(asked) {
             return Err(refusal);
         }
@@ -134,6 +136,7 @@ impl<D: Drive, C: Hold> Array<D, C> {
         ensures err { IfErr result (FoundGone self.old.parts self.new.parts asked.now.place) }
         ensures rest { self.new ≡ with_parts self.old self.new.parts }
     {
+        // The group of an old record may be dissolved since, so the slot is tested.
         if self.class_of(asked.place).is_none() {
             return Ok(Sight::Stale(None));
         }

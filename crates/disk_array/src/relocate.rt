@@ -38,6 +38,7 @@ impl<D: Drive, C: Hold> Array<D, C> {
         if let Some(refusal) = self.move_fault(group, member, to) {
             return Err(refusal);
         }
+        // Before any unit is read, so that no move is begun onto a lost drive.
         if self.is_lost(to.drive) {
             return Err(Refusal::DriveLost(to.drive));
         }

@@ -19,7 +19,7 @@ struct Row {
     ghost small: { length owners.items ≤ 65536 },
 }
 
-/// The number of extents in a row that have an owner.
+/// What an extent adds to its drive's load: 1 if it has an owner, else 0.
 fn share(owner: Option<u16>) -> u32
     ensures { result ≡ count_by is_some (owner ∷ []) }
 {

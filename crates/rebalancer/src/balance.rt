@@ -11,7 +11,7 @@ use crate::groups::{Carrier, first_to_give};
 use extent_groups::{GroupTable, Member};
 use extents::{DRIVES, ExtentTable};
 
-/// A drive that may give an extent to another.
+/// Two drives, of which the one may give an extent to the other.
 #[derive(Clone, Copy)]
 struct Pair {
     from: u8,
