@@ -236,7 +236,7 @@ pub(crate) fn written(block: u32, slot: u16, found: Option<Record>) -> Result<Re
     })
 }
 
-// The record of a copy: the version that was copied, one hop on, where it is still the newest.
+// The record of a copy: the version that was copied, one hop on, where that is the newest.
 fn moved(source: Record, block: u32, slot: u16, found: Option<Record>) -> Result<Record, Refusal>
     requires { source.hop < 65535 }
     ensures ok { IfOk result (λ next. (stamp_reason source block found ≡ None)

@@ -32,7 +32,7 @@ pub enum At {
 
 impl<D: Drive, C: Hold> Array<D, C> {
     /// The version and the payload of a block's last acknowledged write; none where that was a trim, or the block was never
-    /// written. Refused as gone with the slot of its newest record, where that can't be had.
+    /// written. Refused as gone, with the slot of its newest record, where that slot is.
     pub fn read(&mut self, alloc: Global, block: u32) -> Result<Option<(u32, Vec<u8>)>, Refusal>
         requires { block < self.old.parts.groups.blocks }
         ensures ok { IfOk result (WasFound self.old self.new block) }
@@ -60,8 +60,8 @@ impl<D: Drive, C: Hold> Array<D, C> {
     }
 
     /// The version of a block's last acknowledged write, with its payload put into the buffer, which allocates nothing; none
-    /// where that was a trim, or the block was never written. Refused as gone with the slot of its newest record, where that
-    /// can't be had. Where no version is returned, nothing is said of what the buffer holds.
+    /// where that was a trim, or the block was never written. Refused as gone, with the slot of its newest record, where
+    /// that slot is. Where no version is returned, nothing is said of what the buffer holds.
     pub fn read_into(&mut self, block: u32, payload: &mut [u8]) -> Result<Option<u32>, Refusal>
         requires block { block < self.old.parts.groups.blocks }
         requires payload { length payload.old ≡ self.old.parts.groups.payload }

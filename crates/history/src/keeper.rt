@@ -8,7 +8,7 @@ use crate::rule::{Says, Sitting};
 use crate::steps::{hire_in, look_in, note_in};
 use std::marker::{Brand, Model, PhantomData};
 
-/// The keeper of a history. A contract sees all that stands in it, and how many hands were hired.
+/// The keeper of a history. A contract sees all its entries, and how many hands were hired.
 #[derive(Drop)]
 pub struct Keeper<N: Chronicle, E> {
     pub(crate) hired: u64,

@@ -59,7 +59,7 @@ impl<E> Opened<E> {
         Ok(Opened { table, seat })
     }
 
-    /// The history by its name, in which nothing stands, its keeper, and the first hand.
+    /// The history by its name, without entries, its keeper, and the first hand.
     pub fn named<N: Chronicle>(self) -> (History<N, E>, Keeper<N, E>, Hand<N, E>)
         requires { self ≡ N.chronicle }
         ensures keeper { result.1 ≡ record { hired = 1; log = [] } }

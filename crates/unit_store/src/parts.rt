@@ -91,7 +91,7 @@ impl<D: Drive> Parts<D> {
         ensures there { OnOk result (IsGone self.new.groups (missing_in D.lost self.new) slot → ⊥) }
         ensures gone { IfErr result (ReportsGone D.units D.lost self.new slot) }
 
-        // No unit changes: if all slots were sound they still are, and each unit that exists afterwards is what it was.
+        // No unit changes: if all slots were sound they stay so, and each unit that exists afterwards is what it was.
         ensures units { AreSound self.old.groups (cells_in D.units D.lost self.old)
             → KeepsUnits self.old.groups (cells_in D.units D.lost self.old) (cells_in D.units D.lost self.new) }
         ensures sound { AreSound self.old.groups (cells_in D.units D.lost self.old) → AreSound self.new.groups (cells_in D.units D.lost self.new) }
