@@ -109,6 +109,7 @@ impl<D: Drive, C: Hold> Array<D, C> {
         let unit: &mut [u8] = &mut self.unit;
         let scratch: &mut [u8] = &mut self.scratch;
         let header = Header::Is(record, kind);
+        // The record goes into the unit's header, because a scan makes the map from the headers alone.
         if let Err(refusal) = self.parts.carry(slot, slot, &header, unit, scratch) {
             return Err((refusal, ticket));
         }

@@ -52,6 +52,7 @@ impl<D: Drive, C: Hold> Array<D, C> {
             Ok(payload) => payload,
             Err(_) => return Err(Refusal::Memory),
         };
+        // A trimmed block is read too, because only its unit says that it is trimmed.
         match self.payload_at(record.place, &mut payload) {
             Ok(Kind::Data) => Ok(Some((record.version, payload))),
             Ok(Kind::Trim) => Ok(None),

@@ -71,7 +71,8 @@ pub(crate) fn scan_group<U: Units>(
             found.note(alloc, reported)?;
         }
     }
-    // After the headers below it, so that the fault is that of the lowest slot.
+    // After the headers below it, so that the fault is that of the lowest slot. A slot that is gone is a fault, because its
+    // header may have a block's newest record.
     if read < count {
         return Err(ScanFault::Gone(SLOTS * group + read));
     }

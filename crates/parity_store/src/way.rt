@@ -49,6 +49,7 @@ fn read_two<D: Drive>(
         return Way::Missed;
     }
     if !read_place(drives, parity, sum) {
+        // No other member is asked, because with its own unit the slot isn't gone.
         return Way::Alone;
     }
     xor_both_into(sum, part, unit);

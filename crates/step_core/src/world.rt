@@ -135,6 +135,7 @@ impl<D: Drive> World<D> {
         ensures needs { OnErr result ((F : Flat) → Represents self.old F → IsAllocating F (say.Fill worker slot (Payload payload.now))) }
         ensures room { SameSizes self.old.array self.new.array }
     {
+        // Tested first, because anyone can make a plain claim: the array doesn't know who holds the slot.
         if !self.holds(worker, slot) {
             return Ok(Answer::NotHeld(slot));
         }

@@ -16,8 +16,8 @@ use flat_machine::Refusal;
 use map_join::Record;
 
 impl<D: Drive> Parts<D> {
-    /// Writes a payload under a blank header into a slot of either class. Takes a buffer of a unit's length and one of two
-    /// units'.
+    /// Writes a payload under a blank header into a slot of either class. Blank, so that a scan takes it for no commit. Takes
+    /// a buffer of a unit's length and one of two units'.
     pub fn put(
         &mut self,
         slot: u16,
