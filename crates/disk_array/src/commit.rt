@@ -27,9 +27,10 @@ use slot_tables::{Hold, SlotState, put_in, state_at, take_out, take_waiting};
 use std::alloc::Global;
 use std::marker::Model;
 
-/// The greatest version of a block, and the longest log.
+/// The greatest version of a block.
 const LAST_VERSION: u32 = 4_294_967_295;
 
+/// The most records that a log may have.
 pub(crate) const LONGEST_LOG: usize = 4_294_967_295;
 
 /// The record of a commit that was acknowledged. It can't be cloned, and a commit alone makes one, so that its owner knows of

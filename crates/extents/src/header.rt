@@ -9,16 +9,22 @@ ghost use Rattle.extents.specs.Stamp.{first_mark, second_mark, kind_byte, stampe
 
 use map_join::Record;
 
+/// The mark of layout 1.
 const FIRST_MARK: [u8; 4] = *b"RBH1";
 
+/// The mark of layout 2.
 const SECOND_MARK: [u8; 4] = *b"RBH2";
 
+/// A blank header.
 const ZEROS: [u8; 32] = [0; 32];
 
+/// The byte at which the record begins.
 const RECORD_AT: usize = 4;
 
+/// The byte of the kind, after the record.
 const KIND_AT: usize = 16;
 
+/// The byte from which on layout 2 has zeros.
 const REST_AT: usize = 17;
 
 /// Whether a committed write put a payload, or trimmed its block.

@@ -43,15 +43,19 @@ impl RecordFault {
     }
 }
 
-/// The byte of a record at which its version begins; then those of its hop and place, its length, and the least key.
+/// The byte of a record at which its version begins.
 const VERSION_AT: usize = 4;
 
+/// The byte at which its hop begins.
 const HOP_AT: usize = 8;
 
+/// The byte at which its place begins.
 const PLACE_AT: usize = 10;
 
+/// Bytes of a record.
 const RECORD_LEN: usize = 12;
 
+/// The least key: that of version 1, hop 0 and place 0.
 const LEAST_KEY: u64 = 0x1_0000_0000;
 
 impl Record {
