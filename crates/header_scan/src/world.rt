@@ -23,7 +23,7 @@ pub fn scan_world<D: Drive>(alloc: Global, world: &mut World<D>) -> Result<Block
     ensures fault { IfErr result (IsReportedOf world.old world.new) }
     ensures loses { OnlyLosesOf world.old world.new }
 {
-    // For the proof alone: the laws of scans are of whole arrays, so the states before and after the scan need this call.
+    // For the proof alone, before the scan and after it: nothing is done.
     world.whole();
     let reported = scan(alloc, world);
     world.whole();

@@ -245,7 +245,7 @@ fn run_by<D: Drive + Drop, S: Carry<D>>(
     requires takes { All S.takes steps.now }
     ensures { IsRunOf world steps.now result }
 {
-    // For the proof alone: the laws of runs are of whole arrays, so each state needs this call.
+    // For the proof alone: `represented_matches` is of whole arrays, so each state needs this call.
     world.whole();
     // Room for all answers first, so that each step that is carried out has one.
     let mut answers = match Vec::with_capacity(alloc, steps.len()) {
