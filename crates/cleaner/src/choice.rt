@@ -48,6 +48,7 @@ fn after_row<R: Ranks>(ranks: &R, left_out: Option<u16>, row: u16, best: Ranked)
     ensures { IsBestTo (R.rank ranks.now) left_out (16 * (row + 1)) result.group result.rank }
 {
     let lanes = ranks.row(row);
+    // One comparison, so that sixteen groups of which none is better aren't looked at one by one.
     if are_within(lanes, best.rank) {
         return best;
     }
@@ -64,6 +65,7 @@ fn after_row<R: Ranks>(ranks: &R, left_out: Option<u16>, row: u16, best: Ranked)
 fn better(left_out: Option<u16>, group: u16, rank: u16, best: Ranked) -> Ranked
     ensures { IsBetter left_out group rank best result }
 {
+    // Only a greater rank, so that of equals the lower number stays.
     if rank > best.rank && left_out != Some(group) {
         Ranked { group, rank }
     } else {

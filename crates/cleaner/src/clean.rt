@@ -62,6 +62,7 @@ pub fn clean_plan_unplugged<L: Live>(
     let Some(to) = append else {
         return None;
     };
+    // A move within the group would empty nothing, so it is no plan.
     if to / SLOTS == cleaned.group {
         return None;
     }
@@ -75,6 +76,7 @@ pub fn clean_plan_unplugged<L: Live>(
 pub fn empty_group<L: Live>(groups: &GroupTable, live: &L, write: Option<u16>) -> Option<u16>
     ensures { IsEmptyGroup groups.now (L.keys live.now) write result }
 {
+    // Nothing is read: by this call's clause the table has 512 numbers, so that the walk sees all groups.
     let _members = groups.members(0);
     for group in 0..GROUPS as u16 {
         if is_empty(groups, live, write, group) {

@@ -13,6 +13,7 @@ pub(crate) fn live_of<L: Live>(groups: &GroupTable, live: &L, group: u16) -> Opt
     ensures count { MatchOption result (class_in (group_at groups.now group) ≡ Some Parity → ⊥) (λ count. HasLive groups.now (L.keys live.now) group count) }
     ensures numbers { length groups.now.table ≡ 512 }
 {
+    // Nothing is read: by this call's clause the table has 512 numbers, so that callers' walks see all groups.
     let _members = groups.members(group);
     if groups.class_of(group) != Some(Class::Parity) {
         return None;

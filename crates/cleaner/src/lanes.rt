@@ -39,6 +39,7 @@ pub(crate) fn keep_holed(counts: u16x16, slots: u16x16) -> u16x16
 pub(crate) fn keep_parity(counts: u16x16, slots: u16x16) -> u16x16
     ensures { result ≡ zip2 in_parity counts slots }
 {
+    // Else `slots`, because that is 0 there.
     slots.simd_gt(u16x16::splat(0)).select(counts, slots)
 }
 
@@ -52,7 +53,7 @@ pub(crate) fn keep_up_to(counts: u16x16, most: u16) -> u16x16
         .select(counts, u16x16::splat(0))
 }
 
-// The lower a count the higher its rank, but 0 stays 0.
+// The lower a count the higher its rank, but 0 stays 0, because the subtraction wraps.
 #[inline(always)]
 pub(crate) fn turn(counts: u16x16) -> u16x16
     ensures { result ≡ map inverted_rank counts }

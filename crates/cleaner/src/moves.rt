@@ -1,6 +1,6 @@
 // What a plan says.
 
-/// A block that is to be copied from its newest place to a free slot.
+/// A block that is to be copied from its newest place to a slot that isn't live, held or not.
 #[derive(Clone, Copy, Debug, PartialEq, Eq)]
 pub struct Move {
     pub block: u32,

@@ -33,6 +33,7 @@ pub fn plug_plan_counted<L: Live>(
     let Some(target) = greatest(&Fullest { slots, counts }, write) else {
         return None;
     };
+    // A source has no more live slots than the target, so that blocks gather in the fuller group.
     let most = target.rank;
     let sources = Sources {
         slots,

@@ -22,6 +22,7 @@ pub(crate) fn is_pair_sound<D: Drive>(
     ensures sound { IsTrue result ↔ IsSoundAt (length unit.old) (cells D.units D.lost drives.new) (Pair first second) }
     ensures touched { KeepsDrives D.units D.lost D.failures NoPlace drives.old drives.new }
 {
+    // A copy whose drive is lost can't differ from the other, so the pair is sound.
     if !read_place(drives, first, unit) {
         return true;
     }

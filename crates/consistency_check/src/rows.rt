@@ -24,6 +24,7 @@ fn add_row<D: Drive>(
         (row_of (cells D.units D.lost drives.new) (row_at groups.now group offset)) ≡ if_ok result sum.new }
     ensures touched { KeepsDrives D.units D.lost D.failures NoPlace drives.old drives.new }
 {
+    // The buffer has what the caller left in it, and the sum starts from zeros.
     sum.fill(0);
     for number in 0..groups.members(group).len() as u8 {
         let place = groups.place(group, number, offset);
@@ -58,6 +59,7 @@ pub(crate) fn is_row_sound<D: Drive>(
         ↔ IsSoundAt (length sum.old) (cells D.units D.lost drives.new) (InStripe (row_at groups.now group at.now.offset) at.now.parity at.now.member) }
     ensures touched { KeepsDrives D.units D.lost D.failures NoPlace drives.old drives.new }
 {
+    // The lost unit may be the one that makes the sum zero, so the row is sound.
     if !add_row(groups, drives, group, at.offset, sum, part) {
         return true;
     }

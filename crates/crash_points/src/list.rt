@@ -16,8 +16,8 @@ use unit_store::{Micro, Note};
 /// Entries of the longest list: a note, two writes, and the note cleared.
 const LONGEST: usize = 4;
 
-// The list that gives a slot the unit: a note of it, the writes of its plan in their order, the note cleared. All memory is
-// taken before the first drive call.
+// The list that gives a slot the unit: a note of it, the writes of its plan in their order, the note cleared. So a stop among
+// the writes finds the note. All memory is taken before the first drive call, so that a refusal for memory loses no drive.
 pub(crate) fn list_unit<D: Drive, C: Hold>(
     alloc: Global,
     array: &mut Array<D, C>,

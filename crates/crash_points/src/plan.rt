@@ -20,10 +20,10 @@ use std::alloc::Global;
 use step_core::{Array, Hold};
 use unit_store::Micro;
 
-/// Plans a step as a list of single writes: a note of the slot's whole unit, and of the whole parity where one is written; the
-/// writes of exactly the slot's places whose drives are there, the first copy before the second, the data before the parity; and
-/// the note cleared. Nothing is written: claim, ticket, map and log stay, so the same step can be planned again. Drives may be
-/// found lost.
+/// Plans a step as a list of single writes. First a note of the slot's whole unit, and of the whole parity where one is
+/// written. Then the writes of exactly the slot's places whose drives aren't lost, the first copy before the second, the data
+/// before the parity. Last the note cleared. Nothing is written: claim, ticket, map and log stay, so the same step can be
+/// planned again. Drives may be found lost.
 ///
 /// Refused as the step is, in the same order, except that no claim is asked for: `InUse` is a slot that the array holds,
 /// where the step isn't a commit. Memory only where the step's checks pass.
@@ -63,6 +63,7 @@ fn plan_fill<D: Drive, C: Hold>(
     ensures run { IfOk result (λ list. CanRun D.units D.lost D.failures array.new list.items) }
     ensures loses { OnlyLoses array.old array.new }
 {
+    // Before the unit is made, so that Memory is only the answer to a step that passes its checks.
     if let Some(refusal) = array.fill_fault(slot) {
         return Err(refusal);
     }
@@ -86,6 +87,7 @@ fn plan_trim<D: Drive, C: Hold>(
     ensures run { IfOk result (λ list. CanRun D.units D.lost D.failures array.new list.items) }
     ensures loses { OnlyLoses array.old array.new }
 {
+    // Before the unit is made, so that Memory is only the answer to a step that passes its checks.
     if let Some(refusal) = array.fill_fault(slot) {
         return Err(refusal);
     }
@@ -147,6 +149,7 @@ fn plan_commit<D: Drive, C: Hold>(
         Ok(record) => record,
         Err(refusal) => return Err(refusal),
     };
+    // From the table, because the header of a slot that waits is blank and has no kind.
     let kind = array.waiting_kind(slot);
     let mut unit = match read_unit(alloc, array, slot) {
         Ok(unit) => unit,

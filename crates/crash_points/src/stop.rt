@@ -49,6 +49,7 @@ pub fn stop_after<D: Drive, C: Hold>(
         Ok(list) => list,
         Err(refusal) => return Err(Unfinished::NotBegun(refusal, array)),
     };
+    // Before any entry is carried out, so that out of memory leaves the step not begun.
     let (mut parts, claims) = match array.into_parts(alloc) {
         Ok(taken) => taken,
         Err(array) => return Err(Unfinished::NotBegun(Refusal::Memory, array)),

@@ -57,6 +57,7 @@ pub(crate) fn read_unit<D: Drive, C: Hold>(
     ensures loses { OnlyLoses array.old array.new }
 {
     let bytes = array.shape().unit_bytes();
+    // Both buffers before the read, so that Memory comes before any drive call.
     let mut unit = blank_unit(alloc, array)?;
     let Ok(mut scratch) = vec![in alloc; 0; 2 * bytes] else {
         return Err(Refusal::Memory);

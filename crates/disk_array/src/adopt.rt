@@ -45,6 +45,7 @@ impl<D: Drive, C: Hold> Array<D, C> {
         ensures parts { IfOk result (λ r. WasTakenApart D.units D.lost D.failures C.names self r.0 r.1.items r.2) }
         ensures err { IfErr result (λ array. array ≡ self) }
     {
+        // First the allocation, so that on a refusal each claim is in its place.
         let Ok(mut claims) = Vec::with_capacity(alloc, self.places.len()) else {
             return Err(self);
         };
@@ -101,6 +102,7 @@ impl<D: Drive, C: Hold> Array<D, C> {
             → ShowsArray r.0 (restarted F (at map) r.0.log)) }
         ensures err { IfErr result (λ e. IsNotAdopted C.names claims.items (at map) e.0 × (e.1 ≡ parts) × (e.2 ≡ map) × (e.3 ≡ claims)) }
     {
+        // All that can be refused comes first, so that a refusal returns all that was given.
         match prepare(alloc, &parts, &map, &claims) {
             Err(why) => Err((why, parts, map, claims)),
             Ok(ready) => {
@@ -149,6 +151,7 @@ impl<D: Drive, C: Hold> Array<D, C> {
     {
         match Array::adopt_among(alloc, parts, map, claims) {
             Ok((array, others)) => {
+                // The claims are exactly those of the newest places, so none is left.
                 others.destroy_empty();
                 Ok(array)
             }

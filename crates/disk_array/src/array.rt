@@ -30,13 +30,13 @@ use unit_store::Parts;
 pub struct Array<D: Drive, C: Hold> {
     pub(crate) parts: Parts<D>,
     pub(crate) log: Vec<Record>,
-    /// The key of each block, 0 where it was never written.
+    /// The key of each block, 0 where it was never written. Kept next to the log, so that no call walks the log.
     pub(crate) keys: Vec<u64>,
     /// What is kept of each slot, at least for the numbers of all made groups. Of slots past its end nothing is kept.
     pub(crate) places: Vec<SlotState<C>>,
-    /// Of each group, how many of its slots are newest places.
+    /// Of each group, how many of its slots are newest places. Kept, so that plans don't count them.
     pub(crate) live: [u16; GROUPS],
-    /// A buffer of a unit's length, and one of two units', for the calls of the drives.
+    /// A buffer of a unit's length, and one of two units', for the calls of the drives. Kept, so that these allocate nothing.
     pub(crate) unit: Vec<u8>,
     pub(crate) scratch: Vec<u8>,
 }
@@ -144,6 +144,7 @@ impl<D: Drive, C: Hold> Array<D, C> {
     pub fn whole(&self)
         ensures { IsWhole self.now }
     {
+        // The law is the invariant of the type: there is nothing to do.
         let _ = &self.parts;
     }
 

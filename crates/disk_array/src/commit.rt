@@ -27,12 +27,14 @@ use slot_tables::{Hold, SlotState, put_in, state_at, take_out, take_waiting};
 use std::alloc::Global;
 use std::marker::Model;
 
-/// The greatest version of a block, and the longest log.
+/// The greatest version of a block.
 const LAST_VERSION: u32 = 4_294_967_295;
 
+/// The most records that a log may have.
 pub(crate) const LONGEST_LOG: usize = 4_294_967_295;
 
-/// The record of a commit that was acknowledged. It can't be cloned, and a commit alone makes one.
+/// The record of a commit that was acknowledged. It can't be cloned, and a commit alone makes one, so that its owner knows of
+/// a commit.
 #[derive(Debug, Drop)]
 pub struct Emitted {
     record: Record,
@@ -98,13 +100,17 @@ impl<D: Drive, C: Hold> Array<D, C> {
             Ok(record) => record,
             Err(refusal) => return Err((refusal, ticket)),
         };
+        // From the table, because the header of a slot that waits is blank and has no kind.
         let kind = self.waiting_kind(slot);
+        // After the checks, so that Memory is only the answer to a commit that passes them. Before the drives, so that
+        // nothing can fail after the write.
         if self.log.reserve(1).is_err() {
             return Err((Refusal::Memory, ticket));
         }
         let unit: &mut [u8] = &mut self.unit;
         let scratch: &mut [u8] = &mut self.scratch;
         let header = Header::Is(record, kind);
+        // The record goes into the unit's header, because a scan makes the map from the headers alone.
         if let Err(refusal) = self.parts.carry(slot, slot, &header, unit, scratch) {
             return Err((refusal, ticket));
         }
@@ -137,6 +143,7 @@ impl<D: Drive, C: Hold> Array<D, C> {
             Some(SlotState::Unmade(_)) => Err(Refusal::NoTicket),
             None => Err(Refusal::NoTicket),
         };
+        // Last, so that a full log is only the answer to a commit that passes all other checks.
         if next.is_ok() && self.log.len() >= LONGEST_LOG {
             return Err(Refusal::LogFull);
         }
@@ -231,7 +238,7 @@ pub(crate) fn written(block: u32, slot: u16, found: Option<Record>) -> Result<Re
     })
 }
 
-// The record of a copy: the version that was copied, one hop on, where it is still the newest.
+// The record of a copy: the version that was copied, one hop on, where that is the newest.
 fn moved(source: Record, block: u32, slot: u16, found: Option<Record>) -> Result<Record, Refusal>
     requires { source.hop < 65535 }
     ensures ok { IfOk result (λ next. (stamp_reason source block found ≡ None)
@@ -244,6 +251,7 @@ fn moved(source: Record, block: u32, slot: u16, found: Option<Record>) -> Result
     if source.block != block {
         return Err(Refusal::NoTicket);
     }
+    // The place isn't compared, because no two records of a block have the same version and hop.
     if newest.version != source.version || newest.hop != source.hop {
         return Err(Refusal::Outrun(newest));
     }

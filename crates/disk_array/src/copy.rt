@@ -52,6 +52,7 @@ impl<D: Drive, C: Hold> Array<D, C> {
             Ok(kind) => kind,
             Err(refusal) => return Err((refusal, claim)),
         };
+        // After the drives, so that a refusal leaves nothing kept of the slot.
         put_in(
             &mut self.places,
             slot,
@@ -75,6 +76,7 @@ impl<D: Drive, C: Hold> Array<D, C> {
         let Some(newest) = found else {
             return Err(Refusal::Unwritten);
         };
+        // Tested at the copy, so that its commit always has a next hop.
         if newest.hop >= LAST_HOP {
             return Err(Refusal::HopsSpent);
         }

@@ -63,11 +63,13 @@ impl<D: Drive, C: Hold> Array<D, C> {
         ensures rest { OnErr result ((self.new ≡ with_parts self.old self.new.parts) × (claims.new ≡ claims.old)) }
         ensures whole { IsWhole self.old }
     {
+        // First, because an allocation that fails must leave no group. Longer places alone change nothing.
         let Ok(()) = grow_to(&mut self.places, number) else {
             return Err(Refusal::Memory);
         };
         match self.parts.enter(number, class, members, &mut self.unit) {
             Ok(()) => {
+                // Only once the group is made, so that a lost drive leaves the claims in their places.
                 open_number(&mut self.places, number, claims);
                 Ok(())
             }

@@ -41,6 +41,7 @@ impl<D: Drive, C: Hold> Array<D, C> {
         if let Err(refusal) = self.parts.put(slot, payload, unit, scratch) {
             return Err((refusal, claim));
         }
+        // After the drives, so that a refusal leaves nothing kept of the slot.
         put_in(
             &mut self.places,
             slot,
@@ -49,8 +50,8 @@ impl<D: Drive, C: Hold> Array<D, C> {
         Ok(Ticket::of(slot))
     }
 
-    /// Why a fresh content can't go into the slot: no made group has it, its group is of parity, or the array holds it. None where
-    /// `fill` and `trim` test no more than whether its drives are there.
+    /// Why a fresh content can't go into the slot: no made group has it, its group is of parity, or the array holds it. If
+    /// None, `fill` and `trim` are refused only where the drives of both copies are lost.
     pub fn fill_fault(&self, slot: u16) -> Option<Refusal>
         ensures { result ≡ fill_reason self.now slot }
     {

@@ -36,6 +36,7 @@ impl<D: Drive, C: Hold> Array<D, C> {
             (λ e. MayRefuse e.0 (IsAllocating F say.AddDrive) (AddCase F (say.Refused e.0) F)) }
     {
         let number = self.drive_count();
+        // Before the allocation, so that sixteen drives are Full even if out of memory.
         if number >= DRIVES {
             return Err((Refusal::Full, drive));
         }
@@ -45,7 +46,7 @@ impl<D: Drive, C: Hold> Array<D, C> {
         }
     }
 
-    // The same, where there is a number left.
+    // Adds a drive where a number is left for it.
     fn attach(&mut self, alloc: Global, drive: D) -> Result<(), D>
         requires room { length self.old.parts.drives < most_drives }
         requires many { length (D.units drive) ≡ self.old.parts.groups.extents * extent_units self.old.parts.groups.segments }

@@ -91,6 +91,7 @@ impl Hands {
             ((is_ticket (hand_at self.old slot) worker ≡ false) × (self.new ≡ self.old))
             (λ ticket. (is_ticket (hand_at self.old slot) worker ≡ true) × (ticket ≡ slot) × (self.new ≡ slice_set self.old slot Hand.Empty)) }
     {
+        // The whole word, because both the kind and the worker have to agree.
         if self.hands[usize::from(slot)] == TICKET + u16::from(worker) {
             self.clear(slot);
             Some(Ticket::of(slot))

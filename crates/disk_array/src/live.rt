@@ -71,6 +71,7 @@ fn count_newest<C: Hold>(places: &[SlotState<C>], group: u16) -> u16
     requires { group < 512 }
     ensures { result ≡ newest_below (kepts_of places.now) group 128 }
 {
+    // Past the places nothing is kept, so a restart with few groups counts few slots.
     if usize::from(SLOTS * group) >= places.len() {
         return 0;
     }

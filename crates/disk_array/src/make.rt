@@ -48,10 +48,12 @@ impl<D: Drive, C: Hold> Array<D, C> {
         let Some(number) = lowest_free(&self.parts.groups) else {
             return Err(Refusal::Full);
         };
+        // All checks come before this, so that Memory is only the answer to a group that could be made.
         let members = match members.to_vec(alloc) {
             Ok(members) => members,
             Err(_) => return Err(Refusal::Memory),
         };
+        // Room for all that may be kept of a number, so that taking them out can't fail.
         let mut claims = match Vec::with_capacity(alloc, usize::from(SLOTS)) {
             Ok(claims) => claims,
             Err(_) => return Err(Refusal::Memory),
@@ -59,6 +61,7 @@ impl<D: Drive, C: Hold> Array<D, C> {
         match self.enter(number, class, members, &mut claims) {
             Ok(()) => Ok((number, claims)),
             Err(refusal) => {
+                // Explicitly, because a list of claims has no `Drop`, even an empty one.
                 claims.destroy_empty();
                 Err(refusal)
             }
@@ -70,6 +73,8 @@ impl<D: Drive, C: Hold> Array<D, C> {
         ensures reason { IsMakeReason self.now members.now result }
         ensures fits { result ≡ None → AreThere self.now.parts.owners members.now × (put_fault self.now.parts.owners members.now ≡ None) }
     {
+        // Each test looks at all members, so that the refusal doesn't depend on their order, but for which lost drive it
+        // names.
         if !are_members(&self.parts.extents, members) {
             return Some(Refusal::BadMember);
         }
@@ -91,11 +96,12 @@ pub(crate) fn reported(fault: Option<GroupRefusal>) -> Option<Refusal>
     match fault {
         None => None,
         Some(GroupRefusal::SameDrive) => Some(Refusal::SameDrive),
+        // Too few or too many members are BadMember already, so this is the one that is left.
         Some(_) => Some(Refusal::ExtentTaken),
     }
 }
 
-// Three to eight members, each an extent that is there.
+// Three to eight members, each an extent that exists, on any drive.
 fn are_members(extents: &ExtentTable, members: &[Member]) -> bool
     ensures { IsTrue result ↔ ((3 ≤ length members.now) × (length members.now ≤ 8) × AreThere extents.now members.now) }
 {
@@ -107,6 +113,7 @@ fn lowest_free(groups: &GroupTable) -> Option<u16>
     ensures some { IfSome result (IsLowestFree groups.now) }
     ensures none { IsNone result → IsTableFull groups.now }
 {
+    // Nothing is read: by this call's clause the table has 512 numbers, so that the walk sees all of them.
     let _members = groups.members(0);
     for number in 0..GROUPS as u16 {
         if groups.is_free(number) {

@@ -55,8 +55,8 @@ impl<C: Hold> Array<MemDrive, C> {
         }
     }
 
-    /// Makes a drive fail at its `calls`-th read or write from now (1 = the next) and at all later ones.
-    /// Until then the drive isn't steady and answers as before.
+    /// Makes a drive fail at its `calls`-th read or write from now (1 = the next) and at all later ones. Until then it
+    /// answers as it did, and isn't steady. A lost drive stays as it is.
     pub fn fuse(&mut self, drive: u8, calls: u64)
         requires drive { drive < length self.old.parts.drives }
         requires calls { 1 ≤ calls }

@@ -29,9 +29,9 @@ use slot_tables::{Hold, SlotState, put_in};
 use std::alloc::Global;
 
 impl<D: Drive, C: Hold> Array<D, C> {
-    /// Fills a mirrored slot with a payload, or with a trim, whose payload isn't looked at, and commits it to the block, in one
-    /// write: what `fill` or `trim` leaves, and then `commit`. Refused as `fill` is. Where the commit would be refused, or an
-    /// allocation fails, there is no refusal, and nothing was done: the caller fills and commits, and is told why.
+    /// Fills a mirrored slot with a payload or a trim and commits it to the block, in one write: what `fill` or `trim`
+    /// leaves, and then `commit`. A trim's payload isn't looked at. Refused as `fill` is. Where the commit would be refused,
+    /// or an allocation fails, there is no refusal, and nothing was done: the caller fills and commits, and learns why.
     pub fn place(
         &mut self,
         alloc: Global,
@@ -57,6 +57,7 @@ impl<D: Drive, C: Hold> Array<D, C> {
             ((G : Flat) × FillCase F w (C.names claim) (content_under kind payload.now) (say.Refused refusal) G × ShowsArray self.new G))) }
     {
         let slot = claim.slot();
+        // In the order of `fill` and then `commit`, so that the answers are theirs.
         if let Some(refusal) = self.fill_fault(slot) {
             return Err((Some(refusal), claim));
         }
@@ -64,6 +65,8 @@ impl<D: Drive, C: Hold> Array<D, C> {
         let Some(stamp) = self.fresh_record(slot, block, found) else {
             return Err((None, claim));
         };
+        // Before the drives, so that nothing can fail after the write. No refusal, because `fill` needs no memory: the commit
+        // after it says Memory.
         if self.log.reserve(1).is_err() {
             return Err((None, claim));
         }
@@ -112,6 +115,8 @@ impl<D: Drive, C: Hold> Array<D, C> {
             Ok(source) => source,
             Err(refusal) => return Err((Some(refusal), claim)),
         };
+        // Before the drives, so that nothing can fail after the write. No refusal, because `copy` needs no memory: the commit
+        // after it says Memory.
         if self.log.len() >= LONGEST_LOG || self.log.reserve(1).is_err() {
             return Err((None, claim));
         }

@@ -32,7 +32,7 @@ pub enum At {
 
 impl<D: Drive, C: Hold> Array<D, C> {
     /// The version and the payload of a block's last acknowledged write; none where that was a trim, or the block was never
-    /// written. Refused as gone with the slot of its newest record, where that can't be had.
+    /// written. Refused as gone, with the slot of its newest record, where that slot is.
     pub fn read(&mut self, alloc: Global, block: u32) -> Result<Option<(u32, Vec<u8>)>, Refusal>
         requires { block < self.old.parts.groups.blocks }
         ensures ok { IfOk result (WasFound self.old self.new block) }
@@ -47,10 +47,12 @@ impl<D: Drive, C: Hold> Array<D, C> {
         let Some(record) = self.reported(block) else {
             return Ok(None);
         };
+        // Before the drive call, so that out of memory loses no drive.
         let mut payload = match self.no_payload(alloc) {
             Ok(payload) => payload,
             Err(_) => return Err(Refusal::Memory),
         };
+        // A trimmed block is read too, because only its unit says that it is trimmed.
         match self.payload_at(record.place, &mut payload) {
             Ok(Kind::Data) => Ok(Some((record.version, payload))),
             Ok(Kind::Trim) => Ok(None),
@@ -59,8 +61,8 @@ impl<D: Drive, C: Hold> Array<D, C> {
     }
 
     /// The version of a block's last acknowledged write, with its payload put into the buffer, which allocates nothing; none
-    /// where that was a trim, or the block was never written. Refused as gone with the slot of its newest record, where that
-    /// can't be had. Where no version is returned, nothing is said of what the buffer holds.
+    /// where that was a trim, or the block was never written. Refused as gone, with the slot of its newest record, where
+    /// that slot is. Where no version is returned, nothing is said of what the buffer holds.
     pub fn read_into(&mut self, block: u32, payload: &mut [u8]) -> Result<Option<u32>, Refusal>
         requires block { block < self.old.parts.groups.blocks }
         requires payload { length payload.old ≡ self.old.parts.groups.payload }
@@ -94,6 +96,7 @@ impl<D: Drive, C: Hold> Array<D, C> {
             (IsAllocating F (say.ReadAt asked))
             ((G : Flat) × ReadAtCase F asked (say.Refused refusal) G × ShowsArray self.new G)) }
     {
+        // Before the allocation, so that Memory is only the answer to a record that isn't ahead.
         if let Err(refusal) = self.not_ahead(asked) {
             return Err(refusal);
         }
@@ -134,6 +137,7 @@ impl<D: Drive, C: Hold> Array<D, C> {
         ensures err { IfErr result (FoundGone self.old.parts self.new.parts asked.now.place) }
         ensures rest { self.new ≡ with_parts self.old self.new.parts }
     {
+        // The group of an old record may be dissolved since, so the slot is tested.
         if self.class_of(asked.place).is_none() {
             return Ok(Sight::Stale(None));
         }

@@ -105,6 +105,7 @@ impl<D: Drive, C: Hold> Array<D, C> {
             Ok(newest) => newest,
             Err(refusal) => return Err(refusal),
         };
+        // Only after Ahead, so that the refusals come in the order of `read_at`, which allocates then.
         let Ok(mut payload) = room else {
             return Err(Refusal::Memory);
         };

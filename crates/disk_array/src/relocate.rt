@@ -21,7 +21,7 @@ use slot_tables::Hold;
 impl<D: Drive, C: Hold> Array<D, C> {
     /// Copies the units of a group's member onto another extent, or rebuilds them from the other members if the member's
     /// drive is lost, also during the move. Then that extent is the member, and the old one is free. Refused where there is
-    /// no such member, or the other extent isn't there, is on a drive of one of the members, is owned, or is on a drive that
+    /// no such member, or the other extent doesn't exist, is on a drive of one of the members, is owned, or is on a drive that
     /// is lost by then; and as gone, with the lowest slot of the group that is gone, where a unit can't be rebuilt. A refused
     /// move leaves tables and slots as they were, but for drives that were lost; the other extent may have been written.
     pub fn move_extent(&mut self, group: u16, member: u8, to: Member) -> Result<(), Refusal>
@@ -38,6 +38,7 @@ impl<D: Drive, C: Hold> Array<D, C> {
         if let Some(refusal) = self.move_fault(group, member, to) {
             return Err(refusal);
         }
+        // Before any unit is read, so that no move is begun onto a lost drive.
         if self.is_lost(to.drive) {
             return Err(Refusal::DriveLost(to.drive));
         }

@@ -26,6 +26,7 @@ impl<D: Drive, C: Hold> Array<D, C> {
         let Ok(log) = map.to_list(alloc) else {
             return Err(AllocError);
         };
+        // Only the whole new log replaces the old one, so that a failed allocation changes nothing.
         self.log = log;
         Ok(())
     }

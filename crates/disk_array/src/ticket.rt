@@ -3,7 +3,7 @@ ghost use Rattle.std.specs.Prelude.{◌≡◌};
 
 use std::marker::Model;
 
-/// A slot that waits for its commit. A ticket can't be cloned.
+/// A slot that waits for its commit. A ticket can't be cloned, so that no slot is committed twice.
 #[derive(Debug, Drop)]
 pub struct Ticket {
     slot: u16,

@@ -40,6 +40,7 @@ impl<D: Drive, C: Hold> Array<D, C> {
         if let Err(refusal) = self.parts.put_trim(slot, unit, scratch) {
             return Err((refusal, claim));
         }
+        // After the drives, so that a refusal leaves nothing kept of the slot.
         put_in(
             &mut self.places,
             slot,

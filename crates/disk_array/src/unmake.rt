@@ -79,6 +79,7 @@ impl<D: Drive, C: Hold> Array<D, C> {
         ensures rest { self.new ≡ opened_view self.old self.new.parts self.new.kept }
         ensures whole { IsWhole self.old }
     {
+        // Kept by the group's number, because no claim may be lost.
         close_all(&mut self.places, claims);
         self.parts.take(group);
     }

@@ -82,7 +82,7 @@ pub record IsFree (groups : Groups) (g : ℕ) : Type 0 where
   pub within : g < length groups.table
   pub free : group_at groups g ≡ None
 
--- the members are extents that are there, all owned by the group
+-- the members are extents that exist, all owned by the group
 abbrev pub AreOwned : Owners → List Member → ℕ → Type 0
 AreOwned owners members g = (k : ℕ) (m : Member) → slice_get members k ≡ Some m → IsExtent owners m.drive m.extent × (owner_of owners m.drive m.extent ≡ Some g)
 
@@ -98,14 +98,14 @@ HasMemberAt members drive extent = (k : ℕ) × (slice_get members k ≡ Some (r
 abbrev pub RowMatches : Groups → List (Option ℕ) → ℕ → Type 0
 RowMatches groups row drive = (extent g : ℕ) → slice_get row extent ≡ Some (Some g) → HasMemberAt (members_of groups g) drive extent
 
--- the groups and the owners agree: each extent of a group is there and owned by that group, and each owned extent is a member of
+-- the groups and the owners agree: each extent of a group exists and is owned by that group, and each owned extent is a member of
 -- its owner
 pub record Agree (groups : Groups) (owners : Owners) : Type 0 where
   pub owned : (g : ℕ) → AreOwned owners (members_of groups g) g
   pub matches : (g drive extent : ℕ) → owner_of owners drive extent ≡ Some g → HasMemberAt (members_of groups g) drive extent
   pub wide : AreWide owners
 
--- each of the members is an extent that is there
+-- each of the members is an extent that exists; its drive may be lost
 abbrev pub AreThere : Owners → List Member → Type 0
 AreThere owners members = (k : ℕ) (m : Member) → slice_get members k ≡ Some m → IsExtent owners m.drive m.extent
 

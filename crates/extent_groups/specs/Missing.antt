@@ -1,4 +1,4 @@
--- Which slots are lost, and how much each group misses, stated over the geometry and the lost drives alone.
+-- Which slots are gone, and how much each group misses, stated over the geometry and the lost drives alone.
 use Rattle.std.specs.Prelude.{◌≡◌, ◌≢◌, ℕ, Bool, true, Option, Some, None, List, slice_get}
 use Rattle.extent_groups.specs.declared.class.Member.{Member}
 use Rattle.extent_groups.specs.declared.place.Place.{Place}
@@ -14,14 +14,14 @@ is_missing lost (Some drive) = lost drive
 abbrev pub missing_of : {D : Type 0} → (D → Bool) → List D → ℕ → Bool
 missing_of lost drives drive = is_missing lost (slice_get drives drive)
 
--- a site is lost where both its copies' drives are missing, or its member's in the row and another's
+-- a site is gone where both its copies' drives are missing, or its member's in the row and another's
 abbrev pub IsGoneAt : (ℕ → Bool) → Site → Type 0
 IsGoneAt missing (Pair p q) = (missing p.drive ≡ true) × (missing q.drive ≡ true)
 IsGoneAt missing (InStripe row parity i) =
     ((x : Place) × (slice_get row i ≡ Some x) × (missing x.drive ≡ true))
     × ((k : ℕ) × (y : Place) × (k ≢ i) × (slice_get row k ≡ Some y) × (missing y.drive ≡ true))
 
--- a slot is lost
+-- a slot is gone: it has no effective unit, because of lost drives
 abbrev pub IsGone : Groups → (ℕ → Bool) → ℕ → Type 0
 IsGone groups missing slot = (site : Site) × (site_of groups slot ≡ Some site) × IsGoneAt missing site
 

@@ -30,15 +30,15 @@ abbrev pub AreOnce : List Intended → Type 0
 AreOnce [] = Unit {0}
 AreOnce (w ∷ ws) = ((v : Intended) → Contains ws v → v.place ≢ w.place) × AreOnce ws
 
--- the writes that give a slot a unit: each of the slot's places that is there gets what is wanted for it, and no other place is
--- written; all of them together write the slot
+-- the writes that give a slot a unit: each of the slot's places whose drive isn't lost gets what is wanted for it, and no other
+-- place is written; all of them together write the slot
 pub record IsWritePlan (groups : Groups) (c : Cells) (slot : ℕ) (unit : List ℕ) (expected : Place → List ℕ) (writes : List Intended) : Type 0 where
   pub once : AreOnce writes
   pub own : (w : Intended) → Contains writes w → IsOwnOf groups slot w.place × (w.unit ≡ expected w.place)
   pub all : (x : Place) → IsOwnOf groups slot x → held (after c writes) x ≡ over (held c x) (expected x)
   pub wrote : WroteSlot groups c (after c writes) slot unit
 
--- the slot's places that are there got what is wanted for them, and drives may have been lost
+-- the slot's places whose drives weren't lost got what is wanted for them, and drives may have been lost
 pub record IsFinished (groups : Groups) (c new : Cells) (slot : ℕ) (expected : Place → List ℕ) : Type 0 where
   pub own : (x : Place) → IsOwnOf groups slot x → (held new x ≡ over (held c x) (expected x)) ⊎ (held new x ≡ None)
   pub others : (x : Place) → (IsOwnOf groups slot x → ⊥) → FadesAt c new x

@@ -7,7 +7,7 @@ ghost use Rattle.extent_groups.specs.Groups.{members_of, AreOwned, HasMemberAt, 
 use crate::{GROUPS, GroupTable, Member};
 use extents::ExtentTable;
 
-/// Whether a member is an extent that is there, and owned by the group.
+/// Whether a member names an extent that exists, and the group owns it.
 fn is_owned_by(extents: &ExtentTable, member: Member, group: u16) -> bool
     ensures { IsTrue result ↔ (IsExtent extents.now member.drive member.extent × (owner_of extents.now member.drive member.extent ≡ Some group)) }
 {
@@ -20,7 +20,7 @@ fn is_owned_by(extents: &ExtentTable, member: Member, group: u16) -> bool
     }
 }
 
-/// Whether all members are extents that are there, and owned by the group.
+/// Whether all members name extents that exist, and the group owns them.
 fn are_owned(extents: &ExtentTable, members: &[Member], group: u16) -> bool
     ensures { IsTrue result ↔ AreOwned extents.now members.now group }
 {
@@ -37,10 +37,11 @@ fn matches(members: &[Member], drive: usize, extent: usize) -> bool
 }
 
 impl GroupTable {
-    /// Whether each extent of a group is there, and owned by it.
+    /// Whether each member of each group names an extent that exists, and its group owns it.
     fn owns_its_extents(&self, extents: &ExtentTable) -> bool
         ensures { IsTrue result ↔ ((g : ℕ) → AreOwned extents.now (members_of self.now g) g) }
     {
+        // Nothing is read: by this call's clause the table has 512 numbers, so that the walk sees all groups.
         let _members = self.members(0);
         for group in 0..GROUPS as u16 {
             if !are_owned(extents, self.members(group), group) {
@@ -89,7 +90,9 @@ impl GroupTable {
     pub fn agrees(&self, extents: &ExtentTable) -> bool
         ensures { IsTrue result ↔ Agree self.now extents.now }
     {
+        // Nothing is read: by this call's clause each row has all extents, so that the walk sees all owners.
         let _drives = extents.drives();
+        // Both ways, because a table from outside may have a member without its owner, or an owner without its member.
         self.owns_its_extents(extents) && self.has_what_is_owned(extents)
     }
 }

@@ -12,7 +12,7 @@ use crate::{Class, GroupRefusal, GroupTable, Member};
 use extents::ExtentTable;
 use std::alloc::Global;
 
-/// Whether each of the members is an extent that is there.
+/// Whether each of the members names a drive and an extent that exist; the drive may be lost.
 pub fn are_there(extents: &ExtentTable, members: &[Member]) -> bool
     ensures { IsTrue result ↔ AreThere extents.now members.now }
 {
@@ -74,6 +74,7 @@ pub fn put_check(extents: &ExtentTable, members: &[Member]) -> Option<GroupRefus
     if members.len() > 8 {
         return Some(GroupRefusal::TooMany);
     }
+    // Each test looks at all members, so that the refusal doesn't depend on their order.
     if shares_drive(members) {
         return Some(GroupRefusal::SameDrive);
     }
@@ -83,7 +84,8 @@ pub fn put_check(extents: &ExtentTable, members: &[Member]) -> Option<GroupRefus
     None
 }
 
-/// Why a member isn't swapped for an extent that is there: one of the members is on its drive, or a group owns it.
+/// Why a member isn't swapped for an extent that exists: one of the members, the swapped one too, is on its drive, or a group
+/// owns it.
 pub fn swap_check(extents: &ExtentTable, members: &[Member], to: Member) -> Option<GroupRefusal>
     requires { IsExtent extents.now to.drive to.extent }
     ensures { result ≡ swap_check_of extents.now members.now to }
@@ -97,7 +99,7 @@ pub fn swap_check(extents: &ExtentTable, members: &[Member], to: Member) -> Opti
     None
 }
 
-/// Puts another extent in the place of a member of an optional group, where both are there.
+/// Puts another extent in the place of a member of an optional group, if there are such a group and member.
 fn replace(kept: &mut Option<Kept>, member: usize, to: Member)
     ensures { option_map group_of kept.new ≡ option_map (λ g. with_member g member to) (option_map group_of kept.old) }
 {
@@ -109,7 +111,8 @@ fn replace(kept: &mut Option<Kept>, member: usize, to: Member)
 }
 
 impl GroupTable {
-    /// Makes a group, of members that pass every check, under a free number.
+    /// Makes a group, of members that pass every check, under a free number. It takes their vector, so that nothing is
+    /// allocated and nothing can fail.
     pub fn enter_group(
         &mut self,
         extents: &mut ExtentTable,
@@ -153,6 +156,7 @@ impl GroupTable {
         if let Some(refusal) = put_check(extents, members) {
             return Err(refusal);
         }
+        // After the check, so that Memory is only the answer to members that could be a group.
         let Ok(kept) = Vec::from_slice(alloc, members) else {
             return Err(GroupRefusal::Memory);
         };
@@ -220,6 +224,7 @@ impl GroupTable {
         if let Some(refusal) = swap_check(extents, members, to) {
             return Err(refusal);
         }
+        // After all checks: from here on both tables change, and nothing can fail, so they always agree.
         let was = members[member as usize];
         extents.set_owner(was.drive, was.extent, None);
         extents.set_owner(to.drive, to.extent, Some(group));

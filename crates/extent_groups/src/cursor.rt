@@ -33,7 +33,8 @@ impl MirroredAt {
         }
     }
 
-    /// The next slot of a group of this count of members, which has fewer than 128 slots. It takes no division.
+    /// The next slot of a group of this count of members, which has fewer than 128 slots. It takes no division, since a scan
+    /// takes this step for each slot.
     #[inline(always)]
     pub fn next(&self, members: u8) -> MirroredAt
         requires many { (2 ≤ members) × (members ≤ 8) }
@@ -63,7 +64,8 @@ impl ParityAt {
         }
     }
 
-    /// The next slot of a group of this count of members, which has fewer than 128 slots. It takes no division.
+    /// The next slot of a group of this count of members, which has fewer than 128 slots. It takes no division, since a scan
+    /// takes this step for each slot.
     #[inline(always)]
     pub fn next(&self, members: u8) -> ParityAt
         requires many { (2 ≤ members) × (members ≤ 8) }

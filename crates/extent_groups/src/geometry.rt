@@ -1,6 +1,6 @@
-// Where the slots of a group lie. Segments of a mirrored group have positions 0, 1, ..: position k is on
-// member k mod n in row k / n, and two positions in turn are a pair. A stripe of a parity group is one
-// row of all members; its parity moves from the last member down, a member a stripe.
+// Where the slots of a group lie. Segments of a mirrored group have positions 0, 1, ..: position k is on member k mod n in
+// row k / n. Two positions in turn are a pair, so that its copies are on two drives. A stripe of a parity group is one row of
+// all members. Its parity moves from the last member down, a member a stripe, so that parity writes spread over all drives.
 ghost use Rattle.std.specs.Prelude.{◌≡◌, ◌≢◌, ℕ, ◌+◌, ◌*◌, ◌<◌, ◌≤◌, ◌==◌, if◌then◌else◌};
 
 /// A unit of a group: which member, and the offset in its extent.
@@ -87,7 +87,8 @@ fn unit_after(at: Spot) -> Spot
     }
 }
 
-/// Where the two copies of the slot after that of an index lie, by where its own lie: a step takes no division.
+/// Where the two copies of the slot after that of an index lie, by where its own lie. A step takes no division, since a scan
+/// takes it for each slot.
 #[inline(always)]
 pub fn next_copies(members: u8, index: u16, at: &Copies) -> Copies
     requires many { (2 ≤ members) × (members ≤ 8) }
@@ -148,7 +149,8 @@ fn but_parity(parity: u8, member: u8) -> u8
     if member == parity { member + 1 } else { member }
 }
 
-/// Where the parity slot after that of an index lies, by where its own lies: a step takes no division.
+/// Where the parity slot after that of an index lies, by where its own lies. A step takes no division, since a scan takes it
+/// for each slot.
 #[inline(always)]
 pub fn next_stripe(members: u8, index: u16, at: &Stripe) -> Stripe
     requires many { (2 ≤ members) × (members ≤ 8) }

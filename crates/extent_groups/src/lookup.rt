@@ -16,6 +16,7 @@ fn mirrored_role(members: u8, slots: u16, member: u8, offset: u16) -> Role
 {
     let position = offset / 2 * members as u16 + member as u16;
     let index = 2 * (position / 2) + offset % 2;
+    // If the number of positions is odd, the last one has no partner, so it has no slot.
     if index < slots {
         Role::Slot(index)
     } else {

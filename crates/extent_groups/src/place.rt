@@ -92,6 +92,7 @@ pub fn sync_drives<D: Drive>(drives: &mut [D])
     ensures { KeepsDrives D.units D.lost D.failures NoPlace drives.old drives.new }
 {
     for number in 0..drives.len() {
+        // The result isn't needed, because a failed sync shows as a lost drive.
         let _ = drives[number].sync();
     }
 }

@@ -21,7 +21,7 @@ pub struct Planned {
 /// Why no writes are planned.
 #[derive(Clone, Copy, Debug, PartialEq, Eq)]
 pub enum PlanRefusal {
-    /// The unit of this slot would be lost even after the writes: too many drives of its group are lost.
+    /// This slot would be gone even after the writes: too many drives of its group are lost.
     Gone(u16),
     /// Out of memory.
     Memory,

@@ -12,7 +12,7 @@ use std::marker::Model;
 /// How many numbers there are for groups.
 pub const GROUPS: usize = 512;
 
-/// How many slot numbers belong to each group number.
+/// How many slot numbers belong to each group number: 128, so that the slots of 512 groups take all numbers of 16 bits.
 pub const SLOTS: u16 = 128;
 
 /// A group that is made.
@@ -48,6 +48,7 @@ fn free_numbers(alloc: Global, count: usize) -> Result<Vec<Option<Kept>>, AllocE
     ensures { IfOk result (λ v. v.items ≡ replicate count None) }
 {
     let mut numbers = Vec::with_capacity(alloc, count)?;
+    // One by one, because a group can't be copied.
     for _number in 0..count {
         numbers.push(None)?;
     }
@@ -151,7 +152,7 @@ impl GroupTable {
         }
     }
 
-    /// How many slots a group has, none where the number is free; any two slots of the table lie apart.
+    /// How many slots a group has, 0 where the number is free; any two slots of the table lie apart.
     pub fn slots_of(&self, group: u16) -> u16
         ensures count { result ≡ slots_in self.now.segments (group_at self.now group) }
         ensures layout { IsLayout self.now }

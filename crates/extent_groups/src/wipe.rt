@@ -1,4 +1,5 @@
-// A whole extent written with the same bytes, before a group takes it.
+// A whole extent written with the same bytes, before a group takes it: zeros, so that its rows add up to zero and its headers
+// are blank.
 ghost use Rattle.std.specs.Prelude.{◌≡◌, ◌<◌, true, false, IsTrue, length};
 ghost use Rattle.extents.specs.Sizes.{extent_units};
 ghost use Rattle.extent_groups.specs.Cells.{cells};

@@ -58,6 +58,7 @@ pub trait Drive {
         if scratch.is_empty() {
             return self.read_unit(at, front);
         }
+        // Units are read whole, so the bytes after the front need a place.
         self.read_unit(at, scratch)?;
         let size = front.len();
         front.copy_from_slice(&scratch[..size]);
@@ -108,6 +109,7 @@ pub trait Drive {
         ensures count { CountsFailure (lost self.old) (lost self.new) (failures self.old) (failures self.new) }
         ensures steady { StaysSteady (lost self.old) (lost self.new) (failures self.old) (failures self.new) }
     {
+        // There is nothing to do, but Ok says that the drive isn't lost.
         if self.is_lost() {
             return Err(DriveLost);
         }

@@ -1,7 +1,7 @@
-// The header of a unit, 32 bytes, numbers with their highest byte first: mark `RBH2` (bytes 0 to 3), block (4 to 7),
-// version (8 to 11), hop (12 and 13), slot number (14 and 15), kind (16: 0 data, 1 trim), zero (17 to 31).
-// A blank header is all zero. Layout 1 is read, and never written: its mark is `RBH1`, bytes 16 to 31 are zero, and
-// each of its records is data.
+// The header of a unit, 32 bytes, numbers with their highest byte first: mark `RBH2` (bytes 0 to 3), block (4 to 7), version
+// (8 to 11), hop (12 and 13), slot number (14 and 15), kind (16: 0 data, 1 trim), zero (17 to 31). A blank header is all
+// zero. Layout 1 is read, and never written: its mark is `RBH1`, bytes 16 to 31 are zero, and each of its records is data.
+// Nothing rewrites such a unit alone, because that would break its row's parity.
 ghost use Rattle.std.specs.Prelude.{◌≡◌, ◌-◌, ◌≤◌, ◌<◌, ◌↔◌, ◌⊎◌, IsTrue, IfOk, Some, length, take, drop, replicate};
 ghost use Rattle.extents.specs.declared.shape.TheConstants.{HEADER_BYTES};
 ghost use Rattle.extents.specs.declared.header.Kind.TheVariants as kind;
@@ -9,16 +9,22 @@ ghost use Rattle.extents.specs.Stamp.{first_mark, second_mark, kind_byte, stampe
 
 use map_join::Record;
 
+/// The mark of layout 1.
 const FIRST_MARK: [u8; 4] = *b"RBH1";
 
+/// The mark of layout 2.
 const SECOND_MARK: [u8; 4] = *b"RBH2";
 
+/// A blank header.
 const ZEROS: [u8; 32] = [0; 32];
 
+/// The byte at which the record begins.
 const RECORD_AT: usize = 4;
 
+/// The byte of the kind, after the record.
 const KIND_AT: usize = 16;
 
+/// The byte from which on layout 2 has zeros.
 const REST_AT: usize = 17;
 
 /// Whether a committed write put a payload, or trimmed its block.
@@ -196,6 +202,7 @@ impl Header {
         ensures ok { IfOk result (Spells bytes.now) }
         ensures only { (header : Header) → Spells bytes.now header → result ≡ Ok header }
     {
+        // First, because a blank header has no mark, and would be refused as bad.
         if is_blank(bytes) {
             return Ok(Header::Blank);
         }

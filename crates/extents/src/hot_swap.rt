@@ -31,7 +31,7 @@ impl HotSwap for MemDrive {
         MemDrive::new(alloc, shape)
     }
 
-    // A drive that its fuse has lost stays as it is.
+    // A drive that its fuse has lost stays as it is, so that its failure stays counted.
     fn lose(&mut self)
         ensures units { self.new.units ≡ self.old.units }
         ensures lost { is_gone self.new.condition ≡ true }

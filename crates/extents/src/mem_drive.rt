@@ -20,11 +20,12 @@ pub(crate) enum Condition {
     Fused(u64),
     /// It was lost from outside.
     Lost,
-    /// It was lost by its fuse.
+    /// It was lost by its fuse. Not `Lost`, because this counts as a failure of its own.
     Burnt,
 }
 
-/// A drive in memory. The memory for its units is allocated at once, and a unit that was never written touches none of it.
+/// A drive in memory. The memory for its units is allocated at once, because a write can't be refused for memory. A unit that
+/// was never written touches none of it.
 #[derive(Drop)]
 pub struct MemDrive {
     units: ThinUnits,
@@ -116,6 +117,7 @@ impl MemDrive {
         ensures lost { is_gone self.new.condition ≡ is_err result }
         ensures condition { self.new.condition ≡ after_call self.old.condition }
     {
+        // The call is counted first, because the one at which the fuse burns writes nothing.
         if spend(&mut self.condition) {
             self.units.write(at, front, rest);
             return Ok(());

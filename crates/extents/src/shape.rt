@@ -10,9 +10,10 @@ pub const HEADER_BYTES: usize = 32;
 pub struct Shape {
     /// Extents of each drive, 1 to 512.
     pub extents: u32,
-    /// Segments of each extent, 1 to 8, of two units each.
+    /// Segments of each extent, 1 to 8, of two units each: so no group has more than 112 slots, of the 128 numbers that it
+    /// gets.
     pub segments: u32,
-    /// Bytes of a unit's payload, 8 to 65,536 in steps of 8.
+    /// Bytes of a unit's payload, 8 to 65,536 in steps of 8, so that sums by eight bytes leave none over.
     pub payload: u32,
     /// Blocks that the array may hold, 1 to 65,536.
     pub blocks: u32,
@@ -53,6 +54,7 @@ impl Shape {
         ensures err { IfErr result (λ e. IsFirstOut (refused_field e) extents segments payload blocks) }
         ensures succeeds { AreInRange extents segments payload blocks → IsOk result }
     {
+        // In the order of the fields, so that the refusal names the first that is out of its limit.
         if extents < 1 || extents > 512 {
             return Err(ShapeRefusal::Range(1));
         }

@@ -13,12 +13,13 @@ pub const DRIVES: usize = 16;
 #[derive(Drop)]
 struct Row {
     owners: Vec<Option<u16>>,
+    /// How many have an owner. Kept, because plans ask for it of each pair of drives.
     load: u32,
     ghost counted: { load ≡ count_by is_some owners.items },
     ghost small: { length owners.items ≤ 65536 },
 }
 
-/// The number of extents in a row that have an owner.
+/// What an extent adds to its drive's load: 1 if it has an owner, else 0.
 fn share(owner: Option<u16>) -> u32
     ensures { result ≡ count_by is_some (owner ∷ []) }
 {
@@ -49,6 +50,7 @@ impl Row {
         ensures { self.new.owners.items ≡ slice_set self.old.owners.items extent owner }
     {
         let at = extent as usize;
+        // Before the owner changes, because the old owner is taken off the load.
         let load = self.load + share(owner) - share(self.owners[at]);
         self.owners[at] = owner;
         self.load = load;

@@ -35,6 +35,7 @@ impl ThinUnits {
         ensures { IfOk result (λ units. units ≡ zero_units size count) }
     {
         let places = vec![in alloc; 0; count as usize]?;
+        // Room for all units at once, so that no write allocates.
         let bytes = Vec::with_capacity(alloc, count as usize * size)?;
         Ok(ThinUnits {
             size,
@@ -90,6 +91,7 @@ impl ThinUnits {
             );
             return;
         }
+        // An unwritten unit reads as zeros already, so it needs no place.
         if are_zeros(front) && are_zeros(rest) {
             return;
         }
@@ -122,6 +124,7 @@ fn append(bytes: &mut Vec<u8>, front: &[u8], rest: &[u8])
     ensures items { bytes.new.items ≡ bytes.old.items ++ (front.now ++ rest.now) }
     ensures capacity { vec_capacity bytes.old ≤ vec_capacity bytes.new }
 {
+    // With room for both no push allocates, so neither fails.
     if let Ok(()) = bytes.extend_from_slice(front) {
         let _ = bytes.extend_from_slice(rest);
     }

@@ -37,7 +37,7 @@ pub trait Backing {
 /// A file of the system. A write is one `pwrite`, and `sync` is `fdatasync`.
 #[derive(Drop)]
 pub struct OnFile {
-    /// Open for reading and writing, and not for appending.
+    /// Open for reading and writing. Not for appending, because each write would then go to the end.
     pub file: File,
 }
 
@@ -48,6 +48,7 @@ impl Backing for OnFile {
 
     fn read_all(&mut self, alloc: Global) -> io::Result<Vec<u8>> {
         let mut bytes = Vec::new(alloc);
+        // Back to the start, because an earlier read leaves the file at its end.
         self.file.seek(SeekFrom::Start(0))?;
         self.file.read_to_end(&mut bytes)?;
         Ok(bytes)
@@ -82,6 +83,7 @@ impl Backing for InMemory {
     fn write_at(&mut self, start: u64, piece: &[u8]) -> io::Result<usize> {
         let start = start as usize;
         let all = self.bytes.len();
+        // In this order, so that the difference is never below 0.
         if start > all || piece.len() > all - start {
             return Err(io::Error::from(io::ErrorKind::InvalidInput));
         }

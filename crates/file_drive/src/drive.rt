@@ -14,14 +14,16 @@ use extents::{Drive, DriveLost, MemDrive, Shape};
 use images::ImageRefusal;
 use std::alloc::Global;
 
-/// Units in memory, and the backing that they are written through to. A write goes to the backing first. One that fails or falls
-/// short loses the drive, whose backing may then hold a part of the unit.
+/// Units in memory, and the backing that they are written through to. A write goes to the backing first, so that no read
+/// returns what the backing lacks. One that fails or falls short loses the drive, whose backing may then hold a part of the
+/// unit.
 #[derive(Drop)]
 pub struct FileDrive<B: Backing> {
     cache: MemDrive,
     backing: B,
-    /// Bytes of each unit.
+    /// Bytes of each unit, in 32 bits, so that an address times it fits 64.
     size: u32,
+    /// Kept here, because the cache is never lost: only the backing fails.
     lost: bool,
     ghost present: { cache.condition ≡ Present },
     ghost held: { lost ≡ false → HoldsImage (B.bytes backing) size cache.units },
@@ -83,6 +85,7 @@ fn keep(cache: &mut MemDrive, at: u32, unit: &[u8])
     ensures present { cache.new.condition ≡ Present }
     ensures written { cache.new.units ≡ slice_set cache.old.units at unit.now }
 {
+    // The cache has no fuse and is never lost, so this write can't fail.
     let _ = cache.write_unit(at, unit);
 }
 
@@ -129,6 +132,7 @@ impl<B: Backing> Drive for FileDrive<B> {
             return Err(DriveLost);
         }
         let start = u64::from(at) * u64::from(self.size);
+        // First the backing: where it fails, memory keeps the old unit.
         if !is_written(&mut self.backing, start, unit) {
             self.lost = true;
             return Err(DriveLost);
@@ -145,6 +149,7 @@ impl<B: Backing> Drive for FileDrive<B> {
         ensures steady { StaysSteady self.old.lost self.new.lost (unsteady (loss false self.old.lost)) (unsteady (loss false self.new.lost)) }
         ensures durable { OnOk result (AreImageOf (B.durable self.new.backing) self.new.cache.units) }
     {
+        // A failed sync loses the drive, since nobody knows which writes the backing keeps.
         if self.lost || self.backing.sync().is_err() {
             self.lost = true;
             return Err(DriveLost);

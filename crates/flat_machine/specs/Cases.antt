@@ -30,7 +30,7 @@ pub record Leaves (x G : Flat) : Type 0 where
   pub same : G ≡ record x { lost = G.lost; failures = G.failures }
   pub drives : (d : ℕ) → Fares (x.lost d) (G.lost d) (x.failures d) (G.failures d)
 
--- the unit of a slot is lost, as its drives fare in a state
+-- a slot is gone, as its drives fare in a state
 abbrev pub IsGoneIn : Flat → ℕ → Type 0
 IsGoneIn F s = IsGone F.groups F.lost s
 
@@ -190,7 +190,7 @@ abbrev pub found_of : Option Write → Option Version
 found_of None = None
 found_of (Some w) = found_in w.version w.content
 
--- read: the last acknowledged write of the block, where the unit at its newest place isn't lost
+-- read: the last acknowledged write of the block, where its newest place isn't gone
 abbrev pub ReadCase : Flat → ℕ → FlatAnswer → Flat → Type 0
 ReadCase F b (Found answer) G =
     (answer ≡ found_of (last_write F.writes b)) × ((r : Record) → IsNewest F.emitted b (Some r) → IsGoneIn G r.place → ⊥) × (Leaves F G)
@@ -240,7 +240,7 @@ made F class members g = record F {
   units = wiped F.units F.groups.payload g (slot_count class (length members) F.groups.segments);
 }
 
--- the members can be a group's: three to eight extents that are there, on different drives, and of no group
+-- the members can be a group's: three to eight extents that exist, on different drives, and of no group
 pub record AreFit (F : Flat) (members : List Member) : Type 0 where
   pub members_are : AreMembers F.groups.extents F.drives members
   pub apart : AreApart members
@@ -354,7 +354,7 @@ NeverMissesTwo F (step ∷ steps) (answer ∷ answers) G run = (MissAtMostOne F.
 NeverMissesTwo F [] (answer ∷ answers) G run = ⊥
 NeverMissesTwo F (step ∷ steps) [] G run = ⊥
 
--- an answer that names no slot as lost
+-- an answer that names no slot as gone
 abbrev pub ReportsPresent : FlatAnswer → Type 0
 ReportsPresent (Refused (Gone t)) = ⊥
 ReportsPresent _ = Unit {0}

@@ -19,11 +19,11 @@ class_below segments (Some group) index = if nat_lt index (slot_count group.clas
 abbrev pub class_at : Groups → ℕ → Option Class
 class_at groups slot = class_below groups.segments (group_at groups (slot / 128)) (slot % 128)
 
--- each of the members is an extent that is there
+-- each of the members is an extent that exists; its drive may be lost
 abbrev pub AreThere : ℕ → ℕ → List Member → Type 0
 AreThere extents drives members = (k : ℕ) (m : Member) → slice_get members k ≡ Some m → (m.drive < drives) × (m.extent < extents)
 
--- members that a group can have: three to eight, each an extent that is there
+-- members that a group can have: three to eight, each an extent that exists
 pub record AreMembers (extents drives : ℕ) (members : List Member) : Type 0 where
   pub least : 3 ≤ length members
   pub most : length members ≤ 8

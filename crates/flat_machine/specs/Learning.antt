@@ -9,7 +9,7 @@ use Rattle.flat_machine.specs.Steps.{Seen, Data, Stale}
 use Rattle.flat_machine.specs.Cases.{Leaves, IsGoneIn, IsSeen, IsAhead, IsNotAhead, IsLearned}
 
 -- the place of the record was read, and where it is stale the newest place after it; the place of the returned record is not
--- lost after the call
+-- gone after the call
 abbrev pub LearnedCase : Flat → Record → Record → Content → Flat → Type 0
 LearnedCase F r reported content G =
     (IsNotAhead F r) × (IsGoneIn F r.place → ⊥) × ((seen : Seen) × (IsSeen (F.units r.place) r seen) × (IsLearned F r seen reported content))
@@ -20,7 +20,7 @@ abbrev pub IsStale : Seen → Type 0
 IsStale (Data x) = ⊥
 IsStale (Stale found) = (Unit {0})
 
--- nothing was learned: the record is ahead, its place is lost, or it is stale and the newest place is lost
+-- nothing was learned: the record is ahead, its place is gone, or it is stale and the newest place is gone
 abbrev pub UnlearnedCase : Flat → Record → Refusal → Flat → Type 0
 UnlearnedCase F r (Ahead found) G = (IsNewest F.emitted r.block found) × (IsAhead r found) × (Leaves F G)
 UnlearnedCase F r (Gone t) G =

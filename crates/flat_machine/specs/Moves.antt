@@ -43,7 +43,7 @@ unmade F w g = record F {
   units = without_group F.units g;
 }
 
--- an extent that is there, on a drive of none of the group's members, and of no group
+-- an extent that exists, on a drive of none of the group's members, and of no group
 pub record IsMoveTarget (groups : Groups) (drives g : ℕ) (to : Member) : Type 0 where
   pub drive : to.drive < drives
   pub extent : to.extent < groups.extents
@@ -67,7 +67,7 @@ IsMoveReason groups drives g k to (Some _) = ⊥
 abbrev pub MovePasses : Flat → ℕ → ℕ → Member → Type 0
 MovePasses F g k to = (IsMoveReason F.groups F.drives g k to None) × (F.lost to.drive ≡ false)
 
--- what lies on a lost drive for a group can't be rebuilt: a slot of the group that has a unit there is lost
+-- what lies on a lost drive for a group can't be rebuilt: a slot of the group that has a unit there is gone
 pub record IsUnrecoverable (groups : Groups) (missing : ℕ → Bool) (g drive : ℕ) : Type 0 where
   pub lost : missing drive ≡ true
   pub slot : ℕ
@@ -77,7 +77,7 @@ pub record IsUnrecoverable (groups : Groups) (missing : ℕ → Bool) (g drive :
   pub on : IsDriveOf site drive
   pub gone : IsGoneAt missing site
 
--- the lowest slot of the group that is lost
+-- the lowest slot of the group that is gone
 pub record IsFirstGone (groups : Groups) (missing : ℕ → Bool) (g slot : ℕ) : Type 0 where
   pub group : slot / 128 ≡ g
   pub gone : IsGone groups missing slot

@@ -10,7 +10,7 @@ use thiserror::Error;
 pub enum Refusal {
     #[error("no memory")]
     Memory,
-    /// A group, index or member number that isn't there.
+    /// A group, index or member number that doesn't exist.
     #[error("no such group, slot or member")]
     NoGroup,
     /// A fresh payload into a parity slot.
@@ -31,7 +31,7 @@ pub enum Refusal {
     HopsSpent,
     #[error("the block was never written")]
     Unwritten,
-    /// The slot whose unit is lost.
+    /// The slot that is gone: lost drives leave it no unit.
     #[error("the unit of slot {0} is gone")]
     Gone(u16),
     /// The lowest slot of which the caller has no claim.
@@ -51,7 +51,7 @@ pub enum Refusal {
     LogFull,
     #[error("no number is left")]
     Full,
-    /// A drive or an extent that isn't there, or not three to eight members.
+    /// A drive or an extent that doesn't exist, or not three to eight members.
     #[error("no such drive or extent, or not three to eight members")]
     BadMember,
 }

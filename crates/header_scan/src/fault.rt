@@ -21,7 +21,7 @@ pub enum ScanFault {
     /// A block whose newest version and hop are at two slots.
     #[error("block {0} stands at slots {1} and {2}")]
     Twice(u32, u16, u16),
-    /// The slot whose unit can't be had.
+    /// The slot that is gone: lost drives leave it no unit.
     #[error("the unit of slot {0} is gone")]
     Gone(u16),
     /// The slot of a block's newest place, without its claim.

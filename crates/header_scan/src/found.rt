@@ -8,7 +8,8 @@ use crate::keys::Keys;
 use map_join::{BlockMap, MapRefusal, Record};
 use std::alloc::Global;
 
-/// The newest record of each block, at its lowest slot, and of blocks whose newest version and hop were found twice the second one.
+/// The newest record of each block so far, at its lowest slot. In `twins` the second record of a version and hop that was
+/// found twice while it was the newest.
 #[derive(Drop)]
 pub(crate) struct Found {
     pub(crate) newest: Keys,
@@ -50,6 +51,7 @@ impl Found {
         let stamp = stamp_of(&reported);
         let newest = stamp_in(self.newest.get(reported.block));
         if stamp > newest {
+            // An older twin of the block stays, because `twins_of` compares stamps.
             self.newest.raise(reported);
             return Ok(());
         }
@@ -59,6 +61,7 @@ impl Found {
         if stamp > stamp_in(self.twins.get(reported.block)) {
             return self.twins.take(alloc, reported);
         }
+        // A third slot isn't noted, because two are enough for the fault.
         Ok(())
     }
 

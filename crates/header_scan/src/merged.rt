@@ -33,6 +33,7 @@ pub fn scan_in_parts<U: Units>(
     ensures fits { U.fits units.new }
     ensures leaves { U.leaves units.old units.new }
 {
+    // For the proof alone: by this law the join of the two maps is the map of all groups.
     parts_laws();
     let mut map = match scan_groups(alloc, units, 0, middle) {
         Ok(map) => map,

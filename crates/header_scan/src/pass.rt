@@ -56,6 +56,7 @@ pub(crate) fn scan_group<U: Units>(
     ensures left { WasOnlyRead U.groups U.cells U.fits U.leaves units.old units.new }
 {
     let count = count_slots(units.groups(), group);
+    // A number without a group takes no call of the units, so that a scan of few groups is short.
     if count == 0 {
         return Ok(());
     }
@@ -70,6 +71,8 @@ pub(crate) fn scan_group<U: Units>(
             found.note(alloc, reported)?;
         }
     }
+    // After the headers below it, so that the fault is that of the lowest slot. A slot that is gone is a fault, because its
+    // header may have a block's newest record.
     if read < count {
         return Err(ScanFault::Gone(SLOTS * group + read));
     }
@@ -148,6 +151,7 @@ pub fn scan_groups<U: Units>(
 {
     let blocks = units.groups().shape().blocks;
     let found = note_groups(alloc, units, first, end)?;
+    // After all slots, because a fault of a slot comes before a block that is there twice.
     if let Some((block, one, other)) = found.twice(alloc, blocks) {
         return Err(ScanFault::Twice(block, one, other));
     }

@@ -47,10 +47,12 @@ pub fn restart<D: Drive, C: Hold>(
     ensures fit { IfErr result (λ e. IsFit D.units e.1) }
     ensures kept { IfErr result (λ e. e.2 ≡ claims) }
 {
+    // Before any write, so that a bad note leaves all as it was.
     if let Some(slot) = parts.bad_note() {
         return Err((ScanFault::BadNote(slot), parts, claims));
     }
     let mut parts = parts;
+    // Before the scan, because a write that was half made may leave any bytes in the slot.
     parts.finish();
     renew(alloc, parts, claims)
 }

@@ -23,6 +23,7 @@ pub fn scan_world<D: Drive>(alloc: Global, world: &mut World<D>) -> Result<Block
     ensures fault { IfErr result (IsReportedOf world.old world.new) }
     ensures loses { OnlyLosesOf world.old world.new }
 {
+    // For the proof alone, before the scan and after it: nothing is done.
     world.whole();
     let reported = scan(alloc, world);
     world.whole();

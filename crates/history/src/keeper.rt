@@ -8,7 +8,7 @@ use crate::rule::{Says, Sitting};
 use crate::steps::{hire_in, look_in, note_in};
 use std::marker::{Brand, Model, PhantomData};
 
-/// The keeper of a history. A contract sees all that stands in it, and how many hands were hired.
+/// The keeper of a history. A contract sees all its entries, and how many hands were hired.
 #[derive(Drop)]
 pub struct Keeper<N: Chronicle, E> {
     pub(crate) hired: u64,
@@ -36,6 +36,7 @@ impl<N: Chronicle, E> Keeper<N, E> {
         ensures none { IfNone result ((self.new ≡ self.old) × (self.old.hired + 1 ≡ 2 ^ 64)) }
     {
         let number = self.hired;
+        // First, so that without a number left nothing has changed.
         let more = number.checked_add(1)?;
         let seat = hire_in(&history.table, &mut self.seat, number);
         self.hired = more;

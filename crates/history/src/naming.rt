@@ -23,7 +23,7 @@ impl Chronicle for Brand {
     ghost chronicle = { no_table };
 }
 
-/// One history, which all threads share. It has one word, which never changes.
+/// One history, which all threads share. It has one word, which never changes, because only what its seats know matters.
 #[derive(Drop)]
 pub struct History<N: Chronicle, E> {
     pub(crate) table: Words<E>,
@@ -59,7 +59,7 @@ impl<E> Opened<E> {
         Ok(Opened { table, seat })
     }
 
-    /// The history by its name, in which nothing stands, its keeper, and the first hand.
+    /// The history by its name, without entries, its keeper, and the first hand.
     pub fn named<N: Chronicle>(self) -> (History<N, E>, Keeper<N, E>, Hand<N, E>)
         requires { self ≡ N.chronicle }
         ensures keeper { result.1 ≡ record { hired = 1; log = [] } }

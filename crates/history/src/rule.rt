@@ -4,10 +4,13 @@ use atomic_table::{Join, Play, Seat, Split, Table, TableRule};
 use std::alloc::Global;
 use std::marker::{Brand, PhantomData};
 
+/// A table of words that has no place for values, under the rule of one history.
 pub type Words<E> = Table<u8, View<E>, u64, OneHistory<E>, Global>;
 
+/// A seat of such a table.
 pub type Sitting<E> = Seat<u8, View<E>>;
 
+/// The rule: all seats know of one history.
 pub struct OneHistory<E>(PhantomData<E>);
 
 impl<E> TableRule<u8, View<E>, u64> for OneHistory<E> {
@@ -19,6 +22,7 @@ impl<E> TableRule<u8, View<E>, u64> for OneHistory<E> {
     ghost first = { λ _. keeper 0 [] };
 }
 
+/// The keeper's seat takes in a hand's.
 pub struct Lends;
 
 impl<E> Join<View<E>> for Lends {
@@ -29,6 +33,7 @@ impl<E> Join<View<E>> for Lends {
     ghost spent = { nobody };
 }
 
+/// The keeper's seat is cut in two, the keeper's part and the hand's.
 pub struct Returns;
 
 impl<E> Split<View<E>> for Returns {
@@ -39,6 +44,7 @@ impl<E> Split<View<E>> for Returns {
     ghost right = { hand_part };
 }
 
+/// A new hand's seat is cut from the keeper's.
 pub struct Hires;
 
 impl<E> Split<View<E>> for Hires {
@@ -49,6 +55,7 @@ impl<E> Split<View<E>> for Hires {
     ghost right = { hired_hand };
 }
 
+/// A load that makes an empty seat.
 pub struct Sits;
 
 impl<E> Play<u8, View<E>> for Sits {
@@ -75,6 +82,7 @@ impl<E> Picked<E> for Brand {
     ghost what = { None };
 }
 
+/// A load by a seat with both parts, which appends an entry of the hand.
 pub struct Appends<E, P: Picked<E>>(PhantomData<(E, P)>);
 
 impl<E, P: Picked<E>> Play<u8, View<E>> for Appends<E, P> {
@@ -83,6 +91,7 @@ impl<E, P: Picked<E>> Play<u8, View<E>> for Appends<E, P> {
     ghost then = { EntryAppended P.what };
 }
 
+/// A load by a seat with both parts, which compares the history with the hand's entries.
 pub struct Checks;
 
 impl<E> Play<u8, View<E>> for Checks {

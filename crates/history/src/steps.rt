@@ -13,7 +13,7 @@ fn sit<E>(table: &Words<E>) -> Sitting<E>
     table.shared.load_new_seat::<Sits>(0).1
 }
 
-// The hand's seat is lent to the keeper, which adds the entry and gives the seat back.
+// The keeper takes in the hand's seat, because one step changes what both know, adds the entry, and returns the seat.
 pub(crate) fn note_in<X, E, C: Says<X, E>, P: Picked<E>>(
     table: &Words<E>,
     holder: &mut Sitting<E>,
@@ -48,7 +48,7 @@ pub(crate) fn hire_in<E>(table: &Words<E>, holder: &mut Sitting<E>, number: u64)
     table.shared.split_seat::<Hires>(holder)
 }
 
-// The hand's seat is lent to the keeper, which compares, and gives it back.
+// The keeper takes in the hand's seat, because the comparison needs what both know, and returns it.
 pub(crate) fn look_in<E>(
     table: &Words<E>,
     holder: &mut Sitting<E>,

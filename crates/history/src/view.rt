@@ -8,7 +8,7 @@ pub struct Entry<E> {
 }
 
 /// The keeper knows the whole history and how many hands were hired; a hand its number, the history as it was right after its
-/// last entry, and its own entries. The keeper that was lent a hand's seat knows both.
+/// last entry, and its own entries. A keeper that has taken in a hand's seat knows both.
 pub struct View<E> {
     pub keeps: bool,
     pub hired: u64,

@@ -23,6 +23,7 @@ pub fn load(alloc: Global, shape: &Shape, image: &[u8]) -> Result<MemDrive, Imag
 {
     let size = shape.unit_bytes();
     let count = shape.drive_units();
+    // Before the drive is made, so that Memory is never the answer to a wrong length.
     if image.len() != count as usize * size {
         return Err(ImageRefusal::Length);
     }
@@ -44,5 +45,6 @@ fn put(drive: &mut MemDrive, at: u32, unit: &[u8])
     ensures present { drive.new.condition ≡ Present }
     ensures written { drive.new.units ≡ slice_set drive.old.units at unit.now }
 {
+    // A new drive has no fuse, so this write can't fail.
     let _ = drive.write_unit(at, unit);
 }

@@ -7,8 +7,8 @@ use extents::Drive;
 use std::alloc::{AllocError, Global};
 
 /// The drive's units next to each other in address order, `size` bytes each; None if the drive is lost or fails while it is
-/// read. Each unit is read once, from address 0 on, and none is written. A failed allocation is refused, and the drive is left
-/// to its own failures.
+/// read. Each unit is read once, from address 0 on, and none is written. Refused if out of memory; the drive may have failed
+/// in a read before.
 pub fn image_of<D: Drive>(
     alloc: Global,
     drive: &mut D,
@@ -19,6 +19,7 @@ pub fn image_of<D: Drive>(
     ensures lost { IfOk result (λ image. is_none image ≡ D.lost drive.new) }
     ensures units { D.units drive.new ≡ D.units drive.old }
 {
+    // Before the buffer, so that a lost drive is None even if out of memory.
     if drive.is_lost() {
         return Ok(None);
     }

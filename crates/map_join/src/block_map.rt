@@ -72,6 +72,7 @@ impl BlockMap {
         for number in 0..keys.len().div_ceil(LANES) {
             let start = number * LANES;
             let table = &keys[start..(start + LANES).min(keys.len())];
+            // A page has at least one key, so 64 blocks without any get none.
             if has_none(table) {
                 continue;
             }
@@ -155,6 +156,7 @@ impl BlockMap {
         ensures map_of { OnOk result ((ours theirs : List Record) →
             IsMapOf ours (at self.old) → IsMapOf theirs (at other.now) → IsMapOf (ours ++ theirs) (at self.new)) }
     {
+        // With no page here there is nothing to compare, so one copy does.
         if self.pages.is_empty() {
             return self.take_over(alloc, other);
         }
@@ -202,6 +204,7 @@ impl BlockMap {
     pub fn covers(&self, other: &BlockMap) -> bool
         ensures { IsTrue result ↔ IsBelow (at other.now) (at self.now) }
     {
+        // Only the other's pages: where it has no key, any of ours covers it.
         for (number, page) in other.pages.iter() {
             if !covers_lanes(lanes_in(&self.pages, *number), page.lanes()) {
                 return false;
@@ -214,6 +217,7 @@ impl BlockMap {
     pub fn lowest_difference(&self, other: &BlockMap) -> Option<u32>
         ensures { IsDifference (at self.now) (at other.now) result }
     {
+        // Both ways, because each walk finds only blocks of which its own map has a key.
         let ours = first_difference(&self.pages, &other.pages);
         let theirs = first_difference(&other.pages, &self.pages);
         lower(ours, theirs)
@@ -246,7 +250,7 @@ impl BlockMap {
     }
 }
 
-// The keys that are read where a map has no page.
+// The keys that are read where a map has no page: static, so that a lookup returns a reference in either case.
 static NO_KEYS: [u64; LANES] = [0; LANES];
 
 // The keys of a page, all 0 where it isn't there.
@@ -291,6 +295,7 @@ fn raise_page(pages: &mut BTreeMap<u32, Page>, number: u32, theirs: &Page) -> Re
     ensures absent { OnErr result (find pages.old.entries number ≡ None) }
     ensures some { HasKey theirs.now }
 {
+    // Nothing is read: by this call's clause the page has a key, so a refusal is always for some block.
     let _keys = theirs.lanes();
     if let Some(page) = pages.get_mut(&number) {
         page.join(theirs);
@@ -360,9 +365,11 @@ fn copied_pages(
     ensures ok { IfOk result (λ copy. copy.entries ≡ pages.now.entries) }
     ensures err { OnErr result ((block : ℕ) × IsFirstBlock (at pages.now.entries) block) }
 {
+    // Not a clone of an empty map, so that it needs no memory.
     let Some((_number, page)) = pages.iter().next() else {
         return Ok(BTreeMap::new(alloc));
     };
+    // Nothing is read: by this call's clause the page has a key, so only a map with a block is refused.
     let _keys = page.lanes();
     pages.clone()
 }

@@ -55,6 +55,7 @@ impl Live for BlockMap {
     }
 
     fn count_live(&self, group: u16, slots: u16) -> u16 {
+        // Marks, not a sum over keys: several keys may name one slot, which counts once.
         let marks = places_in(&self.pages, group);
         count_marks(&marks, group, slots)
     }
@@ -88,6 +89,7 @@ fn placed_lane(keys: &[u64; LANES], slot: u16) -> Option<u32>
 {
     for lane in 0..64 {
         let key = keys[lane as usize];
+        // Key 0 is no record, else each block without a key would be at slot 0.
         if key != 0 && place_in(key) == slot {
             return Some(lane);
         }
@@ -115,6 +117,7 @@ fn mark_lanes(marks: &mut [bool; 128], group: u16, keys: &[u64; LANES])
 {
     for lane in 0..LANES {
         let key = keys[lane];
+        // Key 0 is no record, else a block without a key would mark slot 0.
         if key != 0 {
             mark_place(marks, group, place_in(key));
         }

@@ -11,7 +11,8 @@ use std::marker::Model;
 /// How many consecutive blocks share a page.
 pub(crate) const LANES: usize = 64;
 
-/// The keys of 64 consecutive blocks, the lowest block's first, 0 where a block has none. At least one block has a key.
+/// The keys of 64 consecutive blocks, the lowest block's first, 0 where a block has none. At least one block has a key, so
+/// that a map without keys has no page.
 #[derive(Drop)]
 pub(crate) struct Page {
     keys: Box<[u64; LANES]>,
@@ -83,6 +84,7 @@ impl Page {
         requires key { 2 ^ 32 ≤ key }
         ensures { IsSame (slice_index self.new) (join (slice_index self.old) (lone lane key)) }
     {
+        // The greater key wins, so that records may come in any order and any number of times.
         self.keys[lane] = self.keys[lane].max(key);
     }
 
@@ -95,7 +97,7 @@ impl Page {
     }
 }
 
-/// The block of a lane of a page.
+/// The block of a lane of a page. There are 2^26 pages, so that a block's number fits 32 bits.
 pub(crate) fn block_of(number: u32, lane: u32) -> u32
     requires number { number < 2 ^ 26 }
     requires lane { lane < 64 }

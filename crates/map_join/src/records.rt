@@ -43,15 +43,19 @@ impl RecordFault {
     }
 }
 
-/// The byte of a record at which its version begins; then those of its hop and place, its length, and the least key.
+/// The byte of a record at which its version begins.
 const VERSION_AT: usize = 4;
 
+/// The byte at which its hop begins.
 const HOP_AT: usize = 8;
 
+/// The byte at which its place begins.
 const PLACE_AT: usize = 10;
 
+/// Bytes of a record.
 const RECORD_LEN: usize = 12;
 
+/// The least key: that of version 1, hop 0 and place 0.
 const LEAST_KEY: u64 = 0x1_0000_0000;
 
 impl Record {
@@ -60,6 +64,7 @@ impl Record {
         ensures value { result ≡ key_of self.now }
         ensures again { 0 < self.now.version → record_at self.now.block result ≡ Some self.now }
     {
+        // The version is highest, because a write is newer than any move of an earlier write.
         (u64::from(self.version) << 32) + (u64::from(self.hop) << 16) + u64::from(self.place)
     }
 
@@ -67,6 +72,7 @@ impl Record {
     pub fn of_key(block: u32, key: u64) -> Option<Record>
         ensures { result ≡ record_at block key }
     {
+        // Its version would be 0, which no record has.
         if key < LEAST_KEY {
             return None;
         }
@@ -91,6 +97,7 @@ impl Record {
         ensures ok { IfOk result (λ r. Spells bytes.now r × (0 < r.version)) }
         ensures err { IfErr result (IsNoRecord bytes.now) }
     {
+        // First, because the reads below need all twelve bytes.
         if bytes.len() != RECORD_LEN {
             return Err(RecordFault::Length);
         }

@@ -18,7 +18,7 @@ use std::marker::{Brand, Model, PhantomData};
 /// The words before the first block's, so that it shares no cache line with word 0, on which shares are split.
 const FIRST: usize = 8;
 
-/// The whole share.
+/// The whole share: enough for 65,536 Takers, since each has at least 1.
 const WHOLE: u32 = 65536;
 
 /// One word for each block of the table N: the greatest key taken of the block, or 0.
@@ -129,6 +129,7 @@ impl<N: Naming> MapWords<N> {
         ensures err { OnErr result ((taker.old.share ≡ 1) × (taker.new ≡ taker.old)) }
     {
         let share = taker.share / 2;
+        // Before the seat is split, so that a refusal changes nothing.
         if share == 0 {
             return Err(SplitRefusal::NoShare);
         }
@@ -165,6 +166,7 @@ impl<N: Naming> MapWords<N> {
         // the Taker took the record and found the returned key, by a step that left the greater of the two
         ensures taken { HasTaken taker.old «record» result taker.new }
     {
+        // One step, because a load and a store would lose a greater key that comes between them.
         let place = place_of(record.block);
         self.table
             .shared
@@ -202,6 +204,7 @@ impl<N: Naming> MapWords<N> {
         ensures err { IfErr result (λ e. IsCloseRefused taker e.0) }
         ensures same { IfErr result (λ e. e.2 ≡ taker) }
     {
+        // The Taker of the whole share is the only one, so no record comes after the last load.
         if taker.share != WHOLE {
             return Err((CloseRefusal::NotWhole(taker.share), self, taker));
         }

@@ -36,7 +36,8 @@ pub record IsFreePick (class : Class) (groups : Groups) (group_is slot_is free :
   pub picked : IsPicked class groups group_is slot_is slot
   pub is_free : free slot
 
--- a picked and free slot of the write group, from the next index on
+-- a slot of the write group, which is a parity group, from the log's next index on, that isn't live and that `free` says is
+-- free: in most plans, one without a holder
 abbrev pub FreeAtTail : End → Groups → (ℕ → ℕ) → (ℕ → Type 0) → ℕ → Type 0
 FreeAtTail end groups keys free = IsFreePick Parity groups (λ group. end.group ≡ Some group) (IsFreeFrom end.next keys) free
 

@@ -12,7 +12,7 @@ pub record IsPicked (class : Class) (groups : Groups) (group_is slot_is : ℕ �
   pub group_too : group_is (slot / 128)
   pub slot_too : slot_is slot
 
--- a slot from an index on that isn't live
+-- a slot from an index on that isn't live; it may have a holder
 pub record IsFreeFrom (next : ℕ) (keys : ℕ → ℕ) (slot : ℕ) : Type 0 where
   pub from : next ≤ slot % 128
   pub free : IsLive keys slot → ⊥

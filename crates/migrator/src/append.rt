@@ -78,7 +78,7 @@ pub fn append_slots<L: Live>(
     Ok(slots)
 }
 
-// The slots of the write group.
+// The slots where the log goes on in the write group.
 fn slots_following<L: Live>(
     alloc: Global,
     end: &LogEnd,

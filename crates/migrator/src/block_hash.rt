@@ -18,12 +18,12 @@ impl BuildHasher for ByNumber {
     }
 }
 
-/// The hash of the last number that was written to it: its low 16 bits are the number's, so that blocks in a row go to groups in a
-/// row, and its top bits tell the blocks of one group apart.
+/// The hash of the last number that was written to it: its low 16 bits are the number's, so that blocks in a row go to groups
+/// in a row, and its top bits distinguish the blocks of one group.
 #[derive(Drop)]
 pub(crate) struct NumberHash(u32);
 
-// An odd number in the top 16 bits, and 1.
+// An odd number in the top 16 bits, so that these differ for any two of 65,536 blocks, and 1, which keeps the low bits.
 const SPREAD: u64 = 0x9e37_0000_0000_0001;
 
 impl Hasher for NumberHash {

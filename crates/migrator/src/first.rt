@@ -12,7 +12,8 @@ use crate::slots::{Every, Picks, count_of, is_of};
 use extent_groups::{Class, GROUPS, GroupTable, SLOTS};
 use map_join::Live;
 
-/// Says which slots are free.
+/// Says which slots are free. In most plans these have no holder; where a plan only looks for the log's end, any slot is
+/// free.
 pub trait Free {
     /// The slot is free.
     ghost free: { Self → ℕ → Type 0 };
@@ -62,7 +63,8 @@ pub fn first_append<L: Live, F: Free>(
     first_fresh(end, groups, counts, free)
 }
 
-// The first of these in the write group; no other group is looked at.
+// The lowest slot of the write group, from the log's next index on, that isn't live and that `free` says is free: in most
+// plans, one without a holder. No other group is looked at.
 fn first_following<L: Live, F: Free>(
     end: &LogEnd,
     groups: &GroupTable,
@@ -71,8 +73,10 @@ fn first_following<L: Live, F: Free>(
 ) -> Option<u16>
     ensures { IsFirst (FreeAtTail end.now groups.now (L.keys live.now) (F.free free.now)) result }
 {
+    // Nothing is read: by this call's clause the table has 512 numbers, so that a greater one is no group's.
     let _members = groups.members(0);
     match end.group() {
+        // Compared, because nothing bounds the group number of a log's end.
         Some(group) if group < GROUPS as u16 => {
             first_in(
                 groups,
@@ -99,6 +103,7 @@ fn first_fresh<F: Free>(
 {
     let slots = groups.parity_slots();
     for row in 0..ROWS {
+        // By rows, because one comparison skips sixteen groups that have live slots.
         if has_zero(slots, counts, row) {
             match first_in_row(groups, Class::Parity, row, &Zeros { end, counts }, free) {
                 Some(slot) => return Some(slot),
@@ -113,6 +118,7 @@ fn first_fresh<F: Free>(
 pub fn first_mirror<F: Free>(groups: &GroupTable, free: &F) -> Option<u16>
     ensures { IsFirst (λ slot. IsSlotOf Mirrored groups.now slot × F.free free.now slot) result }
 {
+    // Nothing is read: by this call's clause the table has 512 numbers, so that the walk sees all groups.
     let _members = groups.members(0);
     for row in 0..ROWS {
         match first_in_row(groups, Class::Mirrored, row, &Every, free) {
@@ -127,6 +133,7 @@ pub fn first_mirror<F: Free>(groups: &GroupTable, free: &F) -> Option<u16>
 pub fn first_parity<F: Free>(groups: &GroupTable, free: &F) -> Option<u16>
     ensures { IsFirst (IsFreeParity groups.now (F.free free.now)) result }
 {
+    // Nothing is read: by this call's clause the table has 512 numbers, so that the walk sees all groups.
     let _members = groups.members(0);
     for row in 0..ROWS {
         match first_in_row(groups, Class::Parity, row, &Every, free) {

@@ -8,14 +8,14 @@ ghost use Rattle.migrator.specs.Counts.{if_zero};
 use extent_groups::{Class, GROUPS, GroupTable};
 use std::simd::prelude::*;
 
-/// How many group numbers a row has.
+/// How many group numbers a row has: 16, so that one vector has a row of a table.
 pub(crate) const ROW: u16 = 16;
 
 /// How many rows there are.
 pub(crate) const ROWS: u16 = 32;
 
 // Whether the row may have a group of the class. False means that it has none. For parity groups true means that it has one;
-// for mirrored groups it is always true.
+// for mirrored groups it is always true, because there is no table of their slots.
 pub(crate) fn may_have(groups: &GroupTable, class: Class, row: u16) -> bool
     requires { row < 32 }
     ensures none { result ≡ false → (group : ℕ) → group / 16 ≡ row → class_in (group_at groups.now group) ≡ Some class → ⊥ }

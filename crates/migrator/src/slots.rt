@@ -59,6 +59,7 @@ pub(crate) fn picked_slots<P: Picks>(
 ) -> Result<Vec<u16>, AllocError>
     ensures { IfOk result (λ slots. Lists (IsPicked class groups.now (P.group_is which.now) (P.slot_is which.now)) slots.items) }
 {
+    // Nothing is read: by this call's clause the table has 512 numbers, so that the walk sees all groups.
     let _members = groups.members(0);
     // Room for one group's, so that a list seldom grows.
     let mut slots = Vec::with_capacity(alloc, usize::from(SLOTS))?;
@@ -99,6 +100,7 @@ pub(crate) fn picked_in<P: Picks>(
     requires { (n : ℕ) → P.group_is which.now n → group ≡ Some n }
     ensures { IfOk result (λ slots. Lists (IsPicked class groups.now (P.group_is which.now) (P.slot_is which.now)) slots.items) }
 {
+    // Nothing is read: by this call's clause the table has 512 numbers, so that a greater one is no group's.
     let _members = groups.members(0);
     // Room for one group's, so that a list seldom grows.
     let mut slots = Vec::with_capacity(alloc, usize::from(SLOTS))?;
@@ -166,6 +168,7 @@ pub(crate) fn count_of(groups: &GroupTable, class: Class, group: u16) -> u16
     ensures few { result ≤ 128 }
     ensures just { (slot : ℕ) → slot / 128 ≡ group → IsSlotOf class groups.now slot ↔ (slot % 128 < result) }
 {
+    // Nothing is read: by this call's clause a group has at most eight members, so that the count is at most 128.
     let _members = groups.members(group);
     if groups.class_of(group) == Some(class) {
         groups.slots_of(group)

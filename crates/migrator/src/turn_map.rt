@@ -12,7 +12,7 @@ use std::marker::Model;
 #[derive(Drop)]
 pub(crate) struct TurnMap {
     blocks: u32,
-    // The turns of the blocks that were written. There is room for all blocks.
+    // The turns of the blocks that were written. There is room for all blocks, so that noting a write can't fail.
     written: IndexMap<u32, u32, ByNumber>,
 }
 
@@ -91,5 +91,6 @@ fn write_first(written: &mut IndexMap<u32, u32, ByNumber>, block: u32, turn: u32
     ensures room { spare written.old ≤ spare written.new + 1 }
     ensures unique { IsUnique nat_eq written.new }
 {
+    // There is room, so this allocates nothing and can't fail.
     written.insert(block, turn).unwrap();
 }

@@ -7,14 +7,16 @@ use crate::turn_map::TurnMap;
 use std::alloc::{AllocError, Global};
 use std::marker::Model;
 
-// The least number of gaps at which they are removed.
+// Turns after the first ones that are kept in addition to four for each written block. Without them a few blocks that are
+// written often would have gaps removed at every few writes.
 const FEW: usize = 64;
 
 /// All blocks in the order of their last writes, with gaps between them. The first turns, one a block, are those before any write.
 #[derive(Drop)]
 pub(crate) struct Turns {
     turns: TurnMap,
-    // At each turn after the first ones a block, or a gap: a number that is no block's. There is room for four turns a block.
+    // At each turn after the first ones a block, or a gap: a number that is no block's. There is room for four turns a block,
+    // so that noting a write allocates nothing.
     later: Vec<u32>,
 }
 
@@ -92,6 +94,7 @@ impl Turns {
         ensures length { length (in_order self.new) ≡ length (in_order self.old) }
         ensures front { KeepsFront result self.old self.new }
     {
+        // First, because the block's new turn needs room.
         let front = self.make_room();
         self.move_last(block);
         front
@@ -105,6 +108,7 @@ impl Turns {
         ensures front { KeepsFront result self.old self.new }
     {
         let blocks = self.turns.blocks() as usize;
+        // In proportion to the written blocks, so that a removal is paid for by the writes since the last one.
         let most = (4 * blocks).min(4 * self.turns.written() + FEW);
         if self.later.len() < most {
             return self.len();
@@ -135,6 +139,7 @@ impl Turns {
         ensures front { KeepsFront (length (in_order self.old)) self.old self.new }
     {
         let blocks = self.turns.blocks();
+        // In place, because a block is never moved past the turn that is read next.
         let mut packed = 0;
         for at in 0..self.later.len() {
             let number = self.later[at];

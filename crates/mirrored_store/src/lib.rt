@@ -20,8 +20,8 @@ use extent_groups::{GroupTable, Member, MirroredAt, Place, SLOTS, StoreRefusal, 
 use extents::{Drive, HEADER_BYTES};
 pub use planning::plan;
 
-/// Reads the first bytes of a slot's effective unit, `buffer.len()` of them, from the first copy that is there, with another
-/// buffer of a unit's length or, for a whole unit, an empty one; false where both are lost.
+/// Reads the first bytes of a slot's effective unit, `buffer.len()` of them, from the first copy whose drive isn't lost;
+/// false where both are lost. Takes another buffer of a unit's length or, for a whole unit, an empty one.
 #[inline(always)]
 fn read_fronts<D: Drive>(
     groups: &GroupTable,
@@ -46,7 +46,7 @@ fn read_fronts<D: Drive>(
     read_pair(drives, first, second, buffer, scratch)
 }
 
-/// Reads the first bytes of the first copy that is there, `front.len()` of them; false where both are lost.
+/// Reads the first bytes of the first copy whose drive isn't lost, `front.len()` of them; false where both are lost.
 #[inline(always)]
 fn read_pair<D: Drive>(
     drives: &mut [D],
@@ -63,6 +63,7 @@ fn read_pair<D: Drive>(
     ensures touched { KeepsDrives D.units D.lost D.failures NoPlace drives.old drives.new }
     ensures elsewhere { SameBut (λ d. (d ≡ first.drive) ⊎ (d ≡ second.drive)) drives.old drives.new }
 {
+    // The first before the second, because the slot's effective unit is the first copy even where the two differ.
     if read_front(drives, first, front, scratch) {
         return true;
     }
@@ -172,7 +173,7 @@ pub fn read_headers<D: Drive>(
     count
 }
 
-/// Writes the unit of a slot to the copies whose drives are there; refused where both are lost.
+/// Writes the unit of a slot to the copies whose drives aren't lost; refused where both are lost.
 pub fn write<D: Drive>(
     groups: &GroupTable,
     drives: &mut [D],
@@ -222,6 +223,7 @@ pub fn write_gathered<D: Drive>(
     ensures drives { AreDrives D.units groups.now drives.new }
 {
     let (first, second) = groups.pair_of(slot);
+    // Both in any case: after a success so that the copies are equal, after a failure so that one has the unit.
     let one = extent_groups::write_gathered(drives, first, front, rest, scratch);
     let two = extent_groups::write_gathered(drives, second, front, rest, scratch);
     (one | two).then_some(()).ok_or(StoreRefusal::Gone(slot))

@@ -12,8 +12,8 @@ use extent_groups::{GroupTable, PlanRefusal, Planned, is_there, write_of};
 use extents::Drive;
 use std::alloc::Global;
 
-/// Plans the writes that give a slot the unit: of each copy whose drive is there, the first before the second. Refused if out
-/// of memory, and then where both drives are lost. No drive is called.
+/// Plans the writes that give a slot the unit: of each copy whose drive isn't lost, the first before the second. Refused if
+/// out of memory, and then where both drives are lost. No drive is called.
 pub fn plan<D: Drive>(
     alloc: Global,
     groups: &GroupTable,
@@ -35,6 +35,7 @@ pub fn plan<D: Drive>(
     let Ok(mut writes) = Vec::with_capacity(alloc, 2) else {
         return Err(PlanRefusal::Memory);
     };
+    // Both are allocated before either drive is looked at, so that Memory comes before Gone.
     let Ok(one) = write_of(alloc, first, unit) else {
         return Err(PlanRefusal::Memory);
     };

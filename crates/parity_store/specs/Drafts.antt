@@ -21,7 +21,7 @@ IsRead c home parity unit sum Alone = (d : List ℕ) × (held c home ≡ Some d)
 IsRead c home parity unit sum Parity = ⊥
 IsRead c home parity unit sum Missed = held c home ≡ None
 
--- a complete draft: as read above, and where the unit's drive is lost the sum is the parity from all others, or the unit is lost
+-- a complete draft: as read above, and where the unit's drive is lost the sum is the parity from all others, or the slot is gone
 abbrev pub IsDraft : ℕ → Cells → List Place → ℕ → ℕ → Place → Place → List ℕ → List ℕ → Way → Type 0
 IsDraft n c row p i home parity unit sum Parity =
     (rest : List ℕ) × (held c home ≡ None) × (held c parity ≡ None → ⊥) × (xor_total n (length row) (bare n (row_of c row) i p) ≡ Some rest) × (sum ≡ plus unit rest)

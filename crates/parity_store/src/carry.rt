@@ -32,6 +32,7 @@ fn write_way<D: Drive>(
 {
     match way {
         Way::Both => {
+            // First the unit, because after its failure the parity is computed from the other members, not by difference.
             if !write_place(drives, home, unit) {
                 return false;
             }
@@ -106,6 +107,7 @@ pub(crate) fn write_stripe<D: Drive>(
     if done {
         return true;
     }
+    // Any other way had one drive left to write to, so without it the slot is gone.
     if way != Way::Both {
         return false;
     }

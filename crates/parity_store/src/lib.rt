@@ -167,8 +167,8 @@ pub fn read_headers<D: Drive>(
     count
 }
 
-/// Writes the unit of a slot and its parity, as far as their drives are there, with two buffers of a unit's length; refused
-/// where the unit's drive and another member's are lost.
+/// Writes the unit of a slot and its parity, as far as their drives aren't lost. Takes two buffers of a unit's length.
+/// Refused where the unit's drive and another member's are lost.
 pub fn write<D: Drive>(
     groups: &GroupTable,
     drives: &mut [D],

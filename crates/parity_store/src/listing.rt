@@ -41,6 +41,7 @@ impl Room {
         ensures copy { IfOk result (λ r. length r.copy.items ≡ length unit.now) }
         ensures part { IfOk result (λ r. length r.part.items ≡ length unit.now) }
     {
+        // The last three are copies of the unit only for their length: their bytes are overwritten.
         Ok(Room {
             writes: Vec::with_capacity(alloc, 2)?,
             unit: unit.to_vec(alloc)?,
@@ -110,6 +111,7 @@ pub fn plan<D: Drive>(
     ensures elsewhere { SameBut (HasMemberOn groups.now (slot / 128)) drives.old drives.new }
     ensures drives { AreDrives D.units groups.now drives.new }
 {
+    // All memory before the first drive call, so that a refusal for memory loses no drive.
     let Ok(mut room) = Room::new(alloc, unit) else {
         return Err(PlanRefusal::Memory);
     };

@@ -36,6 +36,7 @@ pub fn read_parity<D: Drive>(
     ensures drives { AreDrives D.units groups.now drives.new }
 {
     let parity = groups.parity_member(group, offset);
+    // The parity is read as a unit of its own member, because it too is the sum of all others in its row.
     let at = Stripe {
         stripe: (offset / 2) as u8,
         member: parity,

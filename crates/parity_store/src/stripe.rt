@@ -47,12 +47,14 @@ pub(crate) fn read_stripe<D: Drive>(
     if read_front(drives, home, front, scratch) {
         return true;
     }
+    // All but the unit itself: the parity counts, since only with it they add up to the unit.
     let others = Others {
         group,
         offset: at.offset,
         first: at.member,
         second: at.member,
     };
+    // A failed read may leave any bytes, so the sum starts from zeros.
     clear(front);
     add_others(groups, drives, others, front, part, scratch)
 }

@@ -49,6 +49,7 @@ fn read_two<D: Drive>(
         return Way::Missed;
     }
     if !read_place(drives, parity, sum) {
+        // No other member is asked, because with its own unit the slot isn't gone.
         return Way::Alone;
     }
     xor_both_into(sum, part, unit);
@@ -80,10 +81,12 @@ fn find_without<D: Drive>(
         first: target.at.member,
         second: target.at.parity,
     };
+    // The new unit and all units that stay add up to the new parity, so the old one isn't read.
     sum.copy_from_slice(unit);
     if !add_others(groups, drives, others, sum, part, &mut []) {
         return Way::Missed;
     }
+    // No read has asked the parity's drive, so whether it is lost is tested here.
     if is_there(drives, target.parity) {
         Way::Parity
     } else {

@@ -1,4 +1,4 @@
-// The block that is live in each slot, as a table.
+// The block that is live in each slot, as a table, because a lookup by slot in the map walks all its pages.
 ghost use Rattle.std.specs.Prelude.{◌≡◌, ℕ, ◌<◌, length, Some, None, IfOk, replicate, slice_set};
 ghost use Rattle.map_join.specs.Maps.{at};
 ghost use Rattle.map_join.specs.declared.records.Record.{Record};
@@ -7,7 +7,7 @@ ghost use Rattle.picture.specs.Blocks.{AreBlocksOf, IsMappedBlock, block_in};
 use map_join::{BlockMap, Record};
 use std::alloc::{AllocError, Global};
 
-/// Slot numbers of an array.
+/// Slot numbers of an array: all that 16 bits have, so that the place of any record is one.
 const ALL_SLOTS: usize = 65_536;
 
 // A table without blocks.

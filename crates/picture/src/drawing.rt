@@ -69,6 +69,7 @@ fn put_slot(
     }
     let x = STRIP + u32::from(offset % 2) * CELL;
     let y = u32::from(offset / 2) * u32::from(line) + 1;
+    // After the unit, so that the unit doesn't cover the frame.
     put_frame(out, x, y, CELL - 1, u32::from(line))
 }
 
@@ -127,6 +128,7 @@ fn put_drive(out: &mut String, scene: &Scene<'_>, drive: u8, lost: bool) -> Resu
     write!(out, "<g transform=\"translate({x} {TOP})\">\n")?;
     put_name(out, drive, lost)?;
     for extent in 0..scene.rows.extents {
+        // The group table and the extent table may be of different shapes, so each extent is looked up.
         if scene.extents.has_extent(drive, extent) {
             let y = u32::from(extent) * u32::from(scene.rows.pitch);
             write!(out, "<g transform=\"translate(0 {y})\">\n")?;
@@ -134,6 +136,7 @@ fn put_drive(out: &mut String, scene: &Scene<'_>, drive: u8, lost: bool) -> Resu
             write!(out, "</g>\n")?;
         }
     }
+    // Last, so that the cross lies over the extents.
     if lost {
         put_cross(out, EXTENT, scene.rows.total)?;
     }
@@ -173,6 +176,7 @@ fn count_live(blocks: &[Option<u32>]) -> u32 {
     let mut count = 0u32;
     for block in blocks {
         if block.is_some() {
+            // Saturating, because no clause bounds the table's length.
             count = count.saturating_add(1);
         }
     }
@@ -252,6 +256,7 @@ pub fn draw(
     let width = (2 * MARGIN + NUMBERS + drives as u32 * PITCH).max(560);
     let foot = rows.total.saturating_add(TOP + 24);
     let mut out = String::new(alloc);
+    // First, because all else is painted over its white.
     put_page(&mut out, width, foot.saturating_add(legend_height(width)))?;
     put_titles(&mut out, &scene, drives)?;
     put_numbers(&mut out, rows)?;

@@ -73,6 +73,7 @@ fn slot_of(groups: &GroupTable, group: u16, index: u16) -> u16
     ensures number { result ≡ 128 * group + index }
     ensures low { index < 128 }
 {
+    // Nothing is read: by this call's clause the table has 512 numbers, so that a slot's number fits 16 bits.
     let _members = groups.members(group);
     group * SLOTS + index
 }

@@ -69,6 +69,7 @@ pub(crate) fn put_box(
 ) -> Result<(), AllocError> {
     put_rect(out, 0, 0, width, height, LINE)?;
     put_rect(out, 0, 0, STRIP - 1, height, tint.dark)?;
+    // A lower box has no room for digits, so the number is left out.
     if height < 10 {
         return Ok(());
     }
@@ -113,8 +114,10 @@ pub(crate) fn put_unit(
 ) -> Result<(), AllocError> {
     let x = STRIP + u32::from(offset % 2) * CELL;
     let y = u32::from(offset / 2) * u32::from(line) + 1;
+    // A low line has no pixel for the gap below a unit, so its units touch.
     let height = if line < 6 { line } else { line - 1 };
     put_rect(out, x, y, CELL - 1, u32::from(height), fill_of(mark, tint))?;
+    // Text of 8.5 pixels doesn't fit a lower line, so the unit has its colour alone.
     if line < 9 {
         return Ok(());
     }

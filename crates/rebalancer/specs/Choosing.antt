@@ -7,7 +7,7 @@ use Rattle.rebalancer.specs.declared.balance.Pair.{Pair}
 use Rattle.rebalancer.specs.Carrying.{member_on, CanGive}
 use Rattle.rebalancer.specs.Balancing.{IsAllowed, PairBefore}
 
--- both drives of a pair are there
+-- both drives of a pair exist
 abbrev pub AreDrivesInRange : Owners → Pair → Type 0
 AreDrivesInRange owners pair = (pair.from < length owners.rows) × (pair.to < length owners.rows)
 

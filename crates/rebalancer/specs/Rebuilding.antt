@@ -1,4 +1,4 @@
--- The plan that moves a group off a lost drive.
+-- The plan that moves a member of a group off a lost drive.
 use Rattle.std.specs.Prelude.{◌≡◌, ◌⊎◌, ℕ, ◌<◌, ◌≤◌, Bool, true, Option, Some, None, List, IsNone, slice_get}
 use Rattle.extents.specs.Owners.{Owners, load_of, lowest_free_of}
 use Rattle.extent_groups.specs.Groups.{Groups}
@@ -6,7 +6,7 @@ use Rattle.rebalancer.specs.declared.shift.Shift.{Shift}
 use Rattle.rebalancer.specs.Drives.{HasFreeExtent}
 use Rattle.rebalancer.specs.Carrying.{member_on, CarriesGroup, IsLowest}
 
--- a drive that the group can move to: with room, and without a member of the group
+-- a drive that the group's member can move to: with room, and without a member of the group
 pub record IsTarget (owners : Owners) (groups : Groups) (lost : List Bool) (g drive : ℕ) : Type 0 where
   pub room : HasFreeExtent owners lost drive
   pub apart : IsNone (member_on groups g drive)
@@ -17,7 +17,8 @@ pub record IsBestTarget (owners : Owners) (groups : Groups) (lost : List Bool) (
   pub best : (other : ℕ) → IsTarget owners groups lost g other
       → (load_of owners drive < load_of owners other) ⊎ ((load_of owners drive ≡ load_of owners other) × (drive ≤ other))
 
--- the lowest group on the lost drive moves from there to its best target's lowest free extent
+-- the lowest group with a member on the lost drive: that member moves to its best target's lowest free extent, and keeps its
+-- number
 pub record IsRebuildShift (owners : Owners) (groups : Groups) (lost : List Bool) (drive : ℕ) (s : Shift) : Type 0 where
   pub gone : slice_get lost drive ≡ Some true
   pub lowest : IsLowest (λ g. CarriesGroup groups drive g) s.group
@@ -25,7 +26,7 @@ pub record IsRebuildShift (owners : Owners) (groups : Groups) (lost : List Bool)
   pub to : IsBestTarget owners groups lost s.group s.to.drive
   pub extent : lowest_free_of owners s.to.drive ≡ Some s.to.extent
 
--- none where the drive isn't lost, or no group is on it, or the lowest group on it has no target
+-- none where the drive isn't lost, or no group has a member on it, or the member of the lowest such group has no target
 abbrev pub IsRebuild : Owners → Groups → List Bool → ℕ → Option Shift → Type 0
 IsRebuild owners groups lost drive None =
     slice_get lost drive ≡ Some true → (g : ℕ) → IsLowest (λ h. CarriesGroup groups drive h) g

@@ -11,14 +11,14 @@ use crate::groups::{Carrier, first_to_give};
 use extent_groups::{GroupTable, Member};
 use extents::{DRIVES, ExtentTable};
 
-/// A drive that may give an extent to another.
+/// Two drives, of which the one may give an extent to the other.
 #[derive(Clone, Copy)]
 struct Pair {
     from: u8,
     to: u8,
 }
 
-/// A pair of drives, and the lowest group that moves from the one to the other.
+/// A pair of drives, and the lowest group with a member that can move from the one to the other.
 #[derive(Clone, Copy)]
 struct Choice {
     pair: Pair,
@@ -78,6 +78,7 @@ fn better(
     ensures best { IsBestOf extents.now groups.now lost.now (16 * pair.from + pair.to) best
         → IsBestOf extents.now groups.now lost.now (16 * pair.from + pair.to + 1) result }
 {
+    // The search for a group is last, because it walks all of them.
     if !may_give(extents, lost, pair) || !beats(extents, pair, best) {
         return best;
     }
@@ -97,6 +98,7 @@ fn may_give(extents: &ExtentTable, lost: &[bool; DRIVES], pair: Pair) -> bool
         return false;
     }
     let (gives, takes) = (extents.load(pair.from), extents.load(pair.to));
+    // By two at least, because a move at a difference of one would only exchange the loads.
     gives.saturating_sub(takes) >= 2 && extents.lowest_free(pair.to).is_some()
 }
 

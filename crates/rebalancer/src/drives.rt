@@ -9,6 +9,7 @@ pub(crate) fn is_present(extents: &ExtentTable, lost: &[bool; DRIVES], drive: u8
     requires { drive < 16 }
     ensures { IsTrue result ↔ IsPresent extents.now lost.now drive }
 {
+    // Each drive has an extent 0, so this says whether the drive exists.
     extents.has_extent(drive, 0) && !lost[drive as usize]
 }
 

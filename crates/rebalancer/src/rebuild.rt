@@ -9,9 +9,9 @@ use crate::groups::{first_on, member_on};
 use extent_groups::{GroupTable, Member};
 use extents::{DRIVES, ExtentTable};
 
-/// The next extent to move off a lost drive: that of the lowest group with a member on it, onto the present drive
-/// without a member of that group that has the least load of those with a free extent. None where the drive isn't
-/// lost, carries no group, or the group has nowhere to go.
+/// The next extent to move off a lost drive: that of the lowest group with a member on it. It goes onto the present drive of
+/// least load that has a free extent and no member of that group. None where the drive isn't lost or no group has a member on
+/// it, or that member has nowhere to go.
 pub fn rebuild_plan(
     extents: &ExtentTable,
     groups: &GroupTable,
@@ -24,6 +24,7 @@ pub fn rebuild_plan(
     if !lost[drive as usize] {
         return None;
     }
+    // The lowest, even if there is no target for it, because a drive that is added will be one.
     let carrier = first_on(groups, drive)?;
     let to = best_target(extents, groups, lost, carrier.group)?;
     let extent = extents.lowest_free(to)?;
@@ -34,7 +35,7 @@ pub fn rebuild_plan(
     })
 }
 
-// The drive of least load that the group can move to, the lower of two alike.
+// The drive of least load that a group's member can move to, the lower of two alike.
 fn best_target(
     extents: &ExtentTable,
     groups: &GroupTable,
@@ -53,7 +54,7 @@ fn best_target(
     best
 }
 
-// Whether the group can move to the drive.
+// Whether a group's member can move to the drive.
 fn is_target(
     extents: &ExtentTable,
     groups: &GroupTable,
@@ -74,6 +75,7 @@ fn is_lighter(extents: &ExtentTable, drive: u8, best: Option<u8>) -> bool
     ensures { IsTrue result ↔ IsLighter extents.now drive best }
 {
     match best {
+        // Less, not equal, so that of two alike the lower drive stays.
         Some(best) => extents.load(drive) < extents.load(best),
         None => true,
     }

@@ -8,7 +8,7 @@ use Rattle.flat_machine.specs.declared.refusal.Refusal.{Refusal}
 use Rattle.flat_machine.specs.declared.refusal.Refusal.TheVariants.{Memory}
 use Rattle.slot_tables.specs.Views.{ArrayView}
 
--- a slot wasn't read: out of memory, with nothing done, or as it is lost
+-- a slot wasn't read: out of memory, with nothing done, or as it is gone
 abbrev pub WasNotRead : ArrayView → ArrayView → ℕ → Refusal → Type 0
 WasNotRead a b slot refusal = ((refusal ≡ Memory) × (b ≡ a)) ⊎ FoundGone a.parts b.parts slot refusal
 

@@ -72,17 +72,19 @@ fn places_for(groups: &GroupTable) -> usize
 fn new_room<C: Hold>(alloc: Global, slots: usize, count: usize) -> Result<Room<C>, AllocError>
     ensures { IfOk result (HasRoom slots count) }
 {
+    // Room for all claims, because any of them may be left over.
     let others = Vec::with_capacity(alloc, count)?;
     match free_places(alloc, slots) {
         Ok(places) => Ok(Room { others, places }),
         Err(refused) => {
+            // Explicitly, because a list of claims has no `Drop`, even an empty one.
             others.destroy_empty();
             Err(refused)
         }
     }
 }
 
-// All that is taken and tested before a claim moves.
+// All that is taken and tested before a claim moves, so that a refusal returns all claims.
 pub fn prepare<D: Drive, C: Hold>(
     alloc: Global,
     parts: &Parts<D>,

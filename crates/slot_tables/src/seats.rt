@@ -113,6 +113,7 @@ fn seat<C: Hold>(
     match block_of(expected, slot) {
         None => Some(claim),
         Some(block) => {
+            // Wanted only once, so that a second claim of the slot is left over.
             expected[usize::from(slot)] = None;
             put_in(places, slot, SlotState::Newest(block, claim));
             None
@@ -146,6 +147,7 @@ pub fn seat_all<C: Hold>(
             Some(other) => others.push_reserved(other),
         }
     }
+    // Explicitly, because a list of claims has no `Drop`, even an empty one.
     claims.destroy_empty();
 }
 

@@ -21,6 +21,7 @@ fn open_slot<C: Hold>(places: &mut Vec<SlotState<C>>, slot: u16) -> Option<C>
     ensures claims { AreOf C.names places.new.items }
     ensures room { vec_len places.new ≡ vec_len places.old }
 {
+    // Looked at before it is taken out, because a claim that comes out can't be dropped.
     match state_at(places, slot) {
         Some(SlotState::Unmade(_)) => {}
         Some(SlotState::Free) => return None,

@@ -64,6 +64,7 @@ pub fn put_in<C: Hold>(places: &mut Vec<SlotState<C>>, slot: u16, place: SlotSta
     ensures claims { AreOf C.names places.new.items }
     ensures room { vec_len places.new ≡ vec_len places.old }
 {
+    // What was there is free, but its type has no `Drop`, so it is ended case by case.
     spent(mem::replace(&mut places[usize::from(slot)], place));
 }
 
@@ -129,6 +130,7 @@ fn room_for(count: usize, there: usize) -> usize
     ensures enough { count ≤ result }
     ensures most { result ≤ 65536 }
 {
+    // All at once, because twice as many would be more than there are slot numbers.
     if there >= ALL_SLOTS / 2 {
         return ALL_SLOTS;
     }

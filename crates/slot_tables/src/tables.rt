@@ -31,7 +31,9 @@ pub fn new_tables<C: Hold>(alloc: Global, shape: Shape, drives: u8) -> Result<Ta
     let keys = zeros(alloc, shape.blocks)?;
     let size = shape.unit_bytes();
     let unit = vec![in alloc; 0; size]?;
+    // Two units, because a parity write reads one and adds up another.
     let scratch = vec![in alloc; 0; 2 * size]?;
+    // Empty, because places come with the groups that are made.
     let places = Vec::new(alloc);
     Ok(Tables {
         groups,

@@ -7,7 +7,8 @@ use crate::naming::Naming;
 use crate::rule::Sitting;
 use std::marker::{Model, PhantomData};
 
-/// A slot of the table N that is held at this generation, and by no other claim. It can't be dropped, only released.
+/// A slot of the table N that is held at this generation, and by no other claim. It can't be dropped, only released, so that
+/// no slot stays held by a claim that was lost.
 pub struct Claim<N: Naming> {
     pub(crate) slot: u16,
     pub(crate) generation: u64,
@@ -52,9 +53,9 @@ impl<N: Naming> Claim<N> {
 pub enum ClaimRefusal {
     /// The slot was held when this word was read there.
     Taken(u64),
-    /// The slot is free at its last generation, 2^62, and is never claimed again.
+    /// The slot is free at its last generation, 2^62, and is never claimed again, so that no generation of it comes twice.
     Spent,
-    /// When this word was read there, the slot was free at another generation than the look before had found.
+    /// When this word was read there, the slot was free, but at another generation than the load before had found.
     Moved(u64),
 }
 

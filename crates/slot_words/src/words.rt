@@ -146,6 +146,7 @@ impl<N: Naming> SlotWords<N> {
             .table
             .shared
             .load::<Looks>(&mut pass.seat, place_of(slot));
+        // A word that is held or spent is only read, since no exchange of it may win.
         if seen % 2 == 1 {
             return Err(ClaimRefusal::Taken(seen));
         }
@@ -155,7 +156,8 @@ impl<N: Naming> SlotWords<N> {
         self.exchange(&mut pass.seat, slot, seen)
     }
 
-    // Where the exchange wins, the claim gets the seat, and another seat that remembers its steps takes its place.
+    // Where the exchange wins, the claim gets the seat, because the release needs the pair that it won. Another seat, which
+    // remembers its steps, takes its place.
     fn exchange(&self, seat: &mut Sitting, slot: u16, seen: u64) -> Result<Claim<N>, ClaimRefusal>
         requires slot { slot < table_slots N.table }
         requires free { seen % 2 ≡ 0 }
@@ -223,6 +225,8 @@ impl<N: Naming> SlotWords<N> {
             seat,
             of: _,
         } = claim;
+        // First the claim's seat comes back, because the store needs its pair. A store is enough, since nobody else changes a
+        // held word.
         merge(&self.table, &mut pass.seat, seat);
         self.table
             .shared

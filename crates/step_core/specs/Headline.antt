@@ -1,5 +1,5 @@
 -- What holds of every state that a run leaves: every map that took exactly the emitted records is the array's; where each group
--- misses at most one member it is the map of the headers, and no slot is lost; a read through it answers each block's last
+-- misses at most one member it is the map of the headers, and no slot is gone; a read through it answers each block's last
 -- write; and no slot has two holders. And how a run leads from world to world.
 use Rattle.std.specs.Prelude.{◌≡◌, ◌⊎◌, ◌<◌, ℕ, List, [], ◌∷◌, All, Option, Some, None, slice_get}
 use Rattle.map_join.specs.declared.records.Record.{Record}
@@ -34,7 +34,7 @@ pub record StoresUnit (v : PartsView) (r : Record) (x : Content) : Type 0 where
   pub content : content_in unit ≡ x
 
 -- reading through a key: where there is none the block was never written; else the drives have the content of its last write at
--- the place of the record that has the key, under that record, unless this slot is lost
+-- the place of the record that has the key, under that record, unless this slot is gone
 abbrev pub ReadsThrough : PartsView → Flat → ℕ → ℕ → Type 0
 ReadsThrough v F b key = (key ≡ 0 → last_write F.writes b ≡ None)
     × (0 < key → (w : Write) × (last_write F.writes b ≡ Some w) × ((IsLost v (record_of b key).place → ⊥) → StoresUnit v (record_of b key) w.content))
@@ -49,7 +49,7 @@ pub record Guarantees (w : WorldView) (F : Flat) : Type 0 where
   pub map : IsMapOf F.emitted (key_at w.array)
   pub every : (records : List Record) (M : ℕ → ℕ) → HasSameRecords records F.emitted → IsMapOf records M → IsSame M (key_at w.array)
   pub read : (b : ℕ) → ReadsThrough w.array.parts F b (key_at w.array b)
-  -- where each group misses at most one member no slot is lost, and every map of the headers is the array's too
+  -- where each group misses at most one member no slot is gone, and every map of the headers is the array's too
   pub here : IsOneMissed w.array.parts → (slot : ℕ) → IsLost w.array.parts slot → ⊥
   pub scanned : IsOneMissed w.array.parts → (M : ℕ → ℕ) → IsScanned (slot_bytes w.array.parts) M → IsSame M (key_at w.array)
   pub headers : IsOneMissed w.array.parts → IsScanned (slot_bytes w.array.parts) (key_at w.array)
@@ -68,7 +68,7 @@ OfEach w P = (G : Flat) → Represents w G → P G
 abbrev pub HasMaps : WorldView → Flat → Type 0
 HasMaps w F = (records : List Record) (M : ℕ → ℕ) → HasSameRecords records F.emitted → IsMapOf records M → IsSame M (key_at w.array)
 
--- no slot is lost, and the map of the headers, which is one alone, is the array's
+-- no slot is gone, and the map of the headers, which is one alone, is the array's
 pub record HasHeaders (w : WorldView) : Type 0 where
   pub here : (slot : ℕ) → IsLost w.array.parts slot → ⊥
   pub headers : IsScanned (slot_bytes w.array.parts) (key_at w.array)

@@ -87,6 +87,7 @@ pub fn place_at_once<D: Drive, C: Hold>(
     match what {
         What::Fresh(given) => match given {
             Given::Payload(payload) => array.place(alloc, claim, block, Kind::Data, payload),
+            // No bytes, because a trim's payload isn't looked at.
             Given::Trim => array.place(alloc, claim, block, Kind::Trim, &[]),
         },
         What::CopyOf(source) => array.place_copy(alloc, claim, source),
@@ -113,6 +114,7 @@ pub(crate) fn put_and_finish<D: Drive, C: Hold>(
 {
     let claim = match place_at_once(array, alloc, claim, what, block) {
         Ok(done) => return Ok(done),
+        // Nothing was done: the two calls below say why, or succeed.
         Err((None, claim)) => claim,
         Err((Some(refusal), claim)) => return Err(Denied {
             refusal,
@@ -128,7 +130,7 @@ pub(crate) fn put_and_finish<D: Drive, C: Hold>(
     }
 }
 
-/// Commits what waits in a slot. If that is refused, the ticket is given up.
+/// Commits what waits in a slot. If that is refused, the ticket is given up, so that a refused move holds no slot.
 pub fn finish<D: Drive, C: Hold>(
     array: &mut Array<D, C>,
     alloc: Global,
@@ -159,6 +161,7 @@ fn take_back<D: Drive, C: Hold>(array: &mut Array<D, C>, ticket: Ticket) -> Opti
 {
     match array.discard(ticket) {
         Ok(claim) => Some(claim),
+        // Nothing waits at the slot, so the array has no claim to return.
         Err(_) => None,
     }
 }

@@ -23,6 +23,7 @@ impl<D: HotSwap + Drop> World<D> {
         ensures needs { OnErr result ((F : Flat) → Represents self.old F → IsAllocating F say.AddDrive) }
         ensures room { SameSizes self.old.array self.new.array }
     {
+        // Before the drive is made, so that sixteen drives are Full even if out of memory.
         if self.array.drive_count() >= DRIVES {
             return Ok(Answer::Refused(Refusal::Full));
         }

@@ -59,6 +59,7 @@ impl<D: Drive> World<D> {
             → (G : Flat) × Places F w slot block (put_of given.entry) result G × Represents self.new G }
         ensures room { SameSizes self.old.array self.new.array }
     {
+        // Tested first, because anyone can make a plain claim, also of a slot that is held.
         if !self.is_free(slot) {
             return Err(NotPlaced::Taken);
         }

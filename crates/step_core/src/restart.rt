@@ -42,6 +42,7 @@ impl<D: Drive> World<D> {
         ensures hands { (s : ℕ) → hand_at result.hands s ≡ Hand.Empty }
         ensures flat { (F : Flat) → ShowsArray array F → IsWorkerFree F → Represents result F }
     {
+        // Emptied, not made again, so that nothing is allocated here.
         hands.clear_all();
         World { array, hands }
     }

@@ -126,6 +126,7 @@ impl<D: Drive> World<D> {
                 Ok(()) => Ok(Answer::Shifted),
                 Err(refusal) => refused(refusal),
             },
+            // The caller excludes these two, because not every kind of drive can be added or lost.
             Step::AddDrive => unreachable!(),
             Step::Lose { drive: _ } => unreachable!(),
         }
@@ -198,7 +199,7 @@ pub fn run_fixed<D: Drive + Drop>(
     run_by::<D, FixedDrives>(alloc, world, steps)
 }
 
-// How a run carries out a step, and which steps it takes.
+// How a run carries out a step, and which steps it takes: so one loop serves drives of any kind.
 trait Carry<D: Drive> {
     ghost takes: { Step → Type 0 };
 
@@ -244,7 +245,9 @@ fn run_by<D: Drive + Drop, S: Carry<D>>(
     requires takes { All S.takes steps.now }
     ensures { IsRunOf world steps.now result }
 {
+    // For the proof alone: `represented_matches` is of whole arrays, so each state needs this call.
     world.whole();
+    // Room for all answers first, so that each step that is carried out has one.
     let mut answers = match Vec::with_capacity(alloc, steps.len()) {
         Ok(answers) => answers,
         Err(_) => {

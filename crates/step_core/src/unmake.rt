@@ -33,6 +33,7 @@ impl<D: Drive> World<D> {
         if let Some(slot) = self.first_not_held(worker, group, count) {
             return Ok(Answer::Refused(Refusal::SlotsHeld(slot)));
         }
+        // After the checks, so that out of memory stops only a step that passes them.
         let claims = claims_of(alloc, group, count)?;
         match self.array.unmake_group(group, claims) {
             Ok(()) => {

@@ -135,6 +135,7 @@ impl<D: Drive> World<D> {
         ensures needs { OnErr result ((F : Flat) → Represents self.old F → IsAllocating F (say.Fill worker slot (Payload payload.now))) }
         ensures room { SameSizes self.old.array self.new.array }
     {
+        // Tested first, because anyone can make a plain claim: the array doesn't know who holds the slot.
         if !self.holds(worker, slot) {
             return Ok(Answer::NotHeld(slot));
         }
@@ -214,6 +215,7 @@ impl<D: Drive> World<D> {
                 Ok(Answer::Committed(done.emitted.record()))
             }
             Err((refusal, ticket)) => {
+                // Back in hand, so that the worker can discard it.
                 self.hands.keep(worker, ticket);
                 refused(refusal)
             }
@@ -235,6 +237,7 @@ impl<D: Drive> World<D> {
                 Answer::Discarded(slot)
             }
             Err((refusal, ticket)) => {
+                // Back in hand, so that a refusal changes nothing.
                 self.hands.keep(worker, ticket);
                 Answer::Refused(refusal)
             }
@@ -324,6 +327,7 @@ impl<D: Drive> World<D> {
         ensures room { SameSizes self.old.array self.new.array }
     {
         match self.array.make_group(alloc, class, members) {
+            // The claims that were kept end here, so that the slots of the new group are free.
             Ok((group, _claims)) => Ok(Answer::Made(group)),
             Err(refusal) => refused(refusal),
         }
@@ -346,8 +350,8 @@ impl<D: HotSwap> World<D> {
 }
 
 impl World {
-    /// Makes a drive fail at its `calls`-th read or write from now (1 = the next) and at all later ones.
-    /// Until then the drive isn't steady and answers as before.
+    /// Makes a drive fail at its `calls`-th read or write from now (1 = the next) and at all later ones. Until then it
+    /// answers as it did, and isn't steady. A lost drive stays as it is.
     pub fn fuse(&mut self, drive: u8, calls: u64)
         requires drive { drive < length self.old.array.parts.drives }
         requires calls { 1 ≤ calls }

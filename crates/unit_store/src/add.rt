@@ -24,6 +24,7 @@ impl<D: Drive> Parts<D> {
         ensures same { OnErr result (view_of D.units D.lost D.failures self.new ≡ view_of D.units D.lost D.failures self.old) }
         ensures fit { IsFit D.units self.new }
     {
+        // Reserved first, so that nothing can fail once the extents are in the table.
         if self.drives.reserve(1).is_err() {
             return Err(drive);
         }

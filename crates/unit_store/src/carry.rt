@@ -96,6 +96,7 @@ impl<D: Drive> Parts<D> {
         if let Err(refusal) = self.read(from, unit, scratch) {
             return Err(refusal);
         }
+        // Two copies are written from where the bytes lie; a parity needs the unit in one piece, because it is added up.
         if let Some(Class::Mirrored) = self.groups.class_of(to / SLOTS) {
             let header = header.encode();
             let (whole, _part) = scratch.split_at_mut(unit.len());

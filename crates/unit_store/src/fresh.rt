@@ -16,8 +16,8 @@ use flat_machine::Refusal;
 use map_join::Record;
 
 impl<D: Drive> Parts<D> {
-    /// Writes a payload under a blank header into a slot of either class. Takes a buffer of a unit's length and one of two
-    /// units'.
+    /// Writes a payload under a blank header into a slot of either class. Blank, so that a scan takes it for no commit. Takes
+    /// a buffer of a unit's length and one of two units'.
     pub fn put(
         &mut self,
         slot: u16,
@@ -60,6 +60,7 @@ impl<D: Drive> Parts<D> {
         ensures fit { IsFit D.units self.new }
     {
         let header = header.encode();
+        // Two copies are written from where the bytes lie; a parity needs the unit in one piece, because it is added up.
         if let Some(Class::Mirrored) = self.groups.class_of(slot / SLOTS) {
             let drives: &mut [D] = &mut self.drives;
             return mirrored_store::write_gathered(
@@ -120,9 +121,9 @@ impl<D: Drive> Parts<D> {
         self.write(slot, unit, scratch)
     }
 
-    /// Writes a payload, or zeros for a trim, under the record of its commit: what `put` or `put_trim` and then `carry` with that
-    /// header leave, in one write. A trim's payload isn't looked at. Takes a buffer of a
-    /// unit's length and one of two units'.
+    /// Writes a payload, or zeros for a trim, under the record of its commit: what `put` or `put_trim` and then `carry` with
+    /// that header leave, in one write. A trim's payload isn't looked at. Takes a buffer of a unit's length and one of two
+    /// units'.
     pub fn put_placed(
         &mut self,
         slot: u16,

@@ -80,6 +80,7 @@ impl<D: Drive> Parts<D> {
         ensures shape { self.new.shape ≡ self.old.shape }
         ensures fit { IsFit D.units self.new }
     {
+        // First the wipe, so that the tables are as they were where a drive is lost.
         if let Err(drive) = self.wipe(&members, zeros) {
             return Err(Refusal::DriveLost(drive));
         }

@@ -13,7 +13,8 @@ use crate::Parts;
 use extents::MemDrive;
 
 impl Parts<MemDrive> {
-    /// Makes a drive fail at its `calls`-th read or write from now (1 = the next) and at all later ones.
+    /// Makes a drive fail at its `calls`-th read or write from now (1 = the next) and at all later ones. A lost drive stays
+    /// as it is.
     pub fn fuse(&mut self, drive: u8, calls: u64)
         requires fit { IsFit held_units self.old }
         requires drive { drive < length self.old.drives.items }

@@ -55,6 +55,7 @@ impl<D: Drive> Parts<D> {
         match micro {
             Micro::NoteSet(note) => self.note = Some(note),
             Micro::Write { drive, at, unit } => {
+                // The result isn't needed, because a failed write shows as a lost drive.
                 let _written = self.write_at(Place { drive, address: at }, &unit);
             }
             Micro::NoteClear => self.note = None,
@@ -75,6 +76,7 @@ pub fn run_micro<D: Drive>(parts: &mut Parts<D>, list: Vec<Micro>, n: usize)
 {
     let mut done = 0;
     for micro in list {
+        // Before the entry, so that none is carried out where `n` is 0.
         if done == n {
             return;
         }

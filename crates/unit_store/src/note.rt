@@ -24,7 +24,7 @@ pub struct Note {
     pub slot: u16,
     /// The slot's unit, header and payload.
     pub unit: Vec<u8>,
-    /// The parity's unit, of a parity slot whose parity's drive is there when the write is planned.
+    /// The parity's unit, of a parity slot whose parity's drive isn't lost when the write is planned.
     pub parity: Option<Vec<u8>>,
 }
 
@@ -49,6 +49,7 @@ fn is_parity_for<D: Drive>(
 {
     match parity {
         Some(sum) => sum.len() == groups.shape().unit_bytes(),
+        // Only without its drive: else finishing would leave the old parity with the new unit.
         None => {
             let at = groups.row_of(slot);
             let home = groups.place(slot / SLOTS, at.parity, at.offset);
@@ -90,7 +91,7 @@ fn write_own<D: Drive>(
     write_place(drives, place, unit)
 }
 
-// Writes a unit to both copies of a mirrored slot, as far as their drives are there.
+// Writes a unit to both copies of a mirrored slot, as far as their drives aren't lost.
 fn finish_pair<D: Drive>(groups: &GroupTable, drives: &mut [D], slot: u16, unit: &[u8])
     requires slot { IsSlotOf Mirrored groups.now slot }
     requires drives { AreDrives D.units groups.now drives.old }
@@ -100,11 +101,12 @@ fn finish_pair<D: Drive>(groups: &GroupTable, drives: &mut [D], slot: u16, unit:
     ensures site { (first : Place) × (second : Place) × (site_of groups.now slot ≡ Some (Pair first second)) }
 {
     let (first, second) = groups.pair_of(slot);
+    // Both, because a stop may have left any bytes at either.
     let _first = write_own(groups, drives, slot, first, unit);
     let _second = write_own(groups, drives, slot, second, unit);
 }
 
-// Writes the unit of a parity slot, and its parity where one is given, as far as their drives are there.
+// Writes the unit of a parity slot, and its parity where one is given, as far as their drives aren't lost.
 fn finish_stripe<D: Drive>(
     groups: &GroupTable,
     drives: &mut [D],
@@ -123,13 +125,14 @@ fn finish_stripe<D: Drive>(
     let at = groups.row_of(slot);
     let home = groups.place(slot / SLOTS, at.member, at.offset);
     let second = groups.place(slot / SLOTS, at.parity, at.offset);
+    // Both whole, because a difference would depend on how much of the write was made.
     let _home = write_own(groups, drives, slot, home, unit);
     if let Some(sum) = parity {
         let _parity = write_own(groups, drives, slot, second, sum);
     }
 }
 
-// Writes the units of a note to the places of its slot, as far as their drives are there.
+// Writes the units of a note to the places of its slot, as far as their drives aren't lost.
 fn finish<D: Drive>(groups: &GroupTable, drives: &mut [D], note: &Note)
     requires drives { AreDrives D.units groups.now drives.old }
     requires good { IsGoodNote groups.now (missing_of D.lost drives.old) (note_view note.now) }
@@ -144,8 +147,9 @@ fn finish<D: Drive>(groups: &GroupTable, drives: &mut [D], note: &Note)
 }
 
 impl<D: Drive> Parts<D> {
-    /// The slot of a note that can't be finished: no made group has the slot, a unit isn't of a unit's length, a mirrored slot's
-    /// has a parity, or a parity slot's has none while the parity's drive is there. None where there is no note, or a good one.
+    /// The slot of a note that can't be finished. Then no made group has the slot, or a unit isn't of a unit's length; or a
+    /// mirrored slot's note has a parity, or a parity slot's has none while the parity's drive isn't lost. None where there
+    /// is no note, or a good one.
     pub fn bad_note(&self) -> Option<u16>
         requires { IsFit D.units self.now }
         ensures { MatchOption result (IsFineNote self.now.groups (missing_in D.lost self.now) self.now.note)
@@ -157,8 +161,9 @@ impl<D: Drive> Parts<D> {
         }
     }
 
-    /// Finishes the write of the note, if there is a good one, and clears the note: the unit to each copy, or the data and the
-    /// parity, on the drives that are there. However much of the write was made before, the slot then has the note's unit.
+    /// Finishes the write of the note, if there is a good one, and clears the note. The unit goes to each copy, or the unit
+    /// and the parity to their places, on the drives that aren't lost. However much of the write was made before, the slot
+    /// then has the note's unit.
     pub fn finish(&mut self)
         requires fit { IsFit D.units self.old }
         requires good { IsFineNote self.old.groups (missing_in D.lost self.old) self.old.note }

@@ -61,6 +61,7 @@ impl<D: Drive> Parts<D> {
     pub fn is_fit(&self) -> bool
         ensures { IsTrue result ↔ IsFit D.units self.now }
     {
+        // Nothing is read: this call's clause says what is true of every group table, so it isn't tested.
         let _groups = self.groups.members(0);
         let count = self.drives.len();
         if count < 3 || count > 16 || self.extents.drives() != count {
@@ -69,9 +70,11 @@ impl<D: Drive> Parts<D> {
         if !is_shape_of(&self.shape, &self.groups) {
             return false;
         }
+        // After the count, so that there is a drive 0. All rows are of one length, so one is enough.
         if self.extents.owners(0).len() != self.shape.extents as usize {
             return false;
         }
+        // Before the length of a unit, because a drive without units has none.
         if !have_units(&self.drives, self.shape.drive_units()) {
             return false;
         }
@@ -88,7 +91,7 @@ impl<D: Drive> Parts<D> {
         ensures there { OnOk result (IsGone self.new.groups (missing_in D.lost self.new) slot → ⊥) }
         ensures gone { IfErr result (ReportsGone D.units D.lost self.new slot) }
 
-        // No unit changes: if all slots were sound they still are, and each unit that exists afterwards is what it was.
+        // No unit changes: if all slots were sound they stay so, and each unit that exists afterwards is what it was.
         ensures units { AreSound self.old.groups (cells_in D.units D.lost self.old)
             → KeepsUnits self.old.groups (cells_in D.units D.lost self.old) (cells_in D.units D.lost self.new) }
         ensures sound { AreSound self.old.groups (cells_in D.units D.lost self.old) → AreSound self.new.groups (cells_in D.units D.lost self.new) }

@@ -36,7 +36,7 @@ fn plan_pair<D: Drive>(
     ensures err { IfErr result (λ e. (e ≡ why.Memory) ⊎ ((e ≡ why.Gone slot) × (unit_of groups.now (cells D.units D.lost drives.new) slot ≡ None))) }
     ensures same { drives.new ≡ drives.old }
 {
-    // Where the copies lie: the store's plan says it of no slot.
+    // Nothing is read: this call's clause says where the copies lie, since the store's plan says it of no slot.
     let _places = groups.pair_of(slot);
     mirrored_store::plan(alloc, groups, drives, slot, unit)
 }
@@ -106,9 +106,9 @@ fn refused(why: PlanRefusal) -> Refusal
 }
 
 impl<D: Drive> Parts<D> {
-    /// Plans the writes that give a slot a unit, by reads alone: of exactly the places whose drives are there, the first copy
-    /// before the second, the data before the parity. Nothing is written. Refused with Gone where the unit couldn't be had
-    /// afterwards, and with Memory before the first drive call.
+    /// Plans the writes that give a slot a unit, by reads alone. They are of exactly the places whose drives aren't lost, the
+    /// first copy before the second, the data before the parity. Nothing is written. Refused with Gone where the slot would
+    /// be gone afterwards, and with Memory before the first drive call.
     pub fn plan(&mut self, alloc: Global, slot: u16, unit: &[u8]) -> Result<Planned, Refusal>
         requires fit { IsFit D.units self.old }
         requires slot { IsSlot self.old.groups slot }

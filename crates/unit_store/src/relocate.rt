@@ -32,7 +32,7 @@ pub(crate) struct Route {
 /// Why copying a member's units to another extent stopped.
 #[derive(Clone, Copy)]
 pub(crate) enum Stop {
-    /// A unit of the member is unavailable: its drive is lost, and so is another that the rebuild needs.
+    /// A unit of the member can't be read or rebuilt: its drive is lost, and so is another that the rebuild needs.
     Beyond,
     /// The other extent's drive is lost.
     TargetLost,
@@ -85,6 +85,7 @@ fn read_index<D: Drive>(
     ensures touched { KeepsDrives D.units D.lost D.failures NoPlace drives.old drives.new }
     ensures elsewhere { SameBut (HasMemberOn groups.now at.group) drives.old drives.new }
 {
+    // By slot, not by place: the effective unit is rebuilt where the member's drive is lost.
     match read_slot(groups, drives, SLOTS * at.group + index, unit, scratch) {
         Ok(()) => true,
         Err(_) => false,
@@ -131,6 +132,7 @@ fn read_unused<D: Drive>(
     ensures touched { KeepsDrives D.units D.lost D.failures NoPlace drives.old drives.new }
     ensures elsewhere { SameBut (HasMemberOn groups.now at.group) drives.old drives.new }
 {
+    // Nothing depends on these bytes, so a lost one is replaced by zeros, not rebuilt.
     read_or_clear(drives, place_in(groups, at.from, offset), unit);
 }
 

@@ -72,6 +72,7 @@ impl<D: Drive> Parts<D> {
         }
         let header = header_in(unit);
         let found = header.record();
+        // Before the payload is copied, because it is then of another record.
         if found != Some(*asked) {
             return Ok(Sight::Stale(found));
         }

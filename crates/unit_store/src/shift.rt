@@ -67,9 +67,9 @@ impl<D: Drive> Parts<D> {
         }
     }
 
-    /// Puts each unit of a group's member on another extent, rebuilt from the other members' where the member's
-    /// drive is lost, and then swaps the two, with a buffer of a unit's length and one of two units'. Refused,
-    /// with the tables as they were, where the other extent's drive is lost or one of the units can't be had.
+    /// Puts each unit of a group's member on another extent, and then swaps the two. Units are rebuilt from the other
+    /// members' where the member's drive is lost. Takes a buffer of a unit's length and one of two units'. Refused, with the
+    /// tables as they were, where the other extent's drive is lost or one of the units can't be read or rebuilt.
     pub fn swap(
         &mut self,
         group: u16,
@@ -99,18 +99,20 @@ impl<D: Drive> Parts<D> {
             from,
             to,
         };
+        // First the units: until the tables change, the old extent is the member, so a refusal loses nothing.
         if let Err(stop) = self.put_units(at, unit, scratch) {
             return Err(self.why_unmoved(stop, at));
         }
+        // Not refused, because the caller has tested all that could be.
         let _swapped = self
             .groups
             .swap_member(&mut self.extents, group, member, to);
         Ok(())
     }
 
-    /// Moves a group's member, which keeps its number, onto another extent, with a buffer of a unit's length and
-    /// one of two units'; refused, with the tables as they were, where the other extent's drive is lost or one of
-    /// the member's units can't be had.
+    /// Moves a group's member, which keeps its number, onto another extent. Takes a buffer of a unit's length and one of two
+    /// units'. Refused, with the tables as they were, where the other extent's drive is lost or one of the member's units
+    /// can't be read or rebuilt.
     pub fn shift(
         &mut self,
         group: u16,

@@ -15,6 +15,7 @@ impl<D: Drive> Parts<D> {
         ensures taken { WasTaken (view_of D.units D.lost D.failures self.old) group (view_of D.units D.lost D.failures self.new) }
         ensures fit { IsFit D.units self.new }
     {
+        // Not refused, because the group is made.
         let _taken = self.groups.take_group(&mut self.extents, group);
     }
 }

@@ -40,8 +40,8 @@ pub(crate) fn header_in(unit: &[u8]) -> Header
     }
 }
 
-// Turns the unit into one that waits: a blank header, and zeros as the payload if it was a trim. Returns the kind that it
-// had.
+// Turns the unit into one that waits: a blank header, and zeros as the payload if it was a trim. Blank, because a scan would
+// find the old record in a wrong slot. Returns the kind that it had.
 pub(crate) fn make_wait(unit: &mut [u8]) -> Kind
     requires { HEADER_BYTES ≤ length unit.old }
     ensures front { take HEADER_BYTES unit.new ≡ header_bytes Header.Blank }

@@ -127,6 +127,7 @@ impl<D: Drive> Units for Parts<D> {
         headers: &mut [[u8; HEADER_BYTES]],
         scratch: &mut [u8],
     ) -> u16 {
+        // Cut, because the caller's buffer may be longer than the two units that a read takes.
         let length = self.scratch_length();
         self.read_headers(group, headers, &mut scratch[..length])
     }
