@@ -29,7 +29,8 @@ impl WorkFault {
         }
     }
 
-    /// The fault that a refusal of the array is.
+    /// The fault that a refusal of the array is. Out of memory is a fault of its own, so that callers needn't look into the
+    /// refusal.
     #[tactic(auto, using(crate::proofs::Noting::fault_else))]
     pub(crate) fn of(refused: Refusal) -> WorkFault
         ensures same { result ≡ fault_of refused }

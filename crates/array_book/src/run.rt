@@ -72,7 +72,8 @@ pub fn run_workers<
     first_fault(workers)
 }
 
-// The fault of the worker of the lowest number whose job failed.
+// The fault of the worker of the lowest number whose job failed. Not that of the job that ended first, so that the answer
+// doesn't depend on the threads' order.
 fn first_fault<D: Drive, N: slot_words::Naming + Sizes, A: map_words::Naming, B: map_words::Naming>(
     workers: &[Worker<'_, D, N, A, B>],
 ) -> Result<(), RunFault>

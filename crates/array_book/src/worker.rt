@@ -187,6 +187,7 @@ impl<
         ensures rest { (self.new.number ≡ self.old.number) × (self.new.book ≡ self.old.book) }
     {
         let book = self.book;
+        // Before the lock is taken: workers compete for slots by the words alone.
         let Some(claim) = self.claim(&book.mirrors) else {
             return Err(WorkFault::NoRoom);
         };
@@ -268,7 +269,7 @@ impl<
         Ok(ended)
     }
 
-    // The outcome of a step. If the step was refused, the claim that it left is released.
+    // The outcome of a step. If the step was refused, the claim that it left is released: a claim can't be dropped.
     fn or_released<T>(&mut self, tried: Result<T, Refused<N>>) -> Result<T, WorkFault>
         ensures ok { IfOk result (λ done. tried ≡ Ok done) }
         ensures err { IfErr result (λ fault. MatchResult tried (λ done. ⊥) (λ e. fault ≡ fault_of e.refusal)) }
@@ -287,7 +288,8 @@ impl<
         }
     }
 
-    // Releases the old place of what was committed, and takes its record.
+    // Releases the old place of what was committed, and takes its record. After the commit, and with the lock free: until the
+    // commit the block is read at its old place.
     fn acknowledge(&mut self, done: Done<Claim<N>>) -> Emitted
         requires block { done.emitted.block < self.old.book.now.blocks }
         requires written { 0 < done.emitted.version }
@@ -366,6 +368,7 @@ impl<
                 gate.reach(Point::Taken, rt);
                 Ok(Migration::Moved(emitted))
             }
+            // No fault: another worker wrote the block after it was copied, which migrations have to expect.
             Err(WorkFault::Core(Refusal::Outrun(newer))) => Ok(Migration::Outrun(newer)),
             Err(fault) => Err(fault),
         }
@@ -489,7 +492,7 @@ impl<
         }
     }
 
-    // Takes what was learned, where it isn't what was found.
+    // Takes what was learned, where it isn't what was found: that is in the words already.
     fn learn(&mut self, controller: Controller, found: Record, reported: Record)
         requires block { «reported».block < self.old.book.now.blocks }
         requires written { 0 < «reported».version }
@@ -540,6 +543,7 @@ fn claim_planned<R: Wait, D: Drive, N: slot_words::Naming + Sizes>(
     loop {
         match words.claim(pass, slot) {
             Ok(claim) => return Some(claim),
+            // Only here, because most claims get the plan's own slot.
             Err(_) => slot = slot_after(&*kept.lock(rt), plan, slot)?,
         }
     }

@@ -83,6 +83,7 @@ impl Row for StopRow {
     }
 
     fn run(&self, alloc: Global, setup: &Setup) -> Result<(), Trouble> {
+        // Over a stop of its own, because a restart takes the parts.
         self.leaves_no_note(alloc, setup)?;
         let parts = self.stop(alloc, setup)?;
         let note = if parts.note.is_some() { "1" } else { "0" };

@@ -32,7 +32,8 @@ pub(crate) fn slot_total(members: u16, segments: u16, groups: u16) -> u32
     u32::from(mirrored) * u32::from(pairs) + u32::from(groups - mirrored) * u32::from(rows)
 }
 
-/// The least number of segments with which the most groups have more slots than there are blocks.
+/// The least number of segments with which the most groups have more slots than there are blocks. Eight segments aren't
+/// tested: the caller knows that they are enough.
 pub(crate) fn first_segments(members: u16, blocks: u32) -> u16
     requires some { 1 ≤ members }
     requires few { members ≤ 8 }
@@ -49,7 +50,8 @@ pub(crate) fn first_segments(members: u16, blocks: u32) -> u16
     MOST_SEGMENTS
 }
 
-/// The least number of groups, 2 at least, that have more slots than there are blocks.
+/// The least number of groups, 2 at least, that have more slots than there are blocks. Two, because one is mirrored, and a
+/// block that leaves it needs a parity group. 512 aren't tested: the caller knows that they are enough.
 pub(crate) fn first_groups(members: u16, segments: u16, blocks: u32) -> u16
     requires some { 1 ≤ members }
     requires few { members ≤ 8 }

@@ -11,7 +11,8 @@ pub const REQUEST_LEN: usize = 28;
 
 const REQUEST_MAGIC: u32 = 0x2560_9513;
 
-/// The commands. A client may send others.
+/// The commands. A client may send others. A number that isn't known is no error of the form, so that the server can refuse it
+/// and go on.
 #[derive(Clone, Copy, Debug, PartialEq, Eq)]
 pub enum Command {
     Read,
@@ -105,7 +106,8 @@ impl Request {
         self.flags % 2 == 1
     }
 
-    /// Bytes that come after the request's 28: a write carries its data.
+    /// Bytes that come after the request's 28: a write carries its data. Also of one that is refused: else the next request
+    /// would begin inside its data.
     pub fn carried_len(&self) -> u32
         ensures { result ≡ carried_len self.now }
     {

@@ -11,7 +11,7 @@ pub(crate) enum Name {
     Fresh(usize),
 }
 
-/// Why nothing was answered.
+/// Why a command ended early. `save` may have answered its script before, and put its table in place.
 #[derive(Debug, Drop)]
 pub(crate) enum Trouble {
     Memory,
@@ -27,7 +27,7 @@ pub(crate) enum Trouble {
     Line(usize),
     /// The table's text isn't that of its digest.
     Sum,
-    /// The table's number of drives, and the number of images.
+    /// The number of the table's drives, in a `save` of those of the script's array; and the number of images.
     Count(usize, usize),
     /// The table's groups don't fit one another.
     Misfit,

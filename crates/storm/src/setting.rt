@@ -65,6 +65,7 @@ pub(crate) fn storm_array<N: Naming>(
     ];
     for (class, members) in groups {
         if let Err(refusal) = add_group(alloc, words, pass, &mut array, class, &members) {
+            // An array of such claims has no `Drop`, also where it keeps none.
             release_all(words, pass, array);
             return Err(refusal);
         }
@@ -90,7 +91,7 @@ fn members(extent: u16, drives: [u8; 3]) -> [Member; 3] {
     ]
 }
 
-// Makes a group, and releases the claims that were kept for its number.
+// Makes a group, and releases the claims that were kept for its number. Else no worker could claim the group's slots.
 fn add_group<N: Naming>(
     alloc: Global,
     words: &SlotWords<N>,

@@ -1,4 +1,5 @@
-// Which slots are gone, by the lost drives and the geometry alone: no unit is read.
+// Which slots are gone, by the lost drives and the geometry alone: no unit is read. Whether the units there are sound makes no
+// difference: Gone depends on lost drives alone.
 ghost use Rattle.std.specs.Prelude.{◌↔◌, ◌≢◌, ℕ, ◌<◌, IsTrue, Some, slice_get, true};
 ghost use Rattle.extent_groups.specs.declared.class.Class.TheVariants.{Mirrored, Parity};
 ghost use Rattle.extent_groups.specs.Stores.{IsSlotOf};

@@ -137,6 +137,7 @@ impl Planner {
         ensures end { self.new.end ≡ self.old.end }
     {
         let block = committed.block;
+        // Else `wrote` would be called for a block that has no turn.
         if block as usize >= self.ages.len() {
             return;
         }
@@ -164,7 +165,8 @@ fn live_counts<D: Drive, C: Hold>(array: &Array<D, C>) -> &[u16; GROUPS]
     array.live_counts()
 }
 
-// The block, if it is below `blocks`.
+// The block, if it is below `blocks`. Callers may pass another array than the planner's, so the bound isn't known without the
+// test.
 fn below(block: Option<u32>, blocks: u32) -> Option<u32>
     ensures within { MatchOption result (Unit {0}) (λ block. block < blocks) }
     ensures same { MatchOption block (Unit {0}) (λ block. block < blocks) → result ≡ block }

@@ -44,6 +44,7 @@ impl<D: Drive> Tiers<D> {
         let Some(slot) = self.any_hole() else {
             return Ok(Outcome::NoRoom)
         };
+        // By `put`, not `append`: the log goes on nowhere, so its end stays.
         self.put(alloc, slot, block, None)
     }
 
@@ -116,7 +117,8 @@ impl<D: Drive> Tiers<D> {
         }
     }
 
-    // The lowest free slot of mirrored groups that can be written; where none can, the lowest free one.
+    // The lowest free slot of mirrored groups that can be written; where none can, the lowest free one. The latter is tried so
+    // that the refusal names a slot.
     fn any_mirror(&mut self) -> Option<u16>
         ensures first { (T : Tiered) → RepresentsTiers self.old T → IsFirstOf (IsFreeMirror T.flat) (IsOpenMirror T) result × RepresentsTiers self.new T }
         ensures same { self.new.world ≡ self.old.world }
@@ -127,7 +129,8 @@ impl<D: Drive> Tiers<D> {
         }
     }
 
-    // The lowest free slot of mirrored groups that can be written. Where the lowest free one is gone, all are looked at.
+    // The lowest free slot of mirrored groups that can be written. Where the lowest free one is gone, all are looked at. The
+    // hints are asked first, because with no drive lost the lowest free slot is the answer.
     fn open_mirror(&mut self) -> Option<u16>
         ensures first { (T : Tiered) → RepresentsTiers self.old T → IsFirst (IsOpenMirror T) result × RepresentsTiers self.new T }
         ensures same { self.new.world ≡ self.old.world }
@@ -141,7 +144,8 @@ impl<D: Drive> Tiers<D> {
         first_mirror(self.world.array().groups(), &Open { world: &self.world })
     }
 
-    // The lowest free slot of parity groups that can be written; where none can, the lowest free one.
+    // The lowest free slot of parity groups that can be written; where none can, the lowest free one. The latter is tried so
+    // that the refusal names a slot.
     fn any_hole(&mut self) -> Option<u16>
         ensures first { (T : Tiered) → RepresentsTiers self.old T → IsFirstOf (IsHole T) (IsOpenHole T) result × RepresentsTiers self.new T }
         ensures same { self.new.world ≡ self.old.world }
@@ -152,7 +156,8 @@ impl<D: Drive> Tiers<D> {
         }
     }
 
-    // The lowest free slot of parity groups that can be written. Where the lowest free one is gone, all are looked at.
+    // The lowest free slot of parity groups that can be written. Where the lowest free one is gone, all are looked at. The
+    // hints are asked first, because with no drive lost the lowest free slot is the answer.
     fn open_hole(&mut self) -> Option<u16>
         ensures first { (T : Tiered) → RepresentsTiers self.old T → IsFirst (IsOpenHole T) result × RepresentsTiers self.new T }
         ensures same { self.new.world ≡ self.old.world }

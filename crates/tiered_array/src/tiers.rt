@@ -21,7 +21,8 @@ use step_core::{Answer, Class, Drive, MemDrive, Member, World};
 pub struct Tiers<D: Drive = MemDrive> {
     pub(crate) world: World<D>,
     pub(crate) planner: Planner,
-    // The slots of mirrored groups that may be free, and those of parity groups.
+    // The slots of mirrored groups that may be free, and those of parity groups. Two tables, because a search for one class
+    // clears the other class's slots.
     pub(crate) hints: FreeHints,
     pub(crate) holes: FreeHints,
 }
@@ -86,6 +87,7 @@ impl<D: Drive> Tiers<D> {
         let Answer::Committed(record) = answer else {
             return Ok(answer);
         };
+        // The old place isn't hinted: the worker holds it until it is released.
         self.planner.note(self.world.array(), record);
         Ok(Answer::Committed(record))
     }
@@ -97,6 +99,8 @@ impl<D: Drive> Tiers<D> {
         ensures room { SameSizes self.old.world.array self.new.world.array }
     {
         let answer = self.world.release(worker, slot);
+        // Whatever the answer: a hint too many costs one test, a hint too few hides a free slot. In both tables, because
+        // nobody asks for the slot's class.
         self.hints.add(slot);
         self.holes.add(slot);
         answer
@@ -120,7 +124,7 @@ impl<D: Drive> Tiers<D> {
         Ok(answer)
     }
 
-    /// Dissolves a group of which the worker holds all slots.
+    /// Dissolves a group of which the worker holds all slots. Hints no slot: its group's number holds them from then on.
     pub fn unmake(&mut self, alloc: Global, worker: u8, group: u16) -> Result<Answer, AllocError>
         ensures ok { IfOk result (λ answer. (T : Tiered) → RepresentsTiers self.old T
             → (U : Tiered) × StepNoted T (f.Unmake worker group) (flat_answer answer) U × RepresentsTiers self.new U) }

@@ -8,7 +8,8 @@ use extent_groups::Place;
 use std::alloc::{AllocError, Global};
 use std::marker::Model;
 
-/// How many of the last writes are looked at for one with the same unit.
+/// How many of the last writes are looked at for one with the same unit. A new unit is compared with all of them, so without a
+/// bound a long batch would take quadratic time.
 const LOOKED_AT: usize = 64;
 
 /// The byte that is compared first: the low one of a header's slot number, in which most units differ.
@@ -27,7 +28,8 @@ struct Entry {
 pub struct Batch {
     entries: Vec<Entry>,
     units: Vec<u8>,
-    /// The write after the one that last had the same unit as another: the next pair's may be there.
+    /// The write after the one that last had the same unit as another: the next pair's may be there. It may be out of date or past
+    /// the end, since it is only where to look first.
     hint: usize,
 }
 
@@ -83,7 +85,7 @@ impl Batch {
         self.units.clear();
     }
 
-    /// Takes all writes but the first `count` away.
+    /// Takes all writes but the first `count` away. The bytes of their units stay, and are encoded with the others.
     #[tactic(auto, using(crate::proofs::Held::writes_front, crate::proofs::Held::within_front))]
     pub fn truncate(&mut self, count: usize)
         ensures { self.new ≡ take count self.old }
@@ -160,7 +162,8 @@ impl Batch {
     }
 }
 
-// Whether the telling byte of a unit is another than that of the unit at `from`.
+// Whether the telling byte of a unit is another than that of the unit at `from`. Most units differ there, so that one
+// comparison of a byte spares one of a whole unit.
 fn differ(units: &[u8], from: usize, unit: &[u8]) -> bool
     ensures { IsTrue result → (to : ℕ) → slice_range units.now from to ≡ unit.now → ⊥ }
 {
@@ -176,6 +179,7 @@ fn is_unit_of(entries: &[Entry], units: &[u8], index: usize, unit: &[u8]) -> boo
     requires { AreWithin units.now entries.now }
     ensures { IsTrue result ↔ IsUnitOf units.now entries.now index unit.now }
 {
+    // A hint may be past the end.
     if index >= entries.len() {
         return false;
     }
@@ -286,6 +290,7 @@ fn read_entry(bytes: &[u8], units: usize) -> Option<Entry>
     let address = number(&bytes[8..]);
     let from = number(&bytes[16..]);
     let to = number(&bytes[24..]);
+    // Tested here, so that no bytes of a file can make `unit` read past the end.
     if drive > 255 || address > u32::MAX as usize || from > to || to > units {
         return None;
     }
