@@ -42,6 +42,7 @@ pub struct Book<
     pub(crate) kept: Mutex<Kept<D, N>>,
     // The slots of mirrored groups, ascending. Kept outside of the lock, because no group changes while the array is in a Book.
     pub(crate) mirrors: Vec<u16>,
+    // The array's sizes, so that nobody takes the lock to learn them.
     pub(crate) blocks: u32,
     pub(crate) payload: u32,
     pub(crate) ghost slots: { table_slots N.table ≡ 65536 },

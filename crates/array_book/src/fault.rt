@@ -14,6 +14,7 @@ pub enum WorkFault {
     NoRoom,
     /// The array refused, for a reason other than memory.
     Core(Refusal),
+    /// Out of memory. What was claimed is released, as after a refusal.
     Memory,
 }
 

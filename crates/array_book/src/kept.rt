@@ -257,6 +257,7 @@ pub fn commit_in<D: Drive, N: Naming + Sizes>(
     let slot = ticket.slot();
     match kept.array.commit(alloc, ticket, block) {
         Ok(done) => {
+            // Under the same hold: whenever the lock is free, the marks are those of the array's map.
             kept.planner.note(&kept.array, done.emitted.record());
             kept.keeper
                 .note::<(u16, u32, &Done<Claim<N>>), Commits>(history, me, &(slot, block, &done));

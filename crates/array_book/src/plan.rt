@@ -38,6 +38,7 @@ pub(crate) fn slot_after<D: Drive, N: Naming + Sizes>(
     ensures seen { (state : LockState N.blocks N.payload) × IsNext state.view plan.now slot result }
     ensures later { MatchOption result (Unit {0}) (λ next. turn_of plan.now.group slot < turn_of plan.now.group next) }
 {
+    // For its clauses: it does nothing.
     kept.matches();
     if !plan.demotes {
         return None;

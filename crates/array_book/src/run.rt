@@ -61,6 +61,7 @@ pub fn run_workers<
 >(rt: &R, alloc: Global, workers: &mut [Worker<'_, D, N, A, B>], job: &J) -> Result<(), RunFault>
     ensures { OnOk result (AreDone (J.leaves job.now) (map (λ w. w.number) workers.old) (map (λ w. w.hand) workers.old) (map (λ w. w.hand) workers.new)) }
 {
+    // `for_each_mut` requires a thread at least.
     if workers.is_empty() {
         return Ok(());
     }

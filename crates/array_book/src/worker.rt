@@ -50,7 +50,7 @@ pub struct Worker<
     pub(crate) even: Taker<A>,
     pub(crate) odd: Taker<B>,
     pub(crate) hand: Hand<N, Deed>,
-    // How its last job ended.
+    // How its last job ended. Kept here, because a run of threads returns nothing of its parts.
     pub(crate) outcome: Result<(), WorkFault>,
 }
 
@@ -118,8 +118,9 @@ impl<
         self.book.payload
     }
 
-    /// Claims a mirrored slot, fills and commits it, releases the block's old place, and takes the record into the words of the
-    /// controller of the worker's number. Where nothing is committed the slot is released again.
+    /// Claims a mirrored slot, fills and commits it, releases the block's old place, and takes the record into the words of
+    /// the controller of the worker's number. `NoRoom` where no mirrored slot can be claimed; else refused as a fill or a
+    /// commit is, and the slot is released again.
     pub fn write<R: Wait, G: Gate>(
         &mut self,
         rt: &R,
@@ -143,7 +144,7 @@ impl<
         self.put(rt, alloc, block, Given::Payload(payload), gate)
     }
 
-    /// Trims a block: a write without a payload, after which the block holds nothing.
+    /// Trims a block: a write without a payload, after which the block holds nothing. Refused as `write` is.
     pub fn trim<R: Wait, G: Gate>(
         &mut self,
         rt: &R,
@@ -233,6 +234,7 @@ impl<
     {
         let book = self.book;
         let claim = Claim(claim);
+        // One write in place of two, since nobody is to see the slot between them.
         if !gate.waits() {
             let put = put_in(
                 &mut *book.kept.lock(rt),
@@ -356,6 +358,7 @@ impl<
             return Ok(Migration::Idle);
         };
         let book = self.book;
+        // The plan's hold has ended: the array may change before the next one, and the commit tests what it needs.
         let Some(claim) = claim_planned(rt, &book.words, &book.kept, &mut self.pass, &plan) else {
             return Ok(Migration::NoRoom);
         };
@@ -403,6 +406,7 @@ impl<
     {
         let book = self.book;
         let claim = Claim(claim);
+        // One write in place of two, since nobody is to see the slot between them.
         if !gate.waits() {
             let moved = move_in(
                 &mut *book.kept.lock(rt),
@@ -438,8 +442,9 @@ impl<
         Ok(ended)
     }
 
-    /// Reads a block by the newest record of it in the controller's words, or where that is stale by the array's newest, which is
-    /// taken into those words. None where they have no record of it.
+    /// Reads a block by the newest record of it in the controller's words, or where that is stale by the array's newest, which
+    /// is taken into those words. None where they have no record of it. Refused with `Ahead`, then out of memory, both before
+    /// a drive is called, then `Gone`.
     pub fn read<R: Wait>(
         &mut self,
         rt: &R,

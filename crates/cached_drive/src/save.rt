@@ -169,6 +169,7 @@ impl<N: Chronicle> CachedDrive<N> {
             batch.truncate(before);
             return Err(error);
         }
+        // For its clause: the history has this hand's entries, so the last of them is the last save.
         keeper.check(history, &mut self.hand);
         keeper.note::<MemDrive, Saves>(history, &mut self.hand, &self.cache);
         // Before the list is cleared, which says where marks are: a walk over all marks would take time by the drive's size.

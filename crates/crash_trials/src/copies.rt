@@ -118,6 +118,7 @@ fn is_zero_row(
             address: shape.unit_address(member.extent, offset),
         };
         let Some(unit) = unit_at(alloc, drives, place)? else {
+            // A row without all its units can't be added up.
             return Ok(true);
         };
         for (byte, with) in sum.iter_mut().zip(unit.iter()) {

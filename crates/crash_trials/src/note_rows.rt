@@ -119,7 +119,7 @@ impl NoteRow {
     }
 }
 
-// The bytes of a cell; none if it is `-`.
+// The bytes of a cell; none if it is `-`. `empty` is a unit without bytes, which makes a note bad.
 fn bytes_of(alloc: Global, cell: &str) -> Result<Option<Vec<u8>>, Trouble> {
     match cell {
         "-" => Ok(None),

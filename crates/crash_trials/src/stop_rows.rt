@@ -57,6 +57,7 @@ impl Row for StopRow {
         else {
             return Err(Trouble::Form);
         };
+        // The outcome is read for its form alone, since the map shows which it was.
         if !matches!(*note, "0" | "1") || !matches!(*outcome, "before" | "after") {
             return Err(Trouble::Form);
         }

@@ -50,10 +50,12 @@ pub(crate) fn report_story(rt: &HostRuntime) -> Result<(), Trouble> {
     println!(rt;
         "commit of block 3 to slot 128: set the note, write unit and parity, clear the note"
     )?;
+    // The list has four entries: a stop before the first, and after each.
     for entries in 0..5 {
         report_stops(rt, &setup, entries, true)?;
     }
     println!(rt; "the same commit without its note: write unit and parity")?;
+    // Without the note there are two.
     for entries in 0..3 {
         report_stops(rt, &setup, entries, false)?;
     }

@@ -9,7 +9,7 @@ use crate::search::{
 use crate::{Plan, ShapeFault};
 use extents::Shape;
 
-// The most blocks of a disk of so many drives. One slot stays free, because a write needs one before the block's old slot is
+// The most blocks of a disk of `drives` drives. One slot stays free, because a write needs one before the block's old slot is
 // free.
 fn most_blocks(drives: u8) -> u32
     requires { (3 ≤ drives) × (drives ≤ 16) }
@@ -19,7 +19,7 @@ fn most_blocks(drives: u8) -> u32
     slot_total(u16::from(drives.min(8)), MOST_SEGMENTS, MOST_GROUPS) - 1
 }
 
-// The bytes of the largest disk of so many drives, in blocks of so many bytes.
+// The bytes of the largest disk of `drives` drives, in blocks of `block_bytes` bytes.
 fn largest(drives: u8, block_bytes: u32) -> u64
     requires drives { (3 ≤ drives) × (drives ≤ 16) }
     requires block { block_bytes ≤ 65536 }

@@ -4,10 +4,10 @@ ghost use Rattle.disk_shape.specs.Plans.{mirrored_of, slots_of};
 
 use extent_groups::{Class, count_slots};
 
-/// The most groups of an array.
+/// The most groups of an array: with 128 slot numbers each they have all 65,536.
 pub(crate) const MOST_GROUPS: u16 = 512;
 
-/// The most segments of an extent.
+/// The most segments of an extent: with eight members a group has 112 slots then, and numbers for 128.
 pub(crate) const MOST_SEGMENTS: u16 = 8;
 
 // Of every five groups, begun fives too, one is mirrored: about an eighth of the slots.
@@ -18,7 +18,7 @@ pub(crate) fn mirrored_among(groups: u16) -> u16
     (groups + 4) / 5
 }
 
-/// Slots of so many groups.
+/// Slots of `groups` groups.
 pub(crate) fn slot_total(members: u16, segments: u16, groups: u16) -> u32
     requires some { 1 ≤ members }
     requires few { members ≤ 8 }

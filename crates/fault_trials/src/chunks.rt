@@ -31,6 +31,7 @@ impl Read for Feed<'_> {
                 Then::FailOnce => {
                     self.then = Then::End;
                     self.front = self.following;
+                    // The kind of error after which most callers read again.
                     return Err(io::Error::from(ErrorKind::Interrupted));
                 }
             }

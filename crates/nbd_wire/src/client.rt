@@ -11,6 +11,7 @@ pub const CLIENT_FLAGS_LEN: usize = 4;
 /// Bytes of an option before its data.
 pub const OPTION_HEAD_LEN: usize = 16;
 
+// `IHAVEOPT`, as in the greeting.
 const OPTION_MAGIC: u64 = 0x4948_4156_454f_5054;
 
 /// The options. A client may send others. An unknown one is refused by a reply, and the handshake goes on.

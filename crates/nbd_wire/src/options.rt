@@ -7,8 +7,10 @@ ghost use Rattle.nbd_wire.specs.Options.{kind_number, preferred_of};
 use crate::numbers::{put_u16, put_u32, put_u64};
 use std::alloc::AllocError;
 
+// `NBDMAGIC`.
 const GREETING_MAGIC: u64 = 0x4e42_444d_4147_4943;
 
+// `IHAVEOPT`.
 const OPTION_MAGIC: u64 = 0x4948_4156_454f_5054;
 
 const OPTION_REPLY_MAGIC: u64 = 0x0003_e889_0455_65a9;

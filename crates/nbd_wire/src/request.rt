@@ -89,7 +89,8 @@ impl Request {
     ghost use Rattle.std.specs.Prelude.{ℕ};
     ghost use Rattle.nbd_wire.specs.Requests.{has_known_flags, is_forced, carried_len};
 
-    /// Whether the command takes all flags that are set: FUA with any command, NO_HOLE with `WriteZeroes`.
+    /// Whether the command takes all flags that are set: FUA with any command, NO_HOLE with `WriteZeroes`. The protocol allows
+    /// FUA with each, also where nothing changes.
     pub fn has_known_flags(&self) -> bool
         ensures { result ≡ has_known_flags self.now }
     {

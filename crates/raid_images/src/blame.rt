@@ -23,12 +23,12 @@ pub(crate) enum Intended {
     NoReturn,
     /// The number of this kind, at this place among the command's numbers.
     Number(Kind, usize),
-    /// That number in its range, with so many blocks.
+    /// That number in its range, in an array with this number of blocks.
     Within(Kind, usize, u64),
     Record,
-    /// A record of one of so many blocks.
+    /// A record of one of this number of blocks.
     RecordWithin(u64),
-    /// A payload of so many bytes.
+    /// A payload of this number of bytes.
     Payload(u64),
     Class,
     Member,
@@ -273,7 +273,7 @@ fn blame_tail<'l>(
     }
 }
 
-// Whether a word is a payload of so many bytes.
+// Whether a word is a payload of `bytes` bytes.
 fn is_payload(word: Option<&[u8]>, bytes: u64) -> bool {
     let Some(word) = word else { return false };
     word.len() as u64 == bytes.saturating_mul(2) && word.iter().all(|byte| byte.is_ascii_hexdigit())

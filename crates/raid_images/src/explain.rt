@@ -132,7 +132,7 @@ fn put_words(out: &mut Vec<u8>, blame: &Blame<'_>) -> Result<(), AllocError> {
 /// The most bytes of a word that are shown.
 const SHOWN: usize = 40;
 
-// Appends a word as it can be printed. Raw bytes could be a terminal's commands.
+// Appends a word as it can be printed, other bytes by their numbers, so that a tab or a carriage return is seen.
 fn put_shown(out: &mut Vec<u8>, word: &[u8]) -> Result<(), AllocError> {
     for byte in word.iter().take(SHOWN) {
         match *byte {

@@ -27,7 +27,7 @@ fn writes(alloc: Global, drives: usize) -> Result<Vec<Step>, AllocError>
     Ok(steps)
 }
 
-/// The steps of a save of so many drives.
+/// The steps of a save of `drives` drives.
 #[tactic(auto, using(crate::proofs::Saving::along_steps, crate::proofs::Saving::steps_end))]
 pub(crate) fn plan(alloc: Global, drives: usize) -> Result<Vec<Step>, AllocError>
     ensures steps { IfOk result (λ steps. steps.items ≡ steps_of drives) }

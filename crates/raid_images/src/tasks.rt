@@ -145,6 +145,7 @@ fn array_of(
         is_compared,
     } = load_files(rt, files)?;
     say_compared(rt, files, &wrong, is_compared);
+    // Before `recover`, which with a drive left out can't find that an image is older.
     if !wrong.is_empty() {
         return Ok(None);
     }

@@ -258,6 +258,7 @@ fn newest_records<D: Drive, C: Hold>(
 ) -> Result<Vec<Record>, AllocError>
     ensures { IfOk result (λ records. IsListOf (key_at array.now) records.items) }
 {
+    // For its clause, the array's invariant: it does nothing.
     array.whole();
     let mut records = Vec::new(alloc);
     // A block with a record has a live slot, so without live slots up to 65,536 lookups are spared.

@@ -4,7 +4,7 @@ ghost use Rattle.script_exec.specs.declared.why.Failure.TheVariants as failure;
 
 use std::alloc::AllocError;
 
-/// Why a line is wrong. In the order in which they are tested: the first that holds is the line's fault.
+/// Why a line is wrong, in the order of the tests: the first that holds is the line's fault.
 #[derive(Clone, Copy)]
 pub enum Why {
     /// It is past the last line that a script may have.

@@ -80,8 +80,8 @@ fn turns<R: Read, W: Write>(
     }
 }
 
-// Answers the lines that end in a chunk, and writes the answers. It writes before it looks at a fault or Memory: the answers
-// before these are whole. A failed write hides both.
+// Answers the lines that end in a chunk, and writes the answers, also before a fault or Memory: those of earlier lines are
+// whole. A failed write hides both.
 fn go_on<W: Write>(alloc: Global, writer: &mut W, script: &mut Script, chunk: &[u8]) -> Option<Halt>
     requires good { IsScript script.old }
     requires written { script.old.out.items ≡ [] }
@@ -107,7 +107,7 @@ fn go_on<W: Write>(alloc: Global, writer: &mut W, script: &mut Script, chunk: &[
 }
 
 // Answers the line that is open at the end of the input, if there is one, and writes the answer. A failed write hides a fault
-// or Memory of that line: the bytes that were to report it aren't written either.
+// or Memory: it is what the script then ends by.
 fn close<W: Write>(alloc: Global, writer: &mut W, script: &mut Script) -> Halt
     requires good { IsScript script.old }
     requires written { script.old.out.items ≡ [] }

@@ -72,6 +72,7 @@ fn front_number(text: &[u8], count: usize) -> Option<u64>
 {
     let mut number: u64 = 0;
     for at in 0..count {
+        // A byte below `0` wraps to a number above 9, so that one test finds all that is no digit.
         let digit = u64::from(text[at]).wrapping_sub(ZERO);
         if digit > 9 {
             return None;
@@ -98,6 +99,7 @@ fn cut_any(text: &[u8]) -> Option<(u64, Option<&[u8]>)>
     let most = text.len().min(MOST_DIGITS + 1);
     let mut number: u64 = 0;
     for at in 0..most {
+        // A byte below `0` wraps to a number above 9, so that one test finds all that is no digit.
         let digit = u64::from(text[at]).wrapping_sub(ZERO);
         if digit > 9 {
             return if text[at] == SPACE && is_numeral(text, at) {

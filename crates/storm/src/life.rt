@@ -39,6 +39,7 @@ pub struct Fuse {
 #[derive(Clone, Copy, Debug, PartialEq, Eq)]
 pub struct Orders {
     pub workers: u8,
+    /// Rounds of each worker: a write, a migration and a read.
     pub writes: u32,
     /// Bytes of a payload: a multiple of 8, 8 to 65,536.
     pub payload: u32,

@@ -57,6 +57,7 @@ pub(crate) fn storm_array<N: Naming>(
         return Err(Refusal::BadMember);
     };
     let mut array = Array::in_memory(alloc, shape, DRIVES)?;
+    // Each drive is in groups of both classes, so that a lost one is missed by both.
     let groups = [
         (Class::Mirrored, members(0, [0, 1, 2])),
         (Class::Mirrored, members(1, [1, 2, 3])),

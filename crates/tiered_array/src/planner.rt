@@ -34,8 +34,10 @@ impl Planner {
         ensures marks { IfOk result (λ planner. AreMarked planner.ages.marks array.now.parts.groups (key_at array.now)) }
         ensures end { IfOk result (λ planner. planner.end ≡ at_start) }
     {
+        // For its clause, the array's invariant: it does nothing.
         array.whole();
         let mut ages = MarkedAges::new(alloc, array.shape().blocks)?;
+        // A restarted array has blocks: their marks are known, the order of their writes isn't.
         mark_stored(&mut ages, array);
         Ok(Planner {
             ages,
@@ -62,7 +64,7 @@ impl Planner {
         ensures same { self.new ≡ self.old }
     {
         array.whole();
-        // This passes the turns before the oldest for good.
+        // First the oldest: this passes the turns before it for good, and the search after it starts there.
         let oldest = self.oldest_mirrored(array);
         let readable = self.ages.oldest_picked(&Readable { array });
         match below(readable, array.shape().blocks) {
@@ -101,6 +103,7 @@ impl Planner {
     {
         array.whole();
         let counts = live_counts(array);
+        // Held or not, because plans follow the map and not each short claim: a held slot is answered by `NoRoom`.
         let append = self.next_append(array, &Any);
         clean_plan_counted(
             array.groups(),

@@ -41,7 +41,7 @@ pub fn rebuild<D: Drive>(world: &mut World<D>, drive: u8) -> Result<Regrouped, A
         × IsAllocating F (MoveExtent s.group s.member s.to)) }
     ensures room { SameSizes world.old.array world.new.array }
 {
-    // Before the plan, which would say `Nothing` of such a drive.
+    // Before the plan, which is for numbers below 16, and says `Nothing` of a drive that isn't there.
     if drive >= world.array().drive_count() {
         return Ok(Regrouped::Refused(Refusal::BadMember));
     }
@@ -56,6 +56,7 @@ fn plan_balance<D: Drive>(world: &World<D>) -> Option<Shift>
     ensures evens { IfSome result (Evens world.now.array.parts.groups world.now.array.parts.owners) }
     ensures whole { IsWhole world.now.array }
 {
+    // For its clause, which the plans require: the tables agree.
     world.whole();
     let array = world.array();
     balance_plan(array.extents(), array.groups(), &array.lost())
@@ -67,6 +68,7 @@ fn plan_rebuild<D: Drive>(world: &World<D>, drive: u8) -> Option<Shift>
         × IsRebuild world.now.array.parts.owners world.now.array.parts.groups lost drive result }
     ensures whole { IsWhole world.now.array }
 {
+    // For its clause, which the plans require: the tables agree.
     world.whole();
     let array = world.array();
     rebuild_plan(array.extents(), array.groups(), &array.lost(), drive)

@@ -28,8 +28,8 @@ struct Entry {
 pub struct Batch {
     entries: Vec<Entry>,
     units: Vec<u8>,
-    /// The write after the one that last had the same unit as another: the next pair's may be there. It may be out of date or past
-    /// the end, since it is only where to look first.
+    /// The write after the one that last had the same unit as another: the next pair's may be there. It may be out of date or
+    /// past the end, since it is only where to look first.
     hint: usize,
 }
 
@@ -73,6 +73,7 @@ impl Batch {
             from,
             to: from + unit.len(),
         };
+        // If this fails, the unit's bytes stay, and no write has them.
         self.entries.push(entry)?;
         Ok(())
     }
@@ -133,6 +134,7 @@ impl Batch {
     {
         self.entries.clear();
         self.units.clear();
+        // Before the entries, which are in range only with these bytes: a failure leaves none of them.
         self.units.extend_from_slice(&other.units)?;
         self.entries.extend_from_slice(&other.entries)
     }
@@ -146,7 +148,8 @@ impl Batch {
         out.extend_from_slice(&self.units)
     }
 
-    /// Becomes the batch for which bytes stand. False where they stand for none.
+    /// Becomes the batch that bytes represent. False where they represent none. If false or out of memory, it may have any
+    /// writes.
     pub fn decode(&mut self, bytes: &[u8]) -> Result<bool, AllocError>
         ensures decoded { IfOk result (λ is. IsTrue is → self.new ≡ decoded bytes.now) }
         ensures is { IfOk result (λ is. IsTrue is ↔ IsCode bytes.now) }
@@ -256,7 +259,7 @@ fn put_entry(out: &mut Vec<u8>, entry: &Entry) -> Result<(), AllocError>
     put_number(out, entry.to)
 }
 
-// Reads entries that are in range for so many bytes of units. False where one isn't.
+// Reads `count` entries that are in range for `units` bytes of units. False where one isn't.
 #[tactic(auto, using(crate::proofs::Codes::tail_is, crate::proofs::Codes::good_at, crate::proofs::Codes::good_more))]
 fn read_entries(
     entries: &mut Vec<Entry>,
