@@ -37,6 +37,7 @@ pub extern "C" fn behkuna_run_script(
         End::Whole => put_out(&text, answers, count).number(),
         End::Fault => match put_out(&text, answers, count) {
             Status::Done => Status::Fault.number(),
+            // Room hides the fault, which isn't in the buffer.
             status => status.number(),
         },
         // A reader of bytes doesn't fail, and a writer into memory fails only if out of memory.

@@ -15,8 +15,7 @@ pub(crate) enum Choice {
     Neither,
 }
 
-/// Which file has the image of this digest. The files are given by their digests, none where there is no file. The name itself
-/// comes first: `.new` may be left of a save that was cut short.
+/// Which file has the image of this digest. The files are given by their digests, none where there is no file.
 pub(crate) fn choose(expected: &Sum, kept: &Option<Sum>, fresh: &Option<Sum>) -> Choice
     ensures { IsFileChoice expected.now kept.now fresh.now result }
 {

@@ -37,7 +37,8 @@ const MOST_DRIVES: u64 = 16;
 /// The greatest size that is passed to the array. Some sizes end below it: `Shape::new` tests each one's range.
 const LAST_SIZE: u64 = 65_536;
 
-/// Whether each member's numbers are within the limits.
+/// Whether each member's numbers are within the limits. They may be past this array's drives and extents: that is no fault,
+/// and the array refuses it.
 pub fn are_in_range(members: &[Named]) -> bool
     ensures { IsTrue result ↔ All IsMemberInRange members.now }
 {

@@ -81,7 +81,7 @@ impl<'a, D: Drive> Free for Unheld<'a, D> {
     }
 }
 
-// The slots that nobody holds in a world and that aren't gone.
+// The slots that nobody holds in a world and that aren't gone. A copy into one that is gone would be refused.
 #[derive(Drop)]
 pub(crate) struct Open<'a, D: Drive> {
     pub(crate) world: &'a World<D>,
@@ -95,7 +95,7 @@ impl<'a, D: Drive> Free for Open<'a, D> {
     }
 }
 
-// The blocks of an array whose newest place isn't gone.
+// The blocks of an array whose newest place isn't gone. A copy of another would be refused.
 #[derive(Drop)]
 pub(crate) struct Readable<'a, D: Drive, C: Hold> {
     pub(crate) array: &'a Array<D, C>,

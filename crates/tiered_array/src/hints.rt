@@ -128,6 +128,7 @@ fn first_in_rows<F: Free>(slots: &mut [u64], rows: &mut [u64], word: usize, free
         if let Some(slot) = first_in_row(slots, row, free) {
             return Some(slot);
         }
+        // So that no search looks here again, until a slot of the row is hinted.
         take(rows, row);
     }
     None
@@ -145,6 +146,7 @@ fn first_in_row<F: Free>(slots: &mut [u64], row: usize, free: &F) -> Option<u16>
         if free.is_free(slot as u16) {
             return Some(slot as u16);
         }
+        // Its release hints it again.
         take(slots, slot);
     }
     None

@@ -19,7 +19,8 @@ use std::alloc::{AllocError, Global};
 /// What the plans of an array depend on, in addition to its tables. Each commit has to be noted. Only `new` allocates.
 #[derive(Drop)]
 pub struct Planner {
-    /// The order of last writes since the array was made or restarted. Blocks in mirrored groups are marked.
+    /// The order of last writes since the array was made or restarted. Blocks in mirrored groups are marked. Kept, because a log
+    /// that was shortened has lost it.
     pub ages: MarkedAges,
     /// The end of the write log.
     pub end: LogEnd,

@@ -22,6 +22,7 @@ impl<D: Drive> Tiers<D> {
         ensures room { SameSizes self.old.world.array self.new.world.array }
     {
         let array = self.world.array();
+        // Before the slot: without a block the answer is `Nothing`, also where there is no room.
         let Some(block) = self.planner.oldest_mirrored(array) else {
             return Ok(Outcome::Nothing)
         };

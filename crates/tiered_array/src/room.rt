@@ -34,6 +34,7 @@ impl<D: Drive> Tiers<D> {
         ensures room { SameSizes self.old.world.array self.new.world.array }
     {
         let array = self.world.array();
+        // Before the slot: without a block the answer is `Nothing`, also where there is no room.
         let Some(block) = self.planner.due(array) else {
             return Ok(Outcome::Nothing)
         };

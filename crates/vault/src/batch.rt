@@ -145,6 +145,7 @@ impl Batch {
     {
         put_number(out, self.entries.len())?;
         put_entries(out, &self.entries)?;
+        // Last, because they need no length: they are all bytes that are left.
         out.extend_from_slice(&self.units)
     }
 
