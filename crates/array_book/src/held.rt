@@ -38,7 +38,7 @@ fn ticket_of<N: Naming>(placed: Result<Ticket, (Refusal, Claim<N>)>) -> Result<T
     }
 }
 
-/// Puts a payload, a trim or a copy into a claimed slot.
+/// Puts a payload, a trim or a copy into a claimed slot. It commits nothing, unlike `kept::place_in`.
 pub(crate) fn place_in<D: Drive, N: Naming + Sizes>(
     kept: &mut Kept<D, N>,
     history: &History<N, Deed>,

@@ -212,8 +212,9 @@ impl<
         }
     }
 
-    // Fills the claimed slot and commits it, under one hold of the lock where the gate doesn't wait. The slot of a refused fill is
-    // released here, that of a refused commit is left to the caller.
+    // Fills the claimed slot and commits it: under one hold of the lock and in one write where the gate doesn't wait, since
+    // nobody is to see the slot between them. The slot of a refused fill is released here, that of a refused commit is left to
+    // the caller.
     fn put_claimed<R: Wait, G: Gate>(
         &mut self,
         rt: &R,
@@ -234,7 +235,6 @@ impl<
     {
         let book = self.book;
         let claim = Claim(claim);
-        // One write in place of two, since nobody is to see the slot between them.
         if !gate.waits() {
             let put = put_in(
                 &mut *book.kept.lock(rt),
@@ -386,8 +386,9 @@ impl<
         plan_in(&mut *book.kept.lock(rt), &book.mirrors, low)
     }
 
-    // Copies the block into the claimed slot and commits it, under one hold of the lock where the gate doesn't wait. The slot of a
-    // refused copy is released here, that of a refused commit is left to the caller.
+    // Copies the block into the claimed slot and commits it: under one hold of the lock and in one write where the gate
+    // doesn't wait, since nobody is to see the slot between them. The slot of a refused copy is released here, that of a
+    // refused commit is left to the caller.
     fn move_claimed<R: Wait, G: Gate>(
         &mut self,
         rt: &R,
@@ -406,7 +407,6 @@ impl<
     {
         let book = self.book;
         let claim = Claim(claim);
-        // One write in place of two, since nobody is to see the slot between them.
         if !gate.waits() {
             let moved = move_in(
                 &mut *book.kept.lock(rt),
