@@ -1,6 +1,6 @@
 -- What is done under one hold of a Book's lock, in the words of the flat machine, and runs of it. Every step is worker 0's: whose
--- call it was stands next to it in the history. A claim stands where the array learns of it, and a release where the slot ends to
--- be the array's.
+-- call it was is next to it in the history. A claim comes where the array learns of it, and a release where the slot ends to be
+-- the array's.
 use Rattle.std.specs.Prelude.{◌≡◌, ℕ, List, [], ◌∷◌, Option, Some, None, Bool, true, Result, Ok, Err}
 use Rattle.map_join.specs.declared.records.Record.{Record}
 use Rattle.flat_machine.specs.declared.refusal.Refusal.{Refusal}

@@ -76,7 +76,7 @@ abbrev pub fault_of : Refusal → WorkFault
 fault_of refusal.Memory = fault.Memory
 fault_of q = fault.Core q
 
--- nothing was committed, for a reason that the fault tells: the put was refused, or the commit
+-- nothing was committed, for the reason that the fault gives: the put was refused, or the commit
 pub record HasFailed (v : Carried Act) (what : Put) (slot block : ℕ) (reported : WorkFault) (w : Carried Act) : Type 0 where
   pub why : Refusal
   pub reported_is : reported ≡ fault_of why

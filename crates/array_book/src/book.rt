@@ -40,8 +40,9 @@ pub struct Book<
     pub(crate) odd: MapWords<B>,
     pub(crate) history: History<N, Deed>,
     pub(crate) kept: Mutex<Kept<D, N>>,
-    // The slots of mirrored groups, ascending.
+    // The slots of mirrored groups, ascending. Kept outside of the lock, because no group changes while the array is in a Book.
     pub(crate) mirrors: Vec<u16>,
+    // The array's sizes, so that nobody takes the lock to learn them.
     pub(crate) blocks: u32,
     pub(crate) payload: u32,
     pub(crate) ghost slots: { table_slots N.table ≡ 65536 },
@@ -76,6 +77,7 @@ impl<D: Drive, N: slot_words::Naming + Sizes, A: map_words::Naming, B: map_words
         ensures err { IfErr result (λ e. (e.0 ≡ array) × (e.3.1 ≡ history.1)) }
     {
         let shape = array.shape();
+        // Both allocations before anything is moved into the Book, so that out of memory returns all of it.
         let Ok(mirrors) = mirror_slots(alloc, array.groups()) else {
             return Err((array, words, maps, history));
         };
@@ -144,9 +146,11 @@ impl<D: Drive, N: slot_words::Naming + Sizes, A: map_words::Naming, B: map_words
             return Err(hand);
         };
         let Ok(odd) = self.odd.split(&mut hands.odd) else {
+            // Else half of the even share would be lost, and no later `settle` could be Ok.
             self.even.join(&mut hands.even, even);
             return Err(hand);
         };
+        // Last, because a Pass can always be split.
         let pass = self.words.split(&mut hands.pass);
         Ok(Ended {
             pass,

@@ -25,7 +25,7 @@ impl Sizes for Brand {
     ghost hands = { 0 };
 }
 
-/// A claim of the table N. It can't be dropped, only released.
+/// A claim of the table N. It can't be dropped, only released. So no slot is lost by a mistake: that wouldn't compile.
 pub struct Claim<N: Naming>(pub(crate) slot_words::Claim<N>);
 
 impl<N: Naming> Claim<N> {

@@ -12,7 +12,8 @@ use map_join::BlockMap;
 use map_words::{CloseRefusal, MapWords, Taker};
 use std::alloc::Global;
 
-/// Closes both maps, the even controller's first, and compares them with the array's.
+/// Closes both maps, the even controller's first, and compares them with the array's. Memory comes after both were tried: a
+/// share that isn't whole is the fault of a caller, and is never hidden by it.
 pub fn close_and_compare<D: Drive, C: Hold, A: map_words::Naming, B: map_words::Naming>(
     alloc: Global,
     even: (MapWords<A>, Taker<A>),

@@ -1,4 +1,4 @@
-// What stands in a Book's history, and what of a call under the lock it says.
+// What a Book's history has of a call under the lock.
 ghost use Rattle.std.specs.Prelude.{[]};
 ghost use Rattle.step_core.specs.Placing.{block_for, put_for};
 ghost use Rattle.array_book.specs.Acts as act;

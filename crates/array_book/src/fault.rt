@@ -14,6 +14,7 @@ pub enum WorkFault {
     NoRoom,
     /// The array refused, for a reason other than memory.
     Core(Refusal),
+    /// Out of memory. What was claimed is released, as after a refusal.
     Memory,
 }
 
@@ -29,7 +30,8 @@ impl WorkFault {
         }
     }
 
-    /// The fault that a refusal of the array is.
+    /// The fault that a refusal of the array is. Out of memory is a fault of its own, so that callers needn't look into the
+    /// refusal.
     #[tactic(auto, using(crate::proofs::Noting::fault_else))]
     pub(crate) fn of(refused: Refusal) -> WorkFault
         ensures same { result ≡ fault_of refused }

@@ -13,7 +13,8 @@ pub enum Point {
     Taken = 4,
 }
 
-/// Is called at each point that a call reaches, and may wait there. No lock is held then.
+/// Is called at each point that a call reaches, and may wait there. No lock is held then. So a gate may let another worker go
+/// first.
 pub trait Gate {
     fn reach<R: Wait>(&self, point: Point, rt: &R);
 

@@ -18,7 +18,8 @@ use slot_words::{Naming, SlotWords};
 use std::alloc::Global;
 use step_core::{Done, Given, Ticket, What};
 
-/// Why a step was refused, and the claim that is to be released, if there is one.
+/// Why a step was refused, and the claim that is to be released, if there is one. The release waits until the lock is free,
+/// because claim words need no lock.
 pub(crate) struct Refused<N: Naming> {
     pub(crate) refusal: Refusal,
     pub(crate) claim: Option<Claim<N>>,
@@ -37,7 +38,7 @@ fn ticket_of<N: Naming>(placed: Result<Ticket, (Refusal, Claim<N>)>) -> Result<T
     }
 }
 
-/// Puts a payload, a trim or a copy into a claimed slot.
+/// Puts a payload, a trim or a copy into a claimed slot. It commits nothing, unlike `kept::place_in`.
 pub(crate) fn place_in<D: Drive, N: Naming + Sizes>(
     kept: &mut Kept<D, N>,
     history: &History<N, Deed>,
@@ -54,7 +55,7 @@ pub(crate) fn place_in<D: Drive, N: Naming + Sizes>(
     ticket_of(kept::put_in(kept, history, me, words, claim, what))
 }
 
-// Gives up the ticket of a refused commit.
+// Gives up the ticket of a refused commit. Else its slot would be held until a restart, since no Worker keeps tickets.
 fn give_up_in<D: Drive, N: Naming + Sizes>(
     kept: &mut Kept<D, N>,
     history: &History<N, Deed>,
@@ -129,6 +130,7 @@ pub(crate) fn put_in<D: Drive, N: Naming + Sizes>(
     let what = What::Fresh(given);
     let claim = match kept::place_in(kept, history, me, words, alloc, claim, what, block) {
         Ok(done) => return Ok(Ok(done)),
+        // The put and the commit apart say why: a refused commit, or out of memory.
         Err((None, claim)) => claim,
         Err((Some(refusal), claim)) => return Err(Refused {
             refusal,
@@ -159,6 +161,7 @@ pub(crate) fn move_in<D: Drive, N: Naming + Sizes>(
     let claim = match kept::place_in(kept, history, me, words, alloc, claim, what, plan.block) {
         Ok(done) => {
             if plan.appends {
+                // After the commit: a plan that is refused leaves the log's end.
                 appended_in(kept, done.emitted.record().place);
             }
             return Ok(Ok(done));
@@ -197,6 +200,7 @@ fn commit_and_append<D: Drive, N: Naming + Sizes>(
     match commit_in(kept, history, me, alloc, ticket, plan.block) {
         Ok(done) => {
             if plan.appends {
+                // After the commit: a plan that is refused leaves the log's end.
                 appended_in(kept, done.emitted.record().place);
             }
             Ok(done)

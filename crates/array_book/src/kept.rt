@@ -86,6 +86,7 @@ pub fn put_in<D: Drive, N: Naming + Sizes>(
         → PutReports result F w (put_for what.entry) claim.0.slot (block_for what.entry) kept.new.array }
 {
     let mut claim = claim;
+    // The array keeps no claim of this slot, since the caller has it: so `InUse` never comes.
     kept.array.apart_from(words, &mut claim);
     let slot = claim.slot();
     let placed = put(&mut kept.array, claim, what);
@@ -126,6 +127,7 @@ pub(crate) fn place_in<D: Drive, N: Naming + Sizes>(
     let slot = claim.slot();
     match place_at_once(&mut kept.array, alloc, claim, what, block) {
         Ok(done) => {
+            // Two entries, as of a put and a commit apart: the history doesn't show how often the unit was written.
             let committed = done.emitted.record();
             kept.planner.note(&kept.array, committed);
             kept.keeper
@@ -143,6 +145,7 @@ pub(crate) fn place_in<D: Drive, N: Naming + Sizes>(
                 );
             Err((Some(refusal), claim))
         }
+        // No entry: nothing was done, and the caller tries the put and the commit apart, to learn why.
         Err((None, claim)) => Err((None, claim)),
     }
 }
@@ -254,6 +257,7 @@ pub fn commit_in<D: Drive, N: Naming + Sizes>(
     let slot = ticket.slot();
     match kept.array.commit(alloc, ticket, block) {
         Ok(done) => {
+            // Under the same hold: whenever the lock is free, the marks are those of the array's map.
             kept.planner.note(&kept.array, done.emitted.record());
             kept.keeper
                 .note::<(u16, u32, &Done<Claim<N>>), Commits>(history, me, &(slot, block, &done));
@@ -323,7 +327,8 @@ pub fn discard_in<D: Drive, N: Naming + Sizes>(
 }
 
 /// Reads a record with its payload, or with none of a trim, or where it is stale the newest record of its block, as the array
-/// does, into memory of a payload's length that was allocated before the lock was taken.
+/// does, into memory of a payload's length that was allocated before the lock was taken. So nothing is allocated while others
+/// wait for the lock.
 pub fn read_in<D: Drive, N: Naming + Sizes>(
     kept: &mut Kept<D, N>,
     history: &History<N, Deed>,

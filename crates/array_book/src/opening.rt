@@ -12,7 +12,8 @@ use history::{Hand, History, Keeper, Opened};
 use slot_words::Naming;
 use step_core::Array;
 
-/// Names a history and begins it with this array. Returns it with its keeper and the first hand.
+/// Names a history and begins it with this array. Returns it with its keeper and the first hand. The first entry is the array,
+/// so that a history says from which state its run starts.
 pub fn begin<D: Drive, N: Naming + Sizes>(
     opened: Opened<Deed>,
     array: &Array<D, Claim<N>>,

@@ -27,7 +27,8 @@ pub(crate) struct Plan {
     pub(crate) appends: bool,
 }
 
-// The slot that a plan tries if it can't claim this one: for a demotion the next where the write log goes on, else none.
+// The slot that a plan tries if it can't claim this one: for a demotion the next where the write log goes on, else none. It
+// goes by turns, not by free slots, so that it ends: each next slot has a later turn.
 pub(crate) fn slot_after<D: Drive, N: Naming + Sizes>(
     kept: &Kept<D, N>,
     plan: &Plan,
@@ -37,6 +38,7 @@ pub(crate) fn slot_after<D: Drive, N: Naming + Sizes>(
     ensures seen { (state : LockState N.blocks N.payload) × IsNext state.view plan.now slot result }
     ensures later { MatchOption result (Unit {0}) (λ next. turn_of plan.now.group slot < turn_of plan.now.group next) }
 {
+    // For its clauses: it does nothing.
     kept.matches();
     if !plan.demotes {
         return None;
@@ -119,6 +121,7 @@ fn regrouped<D: Drive, N: Naming + Sizes>(kept: &Kept<D, N>) -> Option<Plan>
     if let Some(plan) = kept.planner.plug(array) {
         return Some(moved(plan, false));
     }
+    // Not `clean`, which would look for a plug again.
     match kept.planner.clean_unplugged(array) {
         Some(plan) => Some(moved(plan, true)),
         None => None,
@@ -133,6 +136,7 @@ fn demotion<D: Drive, N: Naming + Sizes>(kept: &Kept<D, N>, block: u32) -> Plan
 {
     Plan {
         block,
+        // Held or not: other workers' claims are in the words, not in the array. The claim decides.
         slot: kept.planner.next_append(&kept.array, &Any),
         demotes: true,
         group: kept.planner.end.group(),
@@ -153,10 +157,12 @@ fn moved(plan: Move, appends: bool) -> Plan
     }
 }
 
-// Whether fewer than `low` of these slots are free. The rest aren't looked at once the array holds too many.
+// Whether fewer than `low` of these slots are free. The rest aren't looked at once the array holds too many. Slots that
+// workers have claimed count as free here, since the array doesn't know of them.
 fn needs_demotion<D: Drive, N: Naming + Sizes>(kept: &Kept<D, N>, mirrors: &[u16], low: u32) -> bool
     ensures { IsTrue result ↔ NeedsDemotion kept.now mirrors.now low }
 {
+    // None where there are fewer than `low` mirrored slots at all: then fewer than `low` are free.
     let Some(mut spare) = mirrors.len().checked_sub(low as usize) else {
         return true;
     };

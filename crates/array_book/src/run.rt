@@ -61,6 +61,7 @@ pub fn run_workers<
 >(rt: &R, alloc: Global, workers: &mut [Worker<'_, D, N, A, B>], job: &J) -> Result<(), RunFault>
     ensures { OnOk result (AreDone (J.leaves job.now) (map (λ w. w.number) workers.old) (map (λ w. w.hand) workers.old) (map (λ w. w.hand) workers.new)) }
 {
+    // `for_each_mut` requires a thread at least.
     if workers.is_empty() {
         return Ok(());
     }
@@ -72,7 +73,8 @@ pub fn run_workers<
     first_fault(workers)
 }
 
-// The fault of the worker of the lowest number whose job failed.
+// The fault of the worker of the lowest number whose job failed. Not that of the job that ended first, so that the answer
+// doesn't depend on the threads' order.
 fn first_fault<D: Drive, N: slot_words::Naming + Sizes, A: map_words::Naming, B: map_words::Naming>(
     workers: &[Worker<'_, D, N, A, B>],
 ) -> Result<(), RunFault>

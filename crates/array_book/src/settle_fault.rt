@@ -7,6 +7,7 @@ ghost use Rattle.array_book.specs.SettleNumbers.{number_of};
 pub enum SettleFault {
     /// The lowest block of which the workers' map isn't the array's.
     Differs(u32),
+    /// Out of memory for the maps: whether they agree isn't known.
     Memory,
     /// The Takers of a controller that came have this share, and not the whole.
     NotWhole(u32),

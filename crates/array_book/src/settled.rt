@@ -54,7 +54,9 @@ pub fn settle<D: Drive, N: slot_words::Naming + Sizes, A: map_words::Naming, B: 
     ensures shows { MatchResult result (λ settled. (F : Flat) × ShowsArray settled.array F) (λ e. (F : Flat) × ShowsArray e.1.array F) }
 {
     let (array, words, maps, (history, mut keeper)) = book.into_parts();
+    // For its clause, the array's invariant: it does nothing.
     array.whole();
+    // Before `ended` is joined, which leaves one hand of all.
     let missing = lowest_missing(keeper.hired(), &ended);
     let (reported, pass) = close_all(alloc, &words, maps, &history, &mut keeper, ended, &array);
     let settled = Settled {
@@ -90,8 +92,10 @@ fn close_all<D: Drive, N: slot_words::Naming + Sizes, A: map_words::Naming, B: m
     ensures whole { AreWhole keeper.old (map (λ e. e.hand) ended.items) }
 {
     let Some((mut first, rest)) = parted(ended) else {
+        // Without any Taker no map can be closed, also where no record was taken.
         return (Err(SettleFault::NotWhole(0)), None);
     };
+    // First the joins: only a Taker with the whole share closes a map.
     join_all(words, (&maps.0, &maps.1), history, keeper, &mut first, rest);
     let Ended {
         pass,

@@ -50,7 +50,7 @@ pub struct Worker<
     pub(crate) even: Taker<A>,
     pub(crate) odd: Taker<B>,
     pub(crate) hand: Hand<N, Deed>,
-    // How its last job ended.
+    // How its last job ended. Kept here, because a run of threads returns nothing of its parts.
     pub(crate) outcome: Result<(), WorkFault>,
 }
 
@@ -118,8 +118,9 @@ impl<
         self.book.payload
     }
 
-    /// Claims a mirrored slot, fills and commits it, releases the block's old place, and takes the record into the words of the
-    /// controller of the worker's number. Where nothing is committed the slot is released again.
+    /// Claims a mirrored slot, fills and commits it, releases the block's old place, and takes the record into the words of
+    /// the controller of the worker's number. `NoRoom` where no mirrored slot can be claimed; else refused as a fill or a
+    /// commit is, and the slot is released again.
     pub fn write<R: Wait, G: Gate>(
         &mut self,
         rt: &R,
@@ -143,7 +144,7 @@ impl<
         self.put(rt, alloc, block, Given::Payload(payload), gate)
     }
 
-    /// Trims a block: a write without a payload, after which the block holds nothing.
+    /// Trims a block: a write without a payload, after which the block holds nothing. Refused as `write` is.
     pub fn trim<R: Wait, G: Gate>(
         &mut self,
         rt: &R,
@@ -187,6 +188,7 @@ impl<
         ensures rest { (self.new.number ≡ self.old.number) × (self.new.book ≡ self.old.book) }
     {
         let book = self.book;
+        // Before the lock is taken: workers compete for slots by the words alone.
         let Some(claim) = self.claim(&book.mirrors) else {
             return Err(WorkFault::NoRoom);
         };
@@ -210,8 +212,9 @@ impl<
         }
     }
 
-    // Fills the claimed slot and commits it, under one hold of the lock where the gate doesn't wait. The slot of a refused fill is
-    // released here, that of a refused commit is left to the caller.
+    // Fills the claimed slot and commits it: under one hold of the lock and in one write where the gate doesn't wait, since
+    // nobody is to see the slot between them. The slot of a refused fill is released here, that of a refused commit is left to
+    // the caller.
     fn put_claimed<R: Wait, G: Gate>(
         &mut self,
         rt: &R,
@@ -268,7 +271,7 @@ impl<
         Ok(ended)
     }
 
-    // The outcome of a step. If the step was refused, the claim that it left is released.
+    // The outcome of a step. If the step was refused, the claim that it left is released: a claim can't be dropped.
     fn or_released<T>(&mut self, tried: Result<T, Refused<N>>) -> Result<T, WorkFault>
         ensures ok { IfOk result (λ done. tried ≡ Ok done) }
         ensures err { IfErr result (λ fault. MatchResult tried (λ done. ⊥) (λ e. fault ≡ fault_of e.refusal)) }
@@ -287,7 +290,8 @@ impl<
         }
     }
 
-    // Releases the old place of what was committed, and takes its record.
+    // Releases the old place of what was committed, and takes its record. After the commit, and with the lock free: until the
+    // commit the block is read at its old place.
     fn acknowledge(&mut self, done: Done<Claim<N>>) -> Emitted
         requires block { done.emitted.block < self.old.book.now.blocks }
         requires written { 0 < done.emitted.version }
@@ -354,6 +358,7 @@ impl<
             return Ok(Migration::Idle);
         };
         let book = self.book;
+        // The plan's hold has ended: the array may change before the next one, and the commit tests what it needs.
         let Some(claim) = claim_planned(rt, &book.words, &book.kept, &mut self.pass, &plan) else {
             return Ok(Migration::NoRoom);
         };
@@ -366,6 +371,7 @@ impl<
                 gate.reach(Point::Taken, rt);
                 Ok(Migration::Moved(emitted))
             }
+            // No fault: another worker wrote the block after it was copied, which migrations have to expect.
             Err(WorkFault::Core(Refusal::Outrun(newer))) => Ok(Migration::Outrun(newer)),
             Err(fault) => Err(fault),
         }
@@ -380,8 +386,9 @@ impl<
         plan_in(&mut *book.kept.lock(rt), &book.mirrors, low)
     }
 
-    // Copies the block into the claimed slot and commits it, under one hold of the lock where the gate doesn't wait. The slot of a
-    // refused copy is released here, that of a refused commit is left to the caller.
+    // Copies the block into the claimed slot and commits it: under one hold of the lock and in one write where the gate
+    // doesn't wait, since nobody is to see the slot between them. The slot of a refused copy is released here, that of a
+    // refused commit is left to the caller.
     fn move_claimed<R: Wait, G: Gate>(
         &mut self,
         rt: &R,
@@ -435,8 +442,9 @@ impl<
         Ok(ended)
     }
 
-    /// Reads a block by the newest record of it in the controller's words, or where that is stale by the array's newest, which is
-    /// taken into those words. None where they have no record of it.
+    /// Reads a block by the newest record of it in the controller's words, or where that is stale by the array's newest, which
+    /// is taken into those words. None where they have no record of it. Refused with `Ahead`, then out of memory, both before
+    /// a drive is called, then `Gone`.
     pub fn read<R: Wait>(
         &mut self,
         rt: &R,
@@ -489,7 +497,7 @@ impl<
         }
     }
 
-    // Takes what was learned, where it isn't what was found.
+    // Takes what was learned, where it isn't what was found: that is in the words already.
     fn learn(&mut self, controller: Controller, found: Record, reported: Record)
         requires block { «reported».block < self.old.book.now.blocks }
         requires written { 0 < «reported».version }
@@ -540,6 +548,7 @@ fn claim_planned<R: Wait, D: Drive, N: slot_words::Naming + Sizes>(
     loop {
         match words.claim(pass, slot) {
             Ok(claim) => return Some(claim),
+            // Only here, because most claims get the plan's own slot.
             Err(_) => slot = slot_after(&*kept.lock(rt), plan, slot)?,
         }
     }

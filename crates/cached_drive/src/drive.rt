@@ -18,7 +18,7 @@ pub struct CachedDrive<N: Chronicle> {
     pub(crate) cache: MemDrive,
     /// Addresses of written units, in the order of their first writes.
     pub(crate) dirty: Vec<u32>,
-    /// Which addresses are listed, from the first write on a mark for each unit.
+    /// Which addresses are listed, from the first write on a mark for each unit: so no write searches the list.
     pub(crate) marks: Vec<bool>,
     /// Memory was out for the list: any unit may have been written.
     pub(crate) all: bool,
@@ -68,6 +68,7 @@ impl<N: Chronicle> CachedDrive<N> {
     }
 
     /// Makes the next read, write or sync lose the drive: what it would be saved to has failed. Until then it is as it was.
+    /// Not at once, because a visit of an array's drives leaves them as the array knows them.
     pub fn doom(&mut self)
         ensures units { self.new.cache.units ≡ self.old.cache.units }
         ensures lost { self.new.lost ≡ self.old.lost }
@@ -133,6 +134,7 @@ fn list_fresh(
     ensures ok { OnOk result (dirty.new.items ≡ dirty.old.items ++ at ∷ []) }
     ensures err { OnErr result (dirty.new.items ≡ dirty.old.items) }
 {
+    // Both allocations before the mark, so that each mark has its entry in the list.
     make_marks(marks, most)?;
     dirty.push(at)?;
     marks[at as usize] = true;
@@ -153,11 +155,12 @@ fn list(dirty: &mut Vec<u32>, marks: &mut Vec<bool>, all: &mut bool, at: u32, mo
         return;
     }
     if list_fresh(dirty, marks, at, most).is_err() {
+        // No refusal: a write's only one loses the drive, and memory is no reason for that.
         *all = true;
     }
 }
 
-// Writes a unit of a drive in memory that answers.
+// Writes a unit of a drive in memory that answers. It can't fail: the cache is never lost and has no fuse.
 fn keep(cache: &mut MemDrive, at: u32, unit: &[u8])
     requires at { at < length cache.old.units }
     requires size { AreUnitsSized (length unit.now) cache.old.units }
@@ -168,7 +171,8 @@ fn keep(cache: &mut MemDrive, at: u32, unit: &[u8])
     let _ = cache.write_unit(at, unit);
 }
 
-// Writes a unit of a drive in memory that answers, given in two pieces.
+// Writes a unit of a drive in memory that answers, given in two pieces. It can't fail: the cache is never lost and has no
+// fuse.
 fn keep_gathered(cache: &mut MemDrive, at: u32, front: &[u8], rest: &[u8], scratch: &mut [u8])
     requires at { at < length cache.old.units }
     requires size { AreUnitsSized (length front.now + length rest.now) cache.old.units }

@@ -14,7 +14,7 @@ use history::{Chronicle, History, Keeper};
 use std::alloc::AllocError;
 use vault::Batch;
 
-// Reads a unit of a drive in memory that answers.
+// Reads a unit of a drive in memory that answers. It can't fail: the cache is never lost and has no fuse.
 fn fetch(cache: &mut MemDrive, at: u32, unit: &mut [u8])
     requires at { at < length cache.old.units }
     requires size { AreUnitsSized (length unit.old) cache.old.units }
@@ -165,11 +165,14 @@ impl<N: Chronicle> CachedDrive<N> {
         let before = batch.len();
         let dirty: &[u32] = &self.dirty;
         if let Err(error) = put_written(&mut self.cache, drive, dirty, self.all, unit, batch) {
+            // Else the next save would put the same units into the batch once more.
             batch.truncate(before);
             return Err(error);
         }
+        // For its clause: the history has this hand's entries, so the last of them is the last save.
         keeper.check(history, &mut self.hand);
         keeper.note::<MemDrive, Saves>(history, &mut self.hand, &self.cache);
+        // Before the list is cleared, which says where marks are: a walk over all marks would take time by the drive's size.
         unmark_all(&mut self.marks, &self.dirty);
         self.dirty.clear();
         self.all = false;

@@ -1,4 +1,5 @@
-// Cells with the expected results of a row. Each is checked for its form, and kept as it is spelled.
+// Cells with the expected results of a row. Each is checked for its form, and kept as it is spelled. So results are compared
+// as texts.
 use crate::trouble::Trouble;
 use crate::words::{byte, numbers_of, record_of, verb_of};
 use map_join::Record;

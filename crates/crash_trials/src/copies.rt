@@ -118,6 +118,7 @@ fn is_zero_row(
             address: shape.unit_address(member.extent, offset),
         };
         let Some(unit) = unit_at(alloc, drives, place)? else {
+            // A row without all its units can't be added up.
             return Ok(true);
         };
         for (byte, with) in sum.iter_mut().zip(unit.iter()) {
@@ -127,11 +128,12 @@ fn is_zero_row(
     Ok(sum.iter().all(|byte| *byte == 0))
 }
 
-/// All units of the drives that are present, one after the other.
+/// All units of the drives that are present, one after the other. Also those of no slot: a refused restart changes none.
 pub(crate) fn all_units(alloc: Global, parts: &mut Stopped) -> Result<Vec<u8>, Trouble> {
     let mut units = Vec::new(alloc);
     for drive in &mut parts.drives {
         for address in 0..drive.units() {
+            // The test never fails; `read_unit` requires it.
             if address < drive.units() {
                 let mut unit = vec![in alloc; 0; drive.unit_bytes()]?;
                 if drive.read_unit(address, &mut unit).is_ok() {

@@ -39,5 +39,6 @@ pub(crate) fn holds(alloc: Global, column: &'static str, is: bool) -> Result<(),
         return Ok(());
     }
     agree(alloc, column, "yes", "no")?;
+    // Not reached: `yes` isn't `no`.
     Err(Trouble::Form)
 }

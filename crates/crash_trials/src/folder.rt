@@ -15,7 +15,8 @@ struct Table {
     text: String,
 }
 
-/// Reads the tables of a folder and their setups, and then carries out each row. Returns whether all agree.
+/// Reads the tables of a folder and their setups, and then carries out each row. Returns whether all agree. All lines are
+/// parsed first, so that a wrong one ends the run before any result.
 pub(crate) fn run_folder(rt: &HostRuntime, folder: &str) -> Result<bool, Trouble> {
     let plans = table_of::<PlanRow>(rt, folder)?;
     let stops = table_of::<StopRow>(rt, folder)?;

@@ -35,7 +35,8 @@ pub(crate) fn intent_of(alloc: Global, cell: &str, setup: &Setup) -> Result<Inte
     }
 }
 
-// Whether the array has such a payload, or such a block.
+// Whether the array has such a payload, or such a block. Tested, because `plan_micro` requires it and a table may say
+// anything.
 fn is_asked(array: &Memory, intent: &Intent) -> bool
     ensures { IsTrue result → IsValidIntent array.now.parts.groups intent.now }
 {

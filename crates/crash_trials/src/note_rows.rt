@@ -70,6 +70,7 @@ impl Row for NoteRow {
         let mut parts = stopped(alloc, setup.built(alloc)?)?;
         lose(&mut parts, &self.lost)?;
         parts.note = Some(copy_of(alloc, &self.note)?);
+        // After the losses, since a lost drive's units aren't read. The claims are listed twice, because a restart takes them.
         let left = Left {
             units: all_units(alloc, &mut parts)?,
             claims: all_claims(alloc, &parts.groups)?,
@@ -118,7 +119,7 @@ impl NoteRow {
     }
 }
 
-// The bytes of a cell; none if it is `-`.
+// The bytes of a cell; none if it is `-`. `empty` is a unit without bytes, which makes a note bad.
 fn bytes_of(alloc: Global, cell: &str) -> Result<Option<Vec<u8>>, Trouble> {
     match cell {
         "-" => Ok(None),

@@ -60,6 +60,7 @@ fn block_text(alloc: Global, array: &mut Memory, reported: Record) -> Result<Str
 pub(crate) fn map_text(alloc: Global, array: &mut Memory) -> Result<String, Trouble> {
     let mut text = String::new(alloc);
     for block in 0..array.shape().blocks {
+        // The test never fails; `newest` requires it.
         if block < array.shape().blocks {
             if let Some(reported) = array.newest(block) {
                 let entry = block_text(alloc, array, reported)?;

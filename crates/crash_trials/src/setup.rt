@@ -62,7 +62,8 @@ fn sizes_of(alloc: Global, line: &str) -> Result<Setup, Trouble> {
     }
 }
 
-// The step of a line with its answer, which a world of the setup's sizes has to fit.
+// The step of a line with its answer, which a world of the setup's sizes has to fit. `fits` is tested while lines are read, so
+// that a wrong one is named.
 fn step_in(alloc: Global, world: &World, line: &str) -> Result<Answered, Trouble> {
     let Some((asked, answer)) = line.split_once(" > ") else {
         return Err(Trouble::Form);
@@ -93,6 +94,7 @@ impl Setup {
     }
 
     /// The array after the steps, with what waits in its slots. Returns an error unless each step is answered as expected.
+    /// Each row builds its own, because a stop takes the array apart.
     pub(crate) fn built(&self, alloc: Global) -> Result<Memory, Trouble> {
         let mut world = self.world(alloc)?;
         for Answered { step, answer } in &self.steps {

@@ -57,6 +57,7 @@ impl Row for StopRow {
         else {
             return Err(Trouble::Form);
         };
+        // The outcome is read for its form alone, since the map shows which it was.
         if !matches!(*note, "0" | "1") || !matches!(*outcome, "before" | "after") {
             return Err(Trouble::Form);
         }
@@ -83,6 +84,7 @@ impl Row for StopRow {
     }
 
     fn run(&self, alloc: Global, setup: &Setup) -> Result<(), Trouble> {
+        // Over a stop of its own, because a restart takes the parts.
         self.leaves_no_note(alloc, setup)?;
         let parts = self.stop(alloc, setup)?;
         let note = if parts.note.is_some() { "1" } else { "0" };

@@ -27,7 +27,8 @@ fn is_ready(parts: &Stopped) -> bool
     parts.is_fit()
 }
 
-// Whether what the entry writes is a unit, to a place of one of the drives.
+// Whether what the entry writes is a unit, to a place of one of the drives. `run_micro` requires it of a list that may come
+// from anywhere.
 fn is_write(parts: &Stopped, micro: &Micro) -> bool
     ensures { IsTrue result → AreWrites held_units parts.now (micro.now ∷ []) }
 {
@@ -54,7 +55,7 @@ fn are_writes(parts: &Stopped, list: &Vec<Micro>) -> bool
     is_each_write(parts, list)
 }
 
-/// The parts of an array, of which claims and tickets are forgotten.
+/// The parts of an array, of which claims and tickets are forgotten. A stop leaves neither.
 pub(crate) fn stopped(alloc: Global, array: Memory) -> Result<Stopped, Trouble> {
     match array.into_parts(alloc) {
         Ok((parts, _claims)) => Ok(parts),

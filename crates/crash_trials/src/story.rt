@@ -50,10 +50,12 @@ pub(crate) fn report_story(rt: &HostRuntime) -> Result<(), Trouble> {
     println!(rt;
         "commit of block 3 to slot 128: set the note, write unit and parity, clear the note"
     )?;
+    // The list has four entries: a stop before the first, and after each.
     for entries in 0..5 {
         report_stops(rt, &setup, entries, true)?;
     }
     println!(rt; "the same commit without its note: write unit and parity")?;
+    // Without the note there are two.
     for entries in 0..3 {
         report_stops(rt, &setup, entries, false)?;
     }
@@ -95,7 +97,8 @@ fn said_of(
     found(alloc, parts)
 }
 
-// What is found after `stop_after`, the library's one call for a stop and a restart. No drive is lost.
+// What is found after `stop_after`, the library's one call for a stop and a restart. No drive is lost. It has a note always
+// and loses no drive, so the other stops put the calls together themselves.
 fn cut_short(alloc: Global, array: Memory, entries: usize) -> Result<&'static str, Trouble> {
     if MOVED >= array.shape().blocks {
         return Err(Trouble::Form);
@@ -112,7 +115,7 @@ fn cut_short(alloc: Global, array: Memory, entries: usize) -> Result<&'static st
     }
 }
 
-// The list of the commit, or its writes alone.
+// The list of the commit, or its writes alone. Without its note the list is what an array writes that sets none.
 fn commit_list(alloc: Global, array: &mut Memory, is_noted: bool) -> Result<Vec<Micro>, Trouble> {
     let intent = Intent::Commit {
         slot: NEW_SLOT,
@@ -145,6 +148,7 @@ fn found(alloc: Global, parts: Stopped) -> Result<&'static str, Trouble> {
 
 // Where block 3 is, if both blocks read correctly; else which block doesn't.
 fn reported(alloc: Global, array: &mut Memory) -> Result<&'static str, Trouble> {
+    // First the block that the commit doesn't write: that it is intact is what the note is for.
     if !reads(alloc, array, OTHER, OTHER_BYTE)? {
         return Ok("block 4 is garbled");
     }

@@ -12,7 +12,8 @@ pub(crate) fn cells_of(alloc: Global, line: &str) -> Result<Vec<&str>, AllocErro
     Ok(cells)
 }
 
-/// The number that a word spells in decimal digits, without a sign or a zero too many.
+/// The number that a word spells in decimal digits, without a sign or a zero too many. Else two spellings of one number would
+/// differ as cells.
 pub(crate) fn number(word: &str) -> Result<u32, Trouble> {
     if word.starts_with("+") || word.starts_with("0") && word != "0" {
         return Err(Trouble::Form);

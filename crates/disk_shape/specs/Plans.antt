@@ -14,7 +14,7 @@ member_count drives = if nat_le drives 8 then drives else 8
 abbrev pub mirrored_of : ℕ → ℕ
 mirrored_of groups = (groups + 4) / 5
 
--- the slots of so many groups
+-- the slots of a number of groups
 abbrev pub slots_of : ℕ → ℕ → ℕ → ℕ
 slots_of members segments groups =
     mirrored_of groups * slot_count Mirrored members segments + (groups - mirrored_of groups) * slot_count Parity members segments

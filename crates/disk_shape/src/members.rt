@@ -17,7 +17,8 @@ pub fn class_of(plan: &Plan, group: u16) -> Class
     }
 }
 
-/// The extent that a group has as its member of an index: the extents of all drives are dealt out in turn.
+/// The extent that a group has as its member of an index: the extents of all drives are dealt out in turn. So no drive has two
+/// members of a group, since a group has no more members than there are drives.
 pub fn member_at(plan: &Plan, group: u16, index: u8) -> Member
     requires group { group < plan.now.groups }
     requires index { index < plan.now.members }

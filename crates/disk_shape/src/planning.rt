@@ -9,7 +9,8 @@ use crate::search::{
 use crate::{Plan, ShapeFault};
 use extents::Shape;
 
-// The most blocks of a disk of so many drives: one slot stays free.
+// The most blocks of a disk of `drives` drives. One slot stays free, because a write needs one before the block's old slot is
+// free.
 fn most_blocks(drives: u8) -> u32
     requires { (3 ≤ drives) × (drives ≤ 16) }
     ensures most { result + 1 ≡ slots_of (member_count drives) 8 512 }
@@ -18,7 +19,7 @@ fn most_blocks(drives: u8) -> u32
     slot_total(u16::from(drives.min(8)), MOST_SEGMENTS, MOST_GROUPS) - 1
 }
 
-// The bytes of the largest disk of so many drives, in blocks of so many bytes.
+// The bytes of the largest disk of `drives` drives, in blocks of `block_bytes` bytes.
 fn largest(drives: u8, block_bytes: u32) -> u64
     requires drives { (3 ≤ drives) × (drives ≤ 16) }
     requires block { block_bytes ≤ 65536 }
@@ -43,6 +44,7 @@ pub fn plan_disk(size: u64, block_bytes: u32, drives: u8) -> Result<Plan, ShapeF
     if size == 0 {
         return Err(ShapeFault::Empty);
     }
+    // After the tests of drives and block, which give its factors their range.
     let most = largest(drives, block_bytes);
     if size > most {
         return Err(ShapeFault::TooLarge(most));
@@ -89,6 +91,7 @@ fn planned(size: u64, block_bytes: u32, drives: u8) -> Plan
     let extents = extents_for(groups, u16::from(members), u16::from(drives));
     let shape = match Shape::new(extents, u32::from(segments), block_bytes, blocks) {
         Ok(shape) => shape,
+        // The sizes were tested by `plan_disk`.
         Err(_) => unreachable!(),
     };
     Plan {

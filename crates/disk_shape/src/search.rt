@@ -4,10 +4,10 @@ ghost use Rattle.disk_shape.specs.Plans.{mirrored_of, slots_of};
 
 use extent_groups::{Class, count_slots};
 
-/// The most groups of an array.
+/// The most groups of an array: with 128 slot numbers each they have all 65,536.
 pub(crate) const MOST_GROUPS: u16 = 512;
 
-/// The most segments of an extent.
+/// The most segments of an extent: with eight members a group has 112 slots then, and numbers for 128.
 pub(crate) const MOST_SEGMENTS: u16 = 8;
 
 // Of every five groups, begun fives too, one is mirrored: about an eighth of the slots.
@@ -18,7 +18,7 @@ pub(crate) fn mirrored_among(groups: u16) -> u16
     (groups + 4) / 5
 }
 
-/// Slots of so many groups.
+/// Slots of `groups` groups.
 pub(crate) fn slot_total(members: u16, segments: u16, groups: u16) -> u32
     requires some { 1 ≤ members }
     requires few { members ≤ 8 }
@@ -32,7 +32,8 @@ pub(crate) fn slot_total(members: u16, segments: u16, groups: u16) -> u32
     u32::from(mirrored) * u32::from(pairs) + u32::from(groups - mirrored) * u32::from(rows)
 }
 
-/// The least number of segments with which the most groups have more slots than there are blocks.
+/// The least number of segments with which the most groups have more slots than there are blocks. Eight segments aren't
+/// tested: the caller knows that they are enough.
 pub(crate) fn first_segments(members: u16, blocks: u32) -> u16
     requires some { 1 ≤ members }
     requires few { members ≤ 8 }
@@ -49,7 +50,8 @@ pub(crate) fn first_segments(members: u16, blocks: u32) -> u16
     MOST_SEGMENTS
 }
 
-/// The least number of groups, 2 at least, that have more slots than there are blocks.
+/// The least number of groups, 2 at least, that have more slots than there are blocks. Two, because one is mirrored, and a
+/// block that leaves it needs a parity group. 512 aren't tested: the caller knows that they are enough.
 pub(crate) fn first_groups(members: u16, segments: u16, blocks: u32) -> u16
     requires some { 1 ≤ members }
     requires few { members ≤ 8 }

@@ -41,7 +41,8 @@ fn count(expected: &mut u32) {
     *expected = expected.saturating_add(1);
 }
 
-// Runs a world over steps. If it stopped out of memory, it goes on from there.
+// Runs a world over steps. If it stopped out of memory, it goes on from there. One allocation fails in a run, so the rest has
+// to come to its end.
 fn run_on(
     alloc: Global,
     world: World,
@@ -70,7 +71,7 @@ fn go_on(alloc: Global, stopped: Stopped, part: &Part<'_>) -> Result<World, Trou
 }
 
 // Takes a world apart and rebuilds it, with each call repeated once after it was out of memory. The map of the headers is the
-// running map before and after.
+// running map before and after. A call that failed returns what it took, else there would be nothing to repeat it with.
 fn afresh(alloc: Global, world: World, expected: &mut u32) -> Result<World, Trouble> {
     let array = world.into_array();
     let before = map_of(alloc, &array)?;

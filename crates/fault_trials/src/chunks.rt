@@ -9,7 +9,7 @@ pub(crate) enum Then {
     End,
     /// Each read fails.
     Fail,
-    /// One read fails, and the rest follows.
+    /// One read fails, and the rest follows: else a caller that reads again wouldn't be found out.
     FailOnce,
 }
 
@@ -31,6 +31,7 @@ impl Read for Feed<'_> {
                 Then::FailOnce => {
                     self.then = Then::End;
                     self.front = self.following;
+                    // The kind of error after which most callers read again.
                     return Err(io::Error::from(ErrorKind::Interrupted));
                 }
             }
@@ -50,7 +51,8 @@ pub(crate) struct Sink {
     pub(crate) piece: usize,
     /// Without room it returns an error, instead of accepting 0 bytes.
     pub(crate) fails: bool,
-    /// After the first write that accepts nothing it has room for all bytes.
+    /// After the first write that accepts nothing it has room for all bytes: else a caller that writes again wouldn't be found
+    /// out.
     pub(crate) goes_on: bool,
 }
 

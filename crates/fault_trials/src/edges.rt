@@ -21,6 +21,7 @@ pub(crate) fn break_off(alloc: Global, script: &[u8], answers: &[u8]) -> Result<
     for count in 0..script.len() {
         let (front, following) = script.split_at_checked(count).ok_or(Trouble::Input)?;
         let expected = lines_of(answers, front);
+        // With 3 bytes a read lines are cut, with 4,096 most lie in one read.
         for (then, piece) in [
             (Then::Fail, 3),
             (Then::Fail, 4_096),
@@ -92,6 +93,7 @@ fn write_breaks(
     let mut writer = Sink {
         taken: Vec::new(alloc),
         room: expected.len(),
+        // So that most answers take more than one write.
         piece: 5,
         fails,
         goes_on,

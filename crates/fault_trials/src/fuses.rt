@@ -34,7 +34,7 @@ pub(crate) fn fuse_all(alloc: Global, case: &Case<'_>) -> Result<Fuses, Trouble>
     Ok(counts)
 }
 
-// Fuses a drive at its first call, then at its second, and so on, until the drive isn't lost.
+// Fuses a drive at its first call, then at its second, and so on, until the drive isn't lost. Then it has fewer calls.
 fn fuse_each(alloc: Global, case: &Case<'_>, drive: u8, counts: &mut Fuses) -> Result<(), Trouble> {
     for call in 1..MOST_CALLS {
         let (is_lost, refused) = fuse_once(alloc, case, drive, call)?;
@@ -48,7 +48,8 @@ fn fuse_each(alloc: Global, case: &Case<'_>, drive: u8, counts: &mut Fuses) -> R
     Err(Trouble::Wrong)
 }
 
-// Runs a case with a drive fused at a call: whether it was lost, and how many moves were refused for it.
+// Runs a case with a drive fused at a call: whether it was lost, and how many moves were refused for it. A new world for each
+// call, since a lost drive stays lost.
 fn fuse_once(alloc: Global, case: &Case<'_>, drive: u8, call: u64) -> Result<(bool, u64), Trouble> {
     let mut world = begun(alloc, case)?;
     if call == 0 || drive >= world.array().drive_count() {
@@ -85,6 +86,7 @@ fn is_as_expected(
     expected: &Words<'_>,
     drive: u8,
 ) -> Result<bool, Trouble> {
+    // Before the step: a refused move has to leave it.
     let kept = Kept::of(alloc, world, step)?;
     let is_expected = is_expected_or_lost(alloc, world, step, expected, drive)?;
     if !is_expected && !kept.is_same(&Kept::of(alloc, world, step)?) {

@@ -89,6 +89,7 @@ fn flip_each(
             put(alloc, slots, counts, at, flipped(sound, bit), payload_of(7))?;
         }
     }
+    // So that the next slot's header is the only one.
     slots.put(at, [0; 32], [0; 8])
 }
 
@@ -105,7 +106,7 @@ fn put(
     check(alloc, slots, counts)
 }
 
-// Scans, and compares with the walk.
+// Scans, and compares with the walk. The walk shares no code with the scan.
 fn check(alloc: Global, slots: &mut Slots, counts: &mut Headers) -> Result<(), Trouble> {
     counts.scans = counts.scans.saturating_add(1);
     let scanned = slots.scan(alloc)?;
@@ -166,8 +167,8 @@ fn payload(noise: &mut Noise) -> [u8; 8] {
     payload_of(noise.byte())
 }
 
-// A header of a record of the slot. One in three is blank; of the others one in twenty has another slot, or a block past
-// the last.
+// A header of a record of the slot. One in three is blank; of the others one in twenty has another slot, or a block past the
+// last. Few are wrong, because a scan ends at the first of them.
 fn header(noise: &mut Noise, slot: u16) -> [u8; 32] {
     if noise.below(3) == 0 {
         return [0; 32];

@@ -51,7 +51,8 @@ pub(crate) fn run_mutants(
     Ok(counts)
 }
 
-/// The script as it is changed for the last of `count` runs.
+/// The script as it is changed for the last of `count` runs. The earlier ones are made too, since each takes numbers of the
+/// same sequence.
 pub(crate) fn mutant(
     alloc: Global,
     seed: u32,
@@ -66,7 +67,8 @@ pub(crate) fn mutant(
     Ok(changed)
 }
 
-// How a script ends. Its end and its answers must be the same for each size of pieces.
+// How a script ends. Its end and its answers must be the same for each size of pieces. One byte a read cuts each line, 4,096
+// cut few.
 fn run_in_pieces(alloc: Global, script: &[u8]) -> Result<End, Trouble> {
     let first = run(alloc, script, 1);
     if !is_answered(&first) {

@@ -1,7 +1,7 @@
 // Numbers by a fixed rule.
 
-/// Pseudo-random numbers by a linear congruential generator modulo 2^64, of which the upper half is returned. One seed
-/// gives one sequence.
+/// Pseudo-random numbers by a linear congruential generator modulo 2^64, of which the upper half is returned. One seed gives
+/// one sequence. The lower bits of such a generator repeat soon.
 #[derive(Drop)]
 pub(crate) struct Noise {
     state: u64,

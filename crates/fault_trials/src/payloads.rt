@@ -9,6 +9,7 @@ pub(crate) fn payload_of(number: u8) -> [u8; 8] {
     let mut next = number;
     for byte in payload.iter_mut() {
         *byte = next;
+        // 29 is odd, so that no two of eight bytes are equal.
         next = next.wrapping_add(29);
     }
     payload

@@ -75,7 +75,7 @@ impl Slots {
         Slots::of(alloc, grouped(alloc)?)
     }
 
-    // Whether the parts fit, and units have their length.
+    // Whether the parts fit, and units have their length. Reads and writes of slots require it.
     fn is_ready(&self) -> bool
         ensures fit { IsTrue result → IsFit held_units self.now.parts }
         ensures unit { IsTrue result → 40 ≡ unit_bytes self.now.parts.groups }
@@ -135,7 +135,8 @@ impl Slots {
         }
     }
 
-    /// A world of the array that is restarted over these drives, with a claim of each slot; or the restart's fault.
+    /// A world of the array that is restarted over these drives, with a claim of each slot; or the restart's fault. All slots,
+    /// because which ones the restart keeps is what it finds.
     pub(crate) fn restart(self, alloc: Global) -> Result<Result<World, ScanFault>, Trouble> {
         let mut claims = Vec::new(alloc);
         for placed in &self.placed {

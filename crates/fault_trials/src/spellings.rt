@@ -27,7 +27,7 @@ pub(crate) fn spell_all(text: &str) -> Result<Spellings, Trouble> {
     Ok(counts)
 }
 
-// Whether the row's header spells none.
+// Whether the row's header spells none. Layout 1 isn't encoded again, since it is never written.
 fn spell_row(row: &str) -> Result<bool, Trouble> {
     let (_number, fields) = row.split_once(',').ok_or(Trouble::Input)?;
     let (digits, answer) = fields.split_once(',').ok_or(Trouble::Input)?;

@@ -9,7 +9,7 @@ use std::io::ErrorKind;
 pub(crate) enum Trouble {
     /// An answer isn't the expected one.
     Wrong,
-    /// A line that says no trial, step or answer, or a file that can't be read.
+    /// A line that says no trial, step or answer, a file that can't be read, or standard output that can't be written.
     Input,
     /// Out of memory outside of what is tried.
     Memory,

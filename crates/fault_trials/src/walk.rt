@@ -1,4 +1,5 @@
-// A plain walk over headers as bytes: the fault that a scan of them returns, or the newest record of each block.
+// A plain walk over headers as bytes: the fault that a scan of them returns, or the newest record of each block. It shares no
+// code with the scan, which is compared with it.
 use header_scan::ScanFault;
 use map_join::Record;
 use std::alloc::Global;
@@ -68,7 +69,7 @@ fn spelled(header: &[u8; 32]) -> Option<Record> {
     })
 }
 
-// The block's record of the greatest version and hop, or the two lowest slots where there is such a one.
+// The block's record of the greatest version and hop; where two have it, a fault with their two lowest slots.
 fn newest_of(block: u32, records: &[Record]) -> Result<Option<Record>, ScanFault> {
     let mut newest: Option<Record> = None;
     let mut twin: Option<u16> = None;

@@ -20,7 +20,8 @@ pub fn decode_hex(digits: &[u8], out: &mut [u8]) -> bool
     }
     let turns = out.len() / (2 * WIDE);
     let steps = out.len() / STEP;
-    // The digits of all turns are tested once, after the loop: a byte that is no digit leaves its lane at 16 or more.
+    // The digits of all turns are tested once, after the loop, so that a turn has no branch: a byte that is no digit leaves its
+    // lane at 16 or more, and nobody reads the bytes that were written.
     let mut greatest = u8x16::splat(0);
     for turn in 0..turns {
         let at = 2 * WIDE * turn;
@@ -36,6 +37,7 @@ pub fn decode_hex(digits: &[u8], out: &mut [u8]) -> bool
     if !are_halves(greatest) {
         return false;
     }
+    // A turn is four steps.
     for step in 4 * turns..steps {
         let at = STEP * step;
         let values = values_of(u8x16::from_slice(&digits[2 * at..]));

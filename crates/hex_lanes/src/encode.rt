@@ -23,6 +23,7 @@ pub fn encode_hex(bytes: &[u8], out: &mut [u8])
         digits_of(first).copy_to_slice(&mut out[2 * at..]);
         digits_of(second).copy_to_slice(&mut out[2 * at + WIDE..]);
     }
+    // A turn is two steps. A buffer of less than a step goes digit by digit, since a vector would write past its end.
     for step in 2 * turns..steps {
         let at = STEP * step;
         let digits = digits_of(halves_of(u8x8::from_slice(&bytes[at..])));

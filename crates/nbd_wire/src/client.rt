@@ -11,9 +11,10 @@ pub const CLIENT_FLAGS_LEN: usize = 4;
 /// Bytes of an option before its data.
 pub const OPTION_HEAD_LEN: usize = 16;
 
+// `IHAVEOPT`, as in the greeting.
 const OPTION_MAGIC: u64 = 0x4948_4156_454f_5054;
 
-/// The options. A client may send others.
+/// The options. A client may send others. An unknown one is refused by a reply, and the handshake goes on.
 #[derive(Clone, Copy, Debug, PartialEq, Eq)]
 pub enum OptionKind {
     /// The client asks for an export by its name, and goes on to the transmission phase without a reply in the form of replies.
@@ -50,7 +51,8 @@ impl OptionHead {
     }
 }
 
-/// Whether a client with these flags takes no zeroes after an export's size; none if it sets an unknown flag.
+/// Whether a client with these flags takes no zeroes after an export's size; none if it sets an unknown flag. The protocol
+/// lets a server drop such a client.
 pub fn no_zeroes_of(flags: &[u8; 4]) -> Option<bool>
     ensures { result ≡ no_zeroes_in flags.now }
 {
@@ -80,6 +82,7 @@ pub fn read_option_head(bytes: &[u8; 16]) -> Option<OptionHead>
 pub fn is_info_request(carried: &[u8]) -> bool
     ensures { result ≡ is_info carried.now }
 {
+    // Each length before what it bounds is read: a client may send any bytes.
     if carried.len() < 6 {
         return false;
     }

@@ -1,4 +1,5 @@
-//! The bytes of the NBD protocol: the fixed newstyle handshake, requests and simple replies.
+//! The bytes of the NBD protocol: the fixed newstyle handshake, requests and simple replies. A call that appends and runs out of
+//! memory may leave a part of its bytes.
 #![tactic(auto)]
 
 mod client;

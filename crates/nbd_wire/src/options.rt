@@ -7,8 +7,10 @@ ghost use Rattle.nbd_wire.specs.Options.{kind_number, preferred_of};
 use crate::numbers::{put_u16, put_u32, put_u64};
 use std::alloc::AllocError;
 
+// `NBDMAGIC`.
 const GREETING_MAGIC: u64 = 0x4e42_444d_4147_4943;
 
+// `IHAVEOPT`.
 const OPTION_MAGIC: u64 = 0x4948_4156_454f_5054;
 
 const OPTION_REPLY_MAGIC: u64 = 0x0003_e889_0455_65a9;
@@ -16,7 +18,8 @@ const OPTION_REPLY_MAGIC: u64 = 0x0003_e889_0455_65a9;
 // FIXED_NEWSTYLE (bit 0) and NO_ZEROES (bit 1).
 const SERVER_FLAGS: u16 = 3;
 
-// HAS_FLAGS (bit 0), SEND_FLUSH (2), SEND_FUA (3), SEND_TRIM (5), SEND_WRITE_ZEROES (6), SEND_CACHE (10).
+// HAS_FLAGS (bit 0), SEND_FLUSH (2), SEND_FUA (3), SEND_TRIM (5), SEND_WRITE_ZEROES (6), SEND_CACHE (10). Not CAN_MULTI_CONN
+// (8), because a disk has one client at a time.
 const EXPORT_FLAGS: u16 = 0b100_0110_1101;
 
 const INFO_EXPORT: u16 = 0;
@@ -30,7 +33,7 @@ const INFO_BLOCK_SIZE_LEN: u32 = 14;
 // A request may begin and end anywhere.
 const LEAST_BLOCK: u32 = 1;
 
-// 32 MiB.
+// 32 MiB: by the protocol a client that asks for no sizes may send as much, so the server takes as much from all.
 const MOST_BLOCK: u32 = 33_554_432;
 
 /// An export: its size in bytes, and the bytes of a request that it carries out best.
@@ -111,7 +114,8 @@ pub fn put_option_reply(
     put_counted(out, carried)
 }
 
-// The least power of two that is a block size at all, 512 to 65,536, and not below the block.
+// The least power of two that is a block size at all, 512 to 65,536, and not below the block. By the protocol a preferred size
+// is a power of two, and 512 at least.
 fn preferred_of(block: u32) -> u32
     ensures { result ≡ preferred_of block }
 {

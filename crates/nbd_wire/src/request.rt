@@ -11,7 +11,8 @@ pub const REQUEST_LEN: usize = 28;
 
 const REQUEST_MAGIC: u32 = 0x2560_9513;
 
-/// The commands. A client may send others.
+/// The commands. A client may send others. A number that isn't known is no error of the form, so that the server can refuse it
+/// and go on.
 #[derive(Clone, Copy, Debug, PartialEq, Eq)]
 pub enum Command {
     Read,
@@ -88,7 +89,8 @@ impl Request {
     ghost use Rattle.std.specs.Prelude.{ℕ};
     ghost use Rattle.nbd_wire.specs.Requests.{has_known_flags, is_forced, carried_len};
 
-    /// Whether the command takes all flags that are set: FUA with any command, NO_HOLE with `WriteZeroes`.
+    /// Whether the command takes all flags that are set: FUA with any command, NO_HOLE with `WriteZeroes`. The protocol allows
+    /// FUA with each, also where nothing changes.
     pub fn has_known_flags(&self) -> bool
         ensures { result ≡ has_known_flags self.now }
     {
@@ -105,7 +107,8 @@ impl Request {
         self.flags % 2 == 1
     }
 
-    /// Bytes that come after the request's 28: a write carries its data.
+    /// Bytes that come after the request's 28: a write carries its data. Also of one that is refused: else the next request
+    /// would begin inside its data.
     pub fn carried_len(&self) -> u32
         ensures { result ≡ carried_len self.now }
     {

@@ -23,7 +23,7 @@ pub fn task_of(alloc: Global, words: &[String]) -> Result<Option<Task>, AllocErr
     let Some(task) = asked(words) else {
         return Ok(None);
     };
-    // These words are refused only if out of memory.
+    // These words are refused only if out of memory: clap takes these and more, such as `script --`.
     match read_words(alloc, words) {
         Ok(()) => Ok(Some(task)),
         Err(_) => Err(AllocError),
@@ -47,7 +47,7 @@ fn read_words(alloc: Global, words: &[String]) -> Result<(), Error> {
     Ok(())
 }
 
-// What the words ask for, if anything.
+// What the words ask for, if anything. This decides, not clap, because clap also takes `script --`.
 fn asked(words: &[String]) -> Option<Task>
     ensures { IsAsked (map string_bytes words.now) result }
 {

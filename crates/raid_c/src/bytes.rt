@@ -7,6 +7,7 @@ use crate::status::Status;
 pub(crate) fn put_out(bytes: &[u8], out: &mut [u8], count: &mut usize) -> Status
     ensures { PutsOut result bytes.now out.old out.new count.new }
 {
+    // Before the test, so that with Room a caller learns how many bytes it needs.
     *count = bytes.len();
     if bytes.len() > out.len() {
         return Status::Room;

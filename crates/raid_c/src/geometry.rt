@@ -71,7 +71,8 @@ fn stripe_of(stripe: Stripe) -> SlotStripe
     }
 }
 
-// Whether a group may have this class and these numbers of members and segments.
+// Whether a group may have this class and these numbers of members and segments. Tested before the casts of these numbers to
+// fewer bits.
 fn is_group(class: u32, members: u32, segments: u32) -> bool
     ensures { IsTrue result ↔ IsGroup class members segments }
 {

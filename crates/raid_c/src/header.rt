@@ -58,6 +58,7 @@ impl UnitHeader {
     {
         match self.kind {
             BLANK => Ok(Header::Blank),
+            // No header has version 0: its bytes would decode as a bad one.
             DATA | TRIM if self.record.version == 0 => Err(Status::Version),
             DATA => Ok(Header::Is(self.record.record(), Kind::Data)),
             TRIM => Ok(Header::Is(self.record.record(), Kind::Trim)),

@@ -75,6 +75,7 @@ pub extern "C" fn behkuna_join(
 ) -> u32
     ensures { Returns result (λ status. Joins status records.now joined.old joined.new count.new) }
 {
+    // Before anything may fail: a caller that doesn't look at the status then takes no bytes for an answer.
     *count = 0;
     match joined_of(alloc, records) {
         Ok(bytes) => put_out(&bytes, joined, count).number(),

@@ -53,6 +53,7 @@ impl StampedRecord {
 pub extern "C" fn behkuna_record_encode(record: &StampedRecord, bytes: &mut [u8; 12]) -> u32
     ensures { Returns result (λ status. EncodesRecord status «record».now bytes.old bytes.new) }
 {
+    // Else the bytes would be those of no record.
     if record.version == 0 {
         return Status::Version.number();
     }

@@ -31,11 +31,13 @@ pub extern "C" fn behkuna_run_script(
     ensures { Returns result (λ status. AnswersScript status script.now answers.old answers.new count.new) }
 {
     *count = 0;
+    // Into memory first: whether the answers fit is known only at the end, and Room leaves the buffer.
     let mut text = Vec::new(alloc);
     match answer(alloc, script, &mut text) {
         End::Whole => put_out(&text, answers, count).number(),
         End::Fault => match put_out(&text, answers, count) {
             Status::Done => Status::Fault.number(),
+            // Room hides the fault, which isn't in the buffer.
             status => status.number(),
         },
         // A reader of bytes doesn't fail, and a writer into memory fails only if out of memory.

@@ -23,12 +23,12 @@ pub(crate) enum Intended {
     NoReturn,
     /// The number of this kind, at this place among the command's numbers.
     Number(Kind, usize),
-    /// That number in its range, with so many blocks.
+    /// That number in its range, in an array with this number of blocks.
     Within(Kind, usize, u64),
     Record,
-    /// A record of one of so many blocks.
+    /// A record of one of this number of blocks.
     RecordWithin(u64),
-    /// A payload of so many bytes.
+    /// A payload of this number of bytes.
     Payload(u64),
     Class,
     Member,
@@ -204,7 +204,7 @@ fn verb_of(alloc: Global, word: &[u8]) -> Result<Option<Verb>, AllocError> {
     Ok(None)
 }
 
-// The record that a word spells, if it spells one.
+// The block of the record that a word spells, if it spells one.
 fn block_in(alloc: Global, word: &[u8]) -> Result<Option<u64>, AllocError> {
     let mut command = Command::new(alloc);
     if are_command(alloc, &[b"at", word], &mut command)? {
@@ -213,7 +213,8 @@ fn block_in(alloc: Global, word: &[u8]) -> Result<Option<u64>, AllocError> {
     Ok(None)
 }
 
-// Whether a word is a member, and whether its numbers are in range.
+// Whether a word is a member, and whether its numbers are in range. The word is given three times, since a group has three
+// members at least.
 fn member_in(alloc: Global, word: &[u8]) -> Result<Option<bool>, AllocError> {
     let mut command = Command::new(alloc);
     if !are_command(alloc, &[b"make", b"m", word, word, word], &mut command)? {
@@ -272,7 +273,7 @@ fn blame_tail<'l>(
     }
 }
 
-// Whether a word is a payload of so many bytes.
+// Whether a word is a payload of `bytes` bytes.
 fn is_payload(word: Option<&[u8]>, bytes: u64) -> bool {
     let Some(word) = word else { return false };
     word.len() as u64 == bytes.saturating_mul(2) && word.iter().all(|byte| byte.is_ascii_hexdigit())
@@ -284,6 +285,7 @@ pub(crate) fn blame_form<'l>(
     line: &'l [u8],
     sizes: &Option<Sizes>,
 ) -> Result<Blame<'l>, AllocError> {
+    // First, because a carriage return makes any last word wrong, and isn't seen.
     if line.ends_with(b"\r") {
         let last = line.iter().filter(|byte| **byte == b' ').count();
         return Ok(blame_at(line, last, Intended::NoReturn));

@@ -39,6 +39,7 @@ pub(crate) fn put_sum(out: &mut Vec<u8>, sum: &Sum) -> Result<(), AllocError>
     let mut digits = [0; 2 * SUM_BYTES];
     match encode_to_slice(sum.as_slice(), &mut digits) {
         Ok(()) => put(out, &digits),
+        // Doesn't come: there is room for two digits a byte.
         Err(_) => Err(AllocError),
     }
 }

@@ -77,6 +77,7 @@ fn compared(
     match (choice, kept, fresh) {
         (Choice::Kept, Some(bytes), _) => Ok((bytes, None)),
         (Choice::Fresh, _, Some(bytes)) => Ok((bytes, None)),
+        // It is loaded all the same: `salvage` reads it, and `check` names it and goes on.
         (_, Some(bytes), _) => {
             let owner = kept_sum.and_then(|sum| owner_of(sums, &sum));
             let drive = file.saturating_sub(1);
@@ -100,6 +101,7 @@ fn read_drive(
     }
     let (image, wrong) = match sums.get(file.saturating_sub(1)) {
         Some(Some(expected)) => compared(rt, files, file, sums, expected)?,
+        // `save` writes an empty file for it, so this isn't its image.
         Some(None) => return Err(Trouble::WasLost(file)),
         None => (bytes_of(rt, files, Name::Kept(file))?, None),
     };
@@ -118,6 +120,7 @@ pub(crate) fn load_files(rt: &HostRuntime, files: Files<'_, '_>) -> Result<Loade
         drives: count,
         sums,
     } = Table::parse(rt.alloc(), &text)?;
+    // Before any image is read: each is known by its place among the names.
     if files.images.len() != usize::from(count) {
         return Err(Trouble::Count(usize::from(count), files.images.len()));
     }

@@ -11,7 +11,8 @@ use std::io::{self, Read, Write};
 /// How many of the last bytes that were written are kept: more than the line of a fault has.
 const TAIL: usize = 64;
 
-/// A writer that keeps the last bytes of its last write.
+/// A writer that keeps the last bytes of its last write. The answers aren't needed: only the line of the fault is, which comes
+/// last.
 #[derive(Drop)]
 struct Tail {
     kept: Vec<u8>,
@@ -131,7 +132,7 @@ fn put_words(out: &mut Vec<u8>, blame: &Blame<'_>) -> Result<(), AllocError> {
 /// The most bytes of a word that are shown.
 const SHOWN: usize = 40;
 
-// Appends a word as it can be printed.
+// Appends a word as it can be printed, other bytes by their numbers, so that a tab or a carriage return is seen.
 fn put_shown(out: &mut Vec<u8>, word: &[u8]) -> Result<(), AllocError> {
     for byte in word.iter().take(SHOWN) {
         match *byte {
@@ -174,6 +175,7 @@ pub(crate) fn explain(rt: &HostRuntime) -> Result<u8, Trouble> {
     let fault = match end {
         End::Fault => fault_in(&tail.kept),
         End::Whole => None,
+        // A reader of bytes doesn't fail, and the writer fails only if out of memory.
         _ => return Err(Trouble::Memory),
     };
     let Some((number, why)) = fault else {

@@ -2,7 +2,7 @@
 ghost use Rattle.std.specs.Prelude.{◌↔◌, ◌<◌, ℕ, IsTrue, IfSome, IfNone, length};
 ghost use Rattle.raid_images.specs.Names.{AreOne, AreTwins, HasNoAliases, IsOneNode};
 
-/// A file or a folder, by its device and its number there.
+/// A file or a folder, by its device and its number there, which are the same for each spelling of its path.
 #[derive(Clone, Copy, Debug, PartialEq, Eq)]
 pub(crate) struct Node {
     pub(crate) device: u64,
@@ -28,7 +28,8 @@ fn is_same_node(one: &Option<Node>, other: &Option<Node>) -> bool
     }
 }
 
-/// Whether two names are of one file: in one folder with one last part, or linked to one file.
+/// Whether two names are of one file: in one folder with one last part, or linked to one file. The text is needed where no
+/// file is there yet, the file where a link leads to it.
 pub(crate) fn are_one(one: &Spot, other: &Spot) -> bool
     ensures { IsTrue result ↔ AreOne one.now other.now }
 {

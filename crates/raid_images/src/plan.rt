@@ -4,7 +4,8 @@ ghost use Rattle.raid_images.specs.Saving.{Disk, IsAtHome, IsSaved, AllAlong, Is
 
 use std::alloc::{AllocError, Global};
 
-/// A step of a save. All writes are durable before the commit, and that before the first rename.
+/// A step of a save. All writes are durable before the commit, and that before the first rename. So a stop at any moment
+/// leaves all images of one table.
 #[derive(Clone, Copy, Debug, PartialEq, Eq)]
 pub(crate) enum Step {
     /// The image of this drive is written under its name with `.new` appended.
@@ -26,7 +27,7 @@ fn writes(alloc: Global, drives: usize) -> Result<Vec<Step>, AllocError>
     Ok(steps)
 }
 
-/// The steps of a save of so many drives.
+/// The steps of a save of `drives` drives.
 #[tactic(auto, using(crate::proofs::Saving::along_steps, crate::proofs::Saving::steps_end))]
 pub(crate) fn plan(alloc: Global, drives: usize) -> Result<Vec<Step>, AllocError>
     ensures steps { IfOk result (λ steps. steps.items ≡ steps_of drives) }

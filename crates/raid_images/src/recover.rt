@@ -25,7 +25,7 @@ pub(crate) enum Lacking {
     Fault(ScanFault),
 }
 
-// A claim of each slot of each group.
+// A claim of each slot of each group. `restart` keeps those of the newest places, which only its scan finds.
 fn claims_of(alloc: Global, groups: &GroupTable) -> Result<Vec<Plain>, AllocError> {
     let mut claims = Vec::new(alloc);
     for group in 0..GROUPS as u16 {
@@ -50,7 +50,8 @@ fn find(alloc: Global, parts: &mut Parts<MemDrive>) -> Result<Option<u16>, Alloc
     Ok(find_unsound(parts, &mut unit, &mut other))
 }
 
-/// The array that the drives hold, rebuilt from the headers of sound parts. Soundness is tested first.
+/// The array that the drives hold, rebuilt from the headers of sound parts. Soundness is tested first, because a restart would
+/// take the first of two copies that differ.
 pub(crate) fn recover(
     alloc: Global,
     parts: Parts<MemDrive>,

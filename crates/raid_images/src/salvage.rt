@@ -49,12 +49,14 @@ fn put_drives(
 
 // Notes a record: the map has the newest of its block, and a second slot with the same stamp is a twin.
 fn note(alloc: Global, found: &mut Found, record: Record) -> Result<(), Trouble> {
+    // Before the map takes the record, which may go over the older one.
     if let Some(older) = found.map.get(record.block) {
         let is_same = older.version == record.version && older.hop == record.hop;
         if is_same && older.place != record.place {
             found.twins.push((record, older.place))?;
         }
     }
+    // `take` requires a version above 0, which a header's record always has.
     if record.version > 0 && found.map.take(alloc, record).is_err() {
         return Err(Trouble::Memory);
     }
@@ -76,6 +78,7 @@ fn read_group(
     let mut first: Option<ScanFault> = None;
     for index in 0..count {
         let slot = (SLOTS * group).saturating_add(index);
+        // The test never fails; `read` requires it.
         if !has_slot(&reader.parts.groups, slot) {
             continue;
         }
@@ -122,7 +125,8 @@ fn put_group(
     put(out, b"\n")
 }
 
-// Appends each block whose newest stamp is at two slots.
+// Appends each block whose newest stamp is at two slots. After all groups are read: a newer record may have come after the
+// twin.
 fn put_twins(found: &mut Found) -> Result<(), AllocError> {
     for (record, other) in &found.twins {
         let is_newest = match found.map.get(record.block) {

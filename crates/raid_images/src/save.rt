@@ -31,7 +31,9 @@ fn parts_of(alloc: Global, bench: Bench) -> Result<Parts<MemDrive>, Trouble> {
     }
 }
 
-// Answers the script on standard input. Its array is kept unless it ended out of memory or by a failed read or write.
+// Answers the script on standard input. Its array is kept unless it ended out of memory or by a failed read or write. A wrong
+// line leaves the array of the lines before it, whose answers are whole; the other ends may leave one of a line without its
+// answer.
 fn answer(rt: &HostRuntime) -> Left {
     let (end, bench) = run_and_leave(rt.alloc(), &mut rt.stdin(), &mut rt.stdout());
     let status = end.status();
@@ -57,6 +59,7 @@ impl Saving {
         files: Files<'_, '_>,
         number: usize,
     ) -> Result<(), Trouble> {
+        // Doesn't come: `keep` has compared the numbers.
         if number >= self.parts.drives.len() {
             return Ok(());
         }
@@ -83,13 +86,16 @@ impl Saving {
         let text = table_text(rt.alloc(), &self.parts.groups, &self.sums)?;
         write_fresh(rt, files, 0, &text)?;
         sync_folders(rt, files, spots)?;
+        // After the folders' sync: else a loss of power could leave the new table without an image that it names.
         rename_file(rt, files, 0)?;
         self.is_placed = true;
         // The table has to be durable before an image of the older save is replaced.
         sync_folder(rt, files, 0)
     }
 
-    // Carries out the steps of a save, in the order of the plan.
+    // Carries out the steps of a save, in the order of the plan. A failure before `is_placed` leaves the older save, and files
+    // with `.new` that `keep` removes. One after it leaves the new save, with images under names with `.new`, which the next
+    // save renames.
     fn run(
         &mut self,
         rt: &HostRuntime,
@@ -122,6 +128,7 @@ fn keep(
             return Err(trouble);
         }
     };
+    // Known only here: the script may have added drives.
     if parts.drives.len() != files.images.len() {
         forget(rt, files);
         return Err(Trouble::Count(parts.drives.len(), files.images.len()));
@@ -132,16 +139,20 @@ fn keep(
         is_placed: false,
     };
     let done = saving.run(rt, files, spots);
+    // Once the table is placed, the files with `.new` are images that it names.
     if done.is_err() && !saving.is_placed {
         forget(rt, files);
     }
     done
 }
 
-/// Answers the script on standard input, and keeps its array in the files; the status is the script's. The files stay as they are
-/// where the script made no array, or one with another number of drives, or ended out of memory or by a failed read or write.
+/// Answers the script on standard input, and keeps its array in the files; the status is the script's. The files stay as they
+/// are where the script made no array, or one with another number of drives, or ended out of memory or by a failed read or
+/// write. A failure while they are written leaves them too, or the new save once its table is in place.
 pub(crate) fn save(rt: &HostRuntime, files: Files<'_, '_>) -> Result<u8, Trouble> {
+    // All tests of names, and what a stop left, before the script: its answers can't be taken back.
     let spots = look(rt, files)?;
+    // Before `reserve`, which removes files with `.new`: the table may name them.
     finish(rt, files, &spots)?;
     if let Err(trouble) = reserve(rt, files) {
         forget(rt, files);

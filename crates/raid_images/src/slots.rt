@@ -24,7 +24,7 @@ pub(crate) fn has_slot(groups: &GroupTable, slot: u16) -> bool
     slot % SLOTS < groups.slots_of(slot / SLOTS)
 }
 
-// The record of a header at a slot, none where it is blank.
+// The record of a header at a slot, none where it is blank. The faults come in the order in which a scan tests them.
 fn record_of(
     header: &[u8; HEADER_BYTES],
     slot: u16,

@@ -113,7 +113,8 @@ fn spots_of(rt: &HostRuntime, files: Files<'_, '_>) -> Result<Vec<Spot>, Trouble
     Ok(spots)
 }
 
-// Opens a file that is there for writing, and changes nothing.
+// Opens a file that is there for writing, and changes nothing. Opened without `truncate`, so that a refusal of a later name
+// leaves this file.
 fn try_write(rt: &HostRuntime, files: Files<'_, '_>, file: usize) -> Result<(), Trouble> {
     match OpenOptions::new().write(true).open(rt, files.name(file)) {
         Ok(_file) => Ok(()),
@@ -127,6 +128,7 @@ pub(crate) fn look(rt: &HostRuntime, files: Files<'_, '_>) -> Result<Vec<Spot>, 
     if files.table == LOST || files.images.iter().any(|image| *image == LOST) {
         return Err(Trouble::Dash);
     }
+    // Names with `.new` are compared too: an image with such a name of another file would be overwritten.
     let spots = spots_of(rt, files)?;
     if let Some((one, other)) = first_twins(&spots) {
         return Err(Trouble::OneFile(name_at(files, one), name_at(files, other)));
@@ -184,7 +186,8 @@ pub(crate) fn rename_file(
     }
 }
 
-// The digests in the table that is there; none where it is no table, or has none.
+// The digests in the table that is there; none where it is no table, or has none: what isn't a save has nothing to be
+// finished.
 fn older_sums(rt: &HostRuntime, files: Files<'_, '_>) -> Result<Vec<Option<Sum>>, Trouble> {
     let Some(text) = bytes_at(rt, files, Name::Kept(0))? else {
         return Ok(Vec::new(rt.alloc()));
@@ -199,7 +202,8 @@ fn older_sums(rt: &HostRuntime, files: Files<'_, '_>) -> Result<Vec<Option<Sum>>
     }
 }
 
-// Puts an image of the older save in its place, if it still waits there.
+// Puts an image of the older save in its place, if it still waits there. The file with `.new` is read first, because mostly
+// there is none. Refused where that is another drive's image: the names are in another order than in that save.
 fn finish_file(
     rt: &HostRuntime,
     files: Files<'_, '_>,
@@ -227,6 +231,7 @@ pub(crate) fn finish(
     spots: &[Spot],
 ) -> Result<(), Trouble> {
     let count = files.images.len().saturating_add(1);
+    // Without a file with `.new` the older save is whole, and nothing has to be read.
     if !spots.iter().skip(count).any(|spot| spot.node.is_some()) {
         return Ok(());
     }
@@ -263,7 +268,8 @@ pub(crate) fn forget(rt: &HostRuntime, files: Files<'_, '_>) {
     }
 }
 
-// Makes an empty file with `.new`. A file or link of that name is never followed.
+// Makes an empty file with `.new`. A file or link of that name is never followed. Removed first and then created, since
+// writing to a link would change the file that it leads to.
 fn make_fresh(rt: &HostRuntime, files: Files<'_, '_>, file: usize) -> Result<(), Trouble> {
     remove_fresh(rt, files, file)?;
     let name = Name::Fresh(file);
@@ -282,7 +288,8 @@ pub(crate) fn reserve(rt: &HostRuntime, files: Files<'_, '_>) -> Result<(), Trou
     Ok(())
 }
 
-// Writes all bytes of a file that is there, and syncs it.
+// Writes all bytes of a file that is there, and syncs it. Synced before any rename, so that no name gets a file without its
+// bytes.
 fn put_file(rt: &HostRuntime, text: &str, bytes: &[u8]) -> io::Result<()> {
     let file = OpenOptions::new()
         .write(true)

@@ -59,7 +59,7 @@ fn cut_sum(text: &[u8]) -> Option<(&[u8], bool)> {
     }
 }
 
-// A number below 65,537, as sizes are; none where it is greater.
+// A size, below 65,537; none where it is greater. Tested here, since a cast would cut it to 32 bits.
 fn size_of(number: u64) -> Option<u32> {
     if number > 65_536 {
         None
@@ -86,7 +86,8 @@ fn shape_of(command: &Command) -> Option<(u8, Shape)> {
     }
 }
 
-// The members that are named; none where a number is past all drives and extents.
+// The members that are named; none where a number is past all drives and extents. Tested before the casts, which would cut it.
+// `are_there` tests the rest.
 fn members_of(alloc: Global, named: &[Named]) -> Result<Option<Vec<Member>>, AllocError> {
     let mut members = Vec::new(alloc);
     for name in named {
@@ -130,6 +131,7 @@ impl Table {
         let Some(at) = rest.iter().position(|byte| *byte == b' ') else {
             return Ok(false);
         };
+        // In the order of drives, so that each has one line and none is left out.
         if number_of(&rest[..at]) != Some(self.sums.len() as u64) {
             return Ok(false);
         }
@@ -159,6 +161,7 @@ impl Table {
         let Some(members) = members_of(alloc, named)? else {
             return Ok(false);
         };
+        // `put_group` requires both, and a file may say anything.
         if !are_there(&self.extents, &members) || !self.groups.is_free(group) {
             return Ok(false);
         }
@@ -228,6 +231,7 @@ impl Table {
             return Err(Trouble::Sum);
         };
         let table = Table::of_lines(alloc, lines)?;
+        // With digests of images, or without any: else a table that lost its last line would count as one of the older form.
         let expected = if has_sum {
             usize::from(table.drives)
         } else {

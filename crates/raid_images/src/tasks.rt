@@ -117,6 +117,7 @@ pub(crate) fn check(rt: &HostRuntime, files: Files<'_, '_>) -> Result<u8, Troubl
     } = load_files(rt, files)?;
     say_compared(rt, files, &wrong, is_compared);
     let mut out = Vec::new(rt.alloc());
+    // Written only once the array is recovered; the counts come before that, because `recover` takes the parts.
     put(&mut out, b"sound\n")?;
     let lost = lost_drives(rt.alloc(), &parts)?;
     put_witness(&mut out, &count_witnesses(&parts.groups, &lost))?;
@@ -144,6 +145,7 @@ fn array_of(
         is_compared,
     } = load_files(rt, files)?;
     say_compared(rt, files, &wrong, is_compared);
+    // Before `recover`, which with a drive left out can't find that an image is older.
     if !wrong.is_empty() {
         return Ok(None);
     }

@@ -11,7 +11,7 @@ pub(crate) enum Name {
     Fresh(usize),
 }
 
-/// Why nothing was answered.
+/// Why a command ended early. `save` may have answered its script before, and put its table in place.
 #[derive(Debug, Drop)]
 pub(crate) enum Trouble {
     Memory,
@@ -25,17 +25,17 @@ pub(crate) enum Trouble {
     Order(usize),
     /// This line of the table, counted from 1, isn't of its form, or its group can't be entered.
     Line(usize),
-    /// The table's text isn't that of its digest.
+    /// The table's text isn't that of its digest, or it hasn't one digest a drive.
     Sum,
-    /// The table's number of drives, and the number of images.
+    /// The number of the table's drives, in a `save` of those of the script's array; and the number of images.
     Count(usize, usize),
     /// The table's groups don't fit one another.
     Misfit,
-    /// The bytes of an image, and those of a drive.
+    /// The file's number, the bytes in it, and those of an image of this array.
     Length(usize, usize, usize),
-    /// The image is of a drive that was lost when the array was saved.
+    /// The file with this number is given for a drive that was lost when the array was saved.
     WasLost(usize),
-    /// A block past the array's last, and its number of blocks.
+    /// A block past the array's last, and the array's number of blocks.
     Block(u32, u32),
     Read(Name, io::Error),
     Write(Name, io::Error),

@@ -66,7 +66,7 @@ fn over_files<'a>(alloc: Global, verb: &'a str, about: &'a str) -> Result<Comman
         .arg(images)
 }
 
-// The command that reads a block.
+// The command that reads a block. Not by `over_files`, because BLOCK comes first.
 fn over_block<'a>(alloc: Global) -> Result<Command<'a>, AllocError> {
     let block = Arg::new(alloc, "block")
         .value_name("BLOCK")

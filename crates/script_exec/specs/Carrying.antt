@@ -11,7 +11,7 @@ use Rattle.script_exec.specs.declared.why.Failure.{Failure}
 use Rattle.script_exec.specs.declared.why.Failure.TheVariants as failure
 use Rattle.script_exec.specs.declared.why.Why.TheVariants as why
 
--- a map's number
+-- the number is that of a map: a script has four, from 0 on
 abbrev pub IsMap : ℕ → Type 0
 IsMap map = map ≤ 3
 

@@ -75,6 +75,7 @@ pub fn carry_out(
 {
     let [first, second, third, ..] = command.numbers;
     match command.verb {
+        // `reply` refuses the one, and carries out the other itself, since it needs the bench as a value.
         Verb::Array | Verb::Restart => unreachable!(),
         Verb::Make => make(alloc, bench, command.class, &command.members, out),
         Verb::Unmake => unmake(alloc, bench, first as u8, second as u16, out),
@@ -257,8 +258,10 @@ fn newest_records<D: Drive, C: Hold>(
 ) -> Result<Vec<Record>, AllocError>
     ensures { IfOk result (λ records. IsListOf (key_at array.now) records.items) }
 {
+    // For its clause, the array's invariant: it does nothing.
     array.whole();
     let mut records = Vec::new(alloc);
+    // A block with a record has a live slot, so without live slots up to 65,536 lookups are spared.
     if are_zero(array.live_counts()) {
         return Ok(records);
     }

@@ -34,10 +34,11 @@ const FEWEST_DRIVES: u64 = 3;
 /// The most drives of an array.
 const MOST_DRIVES: u64 = 16;
 
-/// The greatest size that is passed to the array.
+/// The greatest size that is passed to the array. Some sizes end below it: `Shape::new` tests each one's range.
 const LAST_SIZE: u64 = 65_536;
 
-/// Whether each member's numbers are within the limits.
+/// Whether each member's numbers are within the limits. They may be past this array's drives and extents: that is no fault,
+/// and the array refuses it.
 pub fn are_in_range(members: &[Named]) -> bool
     ensures { IsTrue result ↔ All IsMemberInRange members.now }
 {
@@ -59,7 +60,7 @@ pub fn members_of(alloc: Global, named: &[Named]) -> Result<Vec<Member>, AllocEr
     Ok(members)
 }
 
-/// The number of drives and the shape of an array.
+/// The number of drives and the shape of an array. None if one is out of its range.
 pub fn array_in_range(
     drives: u64,
     extents: u64,
@@ -86,6 +87,7 @@ fn shape_of(extents: u64, segments: u64, payload: u64, blocks: u64) -> Option<Sh
         × AreInRange extents segments payload blocks) }
     ensures none { IfNone result (AreInRange extents segments payload blocks → ⊥) }
 {
+    // Before the casts below, which would cut a greater number to 32 bits.
     if extents > LAST_SIZE || segments > LAST_SIZE || payload > LAST_SIZE || blocks > LAST_SIZE {
         return None;
     }

@@ -1,4 +1,4 @@
-//! Commands on the four block maps. They leave the world as it is.
+//! Commands on the four block maps. They leave the world as it is. Out of memory, the answer may be appended in part.
 ghost use Rattle.std.specs.Prelude.{◌≡◌, ℕ, ◌<◌, ◌++◌, ◌∷◌, [], List, length, codes, OnOk, IfOk, Some, slice_index_or};
 ghost use Rattle.map_join.specs.declared.records.Record.{Record};
 ghost use Rattle.map_join.specs.Record.{record_at};
@@ -15,7 +15,8 @@ use map_join::{BlockMap, MapRefusal, Record};
 use std::alloc::{AllocError, Global};
 use std::mem;
 
-/// Takes a record into a map, and appends the map's record of that block.
+/// Takes a record into a map, and appends the map's record of that block. Out of memory, the map stays, or has the record if
+/// only the answer failed.
 pub fn take(
     alloc: Global,
     bench: &mut Bench,
@@ -34,7 +35,7 @@ pub fn take(
     put_took(out, &newest)
 }
 
-// Takes the record into one of the maps, and returns that map's newest record of the block.
+// Takes the record into one of the maps, and returns that map's newest record of the block. If out of memory, the map stays.
 fn take_into(
     alloc: Global,
     maps: &mut [BlockMap],
@@ -53,7 +54,8 @@ fn take_into(
     Ok(maps[map].get(record.block).unwrap_or(record))
 }
 
-/// Merges one map into another. A map merged into itself stays as it is.
+/// Merges one map into another. A map merged into itself stays as it is. Out of memory, the map may be joined with a part of
+/// the other.
 pub fn merge(
     alloc: Global,
     bench: &mut Bench,
@@ -73,7 +75,7 @@ pub fn merge(
     put(out, b"merged")
 }
 
-// Merges map `from` into map `into`.
+// Merges map `from` into map `into`. If out of memory, map `into` may be joined with a part of `from`.
 fn join(alloc: Global, maps: &mut [BlockMap], into: usize, from: usize) -> Result<(), MapRefusal>
     requires four { length maps.old ≡ 4 }
     requires into { IsMap into }
@@ -81,11 +83,13 @@ fn join(alloc: Global, maps: &mut [BlockMap], into: usize, from: usize) -> Resul
     ensures { OnOk result ((taken : ℕ → List Record) → AreMapsOf maps.old taken →
         AreMapsOf maps.new (put taken into (taken into ++ taken from))) }
 {
+    // Else the map would be merged with the empty one that is left in its place.
     if into == from {
         return Ok(());
     }
     let mut joined = mem::replace(&mut maps[into], BlockMap::new(alloc));
     let merged = joined.merge(alloc, &maps[from]);
+    // Before the result is looked at, so that a failed merge doesn't empty the map.
     maps[into] = joined;
     merged
 }

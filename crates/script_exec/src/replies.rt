@@ -35,11 +35,13 @@ pub fn reply(
         return start(alloc, bench, line, out);
     };
     let shape = standing.tiers.world().array().shape();
+    // Exactly a payload of the array, so that a longer or shorter one is no command.
     let payload = &mut payload[..shape.payload as usize];
     let mut command = Command::new(alloc);
     if !read_command(alloc, line, payload, &mut command)? {
         return Err(Failure::Wrong(Why::Form));
     }
+    // Before the range: `form` comes before it, also for an `array` with numbers out of range.
     if let Verb::Array = command.verb {
         return Err(Failure::Wrong(Why::Form));
     }
@@ -76,6 +78,7 @@ fn first(alloc: Global, line: &[u8], out: &mut Vec<u8>) -> Result<Bench, Failure
     ensures kept { IsPrefix out.old.items out.new.items }
 {
     let mut command = Command::new(alloc);
+    // No buffer for a payload: only `array` may come here, and it has none.
     if !read_command(alloc, line, &mut [], &mut command)? {
         return Err(Failure::Wrong(Why::Form));
     }

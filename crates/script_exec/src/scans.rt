@@ -45,12 +45,14 @@ pub fn restart(
     Ok(())
 }
 
-// The bench with its array rebuilt.
+// The bench with its array rebuilt. The planner starts over, since a restart forgets the order of writes and the log's end.
+// The maps stay.
 fn made_afresh(alloc: Global, bench: Bench, out: &mut Vec<u8>) -> Result<Bench, AllocError>
     ensures carried { IfOk result (λ after. Carries bench after o.Restart out.old.items out.new.items) }
     ensures kept { IsPrefix out.old.items out.new.items }
 {
     let Bench { mut tiers, maps } = bench;
+    // Before the world is taken apart, so that after a fault nothing has changed.
     let map = match tiers.scan(alloc) {
         Ok(map) => map,
         Err(fault) => {

@@ -19,7 +19,8 @@ use tiered_array::{Outcome, Regrouped};
 /// How many bytes are encoded in hex in one step.
 const STEP: usize = 8;
 
-/// The most bytes that are encoded aside, and appended by one call.
+/// The most bytes that are encoded aside, and appended by one call. Longer ones are encoded in place, which first fills the
+/// output with zeros.
 const MOST_SHORT: usize = 64;
 
 /// The bytes of a record.

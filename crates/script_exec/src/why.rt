@@ -4,7 +4,7 @@ ghost use Rattle.script_exec.specs.declared.why.Failure.TheVariants as failure;
 
 use std::alloc::AllocError;
 
-/// Why a line is wrong.
+/// Why a line is wrong, in the order of the tests: the first that holds is the line's fault.
 #[derive(Clone, Copy)]
 pub enum Why {
     /// It is past the last line that a script may have.
@@ -17,7 +17,7 @@ pub enum Why {
     Range,
 }
 
-/// Why a command was not answered.
+/// Why a command was not answered. Memory is no fault of the line: it ends the script with another status.
 #[derive(Clone, Copy)]
 pub enum Failure {
     /// Out of memory.

@@ -1,4 +1,5 @@
-//! The calls of a reader and a writer. The values that report a failed call can be made only here.
+//! The calls of a reader and a writer. The values that report a failed call can be made only here, so that no script ends with
+//! such a value unless a call failed.
 ghost use Rattle.std.specs.Prelude.{OnOk, OnErr};
 ghost use Rattle.std.specs.Io.{ReadsAtMost};
 ghost use Rattle.std.specs.Io.KnownBytes.{Appends, ReadConsumes};
@@ -33,6 +34,7 @@ pub fn write_out<W: Write>(writer: &mut W, bytes: &[u8]) -> Result<(), WriteBrok
     let mut rest = bytes;
     while !rest.is_empty() {
         match writer.write(rest) {
+            // Else a writer that accepts nothing would be called for ever.
             Ok(0) => return Err(WriteBroke(())),
             Ok(count) => rest = &rest[count..],
             Err(_) => return Err(WriteBroke(())),

@@ -2,7 +2,8 @@
 ghost use Rattle.std.specs.Prelude.{◌≡◌};
 ghost use Rattle.script_io.specs.Status.{status_of};
 
-/// How a script ends.
+/// How a script ends. `run_script` and `run_and_leave` return it, by what halted the turns; `Memory` also where their buffers
+/// can't be allocated. A reader's and a writer's failure are apart, although a program ends both with 5.
 #[derive(Clone, Copy, Debug, PartialEq, Eq)]
 pub enum End {
     /// Every line was answered.

@@ -5,7 +5,9 @@ ghost use Rattle.script_io.specs.Turns.{end_of};
 use crate::calls::{ReadBroke, WriteBroke};
 use crate::end::End;
 
-/// Why no more of a script is read. The variant for a failed call holds a value that only that call can make.
+/// Why no more of a script is read. The variant for a failed call holds a value that only that call can make. `run_and_leave`
+/// makes it by its turns: `Whole` after the last line, `Fault` and `Memory` of a `Stop`, `ReadBroke` by `read_some`,
+/// `WriteBroke` by `write_out`.
 #[derive(Drop)]
 pub enum Halt {
     Whole,

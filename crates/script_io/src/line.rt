@@ -13,7 +13,7 @@ use std::alloc::{AllocError, Global};
 /// The most lines of a script.
 pub const MOST_LINES: u64 = 1_000_000;
 
-/// The most bytes of a line before its end.
+/// The most bytes of a line before its end: the 131,072 digits of the longest payload, and 128 bytes for the words before it.
 pub const MOST_BYTES: usize = 131_200;
 
 /// Appends the answer to a line, or its fault.
@@ -32,6 +32,8 @@ pub fn answer_line(
         LineComes result number state bench.new line.now out.old.items out.new.items }
     ensures kept { IsPrefix out.old.items out.new.items }
 {
+    // Both tests come before the skip, because comments and empty lines count too. `take_in` has tested an open line, but not
+    // a line that lies in a chunk as a whole.
     if number > MOST_LINES {
         return wrong(out, number, Why::Many);
     }

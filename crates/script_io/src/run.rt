@@ -17,10 +17,11 @@ use std::io::{Read, Write};
 /// How many bytes are read at once.
 const CHUNK: usize = 65_536;
 
-/// The longest payload.
+/// The longest payload. The buffer is allocated before the first line, which says how long payloads are.
 const LONGEST_PAYLOAD: usize = 65_536;
 
-/// Reads a script and writes its answers. The answers to all whole lines that were read are written before the next read.
+/// Reads a script and writes its answers. The answers to all whole lines that were read are written before the next read. So a
+/// client that waits for an answer before its next line gets it.
 pub fn run_script<R: Read, W: Write>(alloc: Global, reader: &mut R, writer: &mut W) -> End
     ensures { IfSome (R.remaining reader.old) (λ script.
         SaysBy result script (R.remaining reader.new) (W.contents writer.old) (W.contents writer.new)) }
@@ -67,6 +68,7 @@ fn turns<R: Read, W: Write>(
 {
     loop {
         match read_some(reader, chunk) {
+            // No bytes are the end of the input: a chunk isn't empty.
             Ok(0) => return close(alloc, writer, script),
             Ok(count) => {
                 if let Some(halt) = go_on(alloc, writer, script, &chunk[..count]) {
@@ -78,7 +80,8 @@ fn turns<R: Read, W: Write>(
     }
 }
 
-// Answers the lines that end in a chunk, and writes the answers.
+// Answers the lines that end in a chunk, and writes the answers, also before a fault or Memory: those of earlier lines are
+// whole. A failed write hides both.
 fn go_on<W: Write>(alloc: Global, writer: &mut W, script: &mut Script, chunk: &[u8]) -> Option<Halt>
     requires good { IsScript script.old }
     requires written { script.old.out.items ≡ [] }
@@ -103,7 +106,8 @@ fn go_on<W: Write>(alloc: Global, writer: &mut W, script: &mut Script, chunk: &[
     }
 }
 
-// Answers the line that is open at the end of the input, if there is one, and writes the answer.
+// Answers the line that is open at the end of the input, if there is one, and writes the answer. A failed write hides a fault
+// or Memory: it is what the script then ends by.
 fn close<W: Write>(alloc: Global, writer: &mut W, script: &mut Script) -> Halt
     requires good { IsScript script.old }
     requires written { script.old.out.items ≡ [] }

@@ -75,7 +75,8 @@ impl Script {
         self.answer_open(alloc)
     }
 
-    // Appends bytes to the open line, or reports that it is too long or one too many.
+    // Appends bytes to the open line, or reports that it is too long or one too many. Both are reported before the line ends:
+    // more bytes can't change them, and `line` stays within its limit.
     fn take_in(&mut self, part: &[u8]) -> Result<(), Stop>
         requires good { IsScript self.old }
         requires part { HasNoNewline part.now }
@@ -83,12 +84,14 @@ impl Script {
         ensures fewer { OnOk result (most_left self.new + length part.now ≤ most_left self.old) }
         ensures fed { (state : State) → MatchesState self.old.bench state → Feeds result self.old state self.new part.now }
     {
+        // Without bytes no line begins, so that 1,000,000 lines that all end with LF have no fault.
         if part.is_empty() {
             return Ok(());
         }
         if self.number > MOST_LINES {
             return self.report_fault(Why::Many);
         }
+        // After `Many`: that kind comes first.
         if part.len() > MOST_BYTES - self.line.len() {
             return self.report_fault(Why::Long);
         }
@@ -117,6 +120,7 @@ impl Script {
         ensures reported { (state : State) → MatchesState self.old.bench state →
             Answered result self.old state self.old.line.items self.new }
     {
+        // Out of the script, because `answer` changes the rest of it. An empty `Vec` allocates nothing.
         let line = replace(&mut self.line, Vec::new(alloc));
         self.answer(alloc, &line)?;
         self.line = line;
@@ -150,6 +154,7 @@ impl Script {
             }
             Err(Stop::Fault) => Err(Stop::Fault),
             Err(Stop::Memory) => {
+                // Only whole answers may be written.
                 self.out.truncate(whole);
                 Err(Stop::Memory)
             }

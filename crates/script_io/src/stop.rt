@@ -4,7 +4,8 @@ ghost use Rattle.script_io.specs.declared.stop.Stop.TheVariants as stop;
 
 use std::alloc::AllocError;
 
-/// Why a script ended before its last line.
+/// Why a script ended before its last line. `Script::feed` and `Script::finish` return it; `wrong` makes `Fault`, a failed
+/// allocation `Memory`.
 #[derive(Clone, Copy)]
 pub enum Stop {
     /// Out of memory.

@@ -4,10 +4,11 @@ use flat_machine::Class;
 use map_join::Record;
 use std::alloc::Global;
 
-/// The most numbers of a command.
+/// The most numbers of a command: those of `array`.
 pub const MOST_NUMBERS: usize = 5;
 
-/// A member as it is named: numbers of up to ten digits, in range or not.
+/// A member as it is named: numbers of up to ten digits, in range or not. The range is tested after the form, because a line
+/// with both faults is answered by `form`.
 #[derive(Clone, Copy)]
 pub struct Named {
     pub drive: u64,

@@ -42,6 +42,7 @@ fn members_of(alloc: Global, text: Option<&[u8]>) -> Result<Option<Vec<Named>>, 
 {
     let mut members = Vec::new(alloc);
     let mut rest = text;
+    // No more than eight are allocated: a line may name thousands.
     for _ in 0..MOST_MEMBERS {
         let Some(text) = rest else {
             return Ok(if members.len() < FEWEST_MEMBERS {

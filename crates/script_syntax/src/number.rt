@@ -9,7 +9,7 @@ use crate::parts::SPACE;
 /// The digit zero.
 const ZERO: u64 = b'0' as u64;
 
-/// The most digits of a number.
+/// The most digits of a number. One digit more fits into 64 bits, so reading a word never overflows.
 const MOST_DIGITS: usize = 10;
 
 /// The number that is the first word of the text, and the text after it where there is one.
@@ -72,6 +72,7 @@ fn front_number(text: &[u8], count: usize) -> Option<u64>
 {
     let mut number: u64 = 0;
     for at in 0..count {
+        // A byte below `0` wraps to a number above 9, so that one test finds all that is no digit.
         let digit = u64::from(text[at]).wrapping_sub(ZERO);
         if digit > 9 {
             return None;
@@ -94,9 +95,11 @@ fn cut_any(text: &[u8]) -> Option<(u64, Option<&[u8]>)>
     ensures none { IfNone result ((n : ℕ) (rest : List (List ℕ)) → IsWritable n →
         words text.now ≡ decimal n ∷ rest → ⊥) }
 {
+    // One byte more than a number may have: it is the space after it, or shows that the word is too long.
     let most = text.len().min(MOST_DIGITS + 1);
     let mut number: u64 = 0;
     for at in 0..most {
+        // A byte below `0` wraps to a number above 9, so that one test finds all that is no digit.
         let digit = u64::from(text[at]).wrapping_sub(ZERO);
         if digit > 9 {
             return if text[at] == SPACE && is_numeral(text, at) {
@@ -114,7 +117,8 @@ fn cut_any(text: &[u8]) -> Option<(u64, Option<&[u8]>)>
     }
 }
 
-// Whether `count` leading digits may be a number: 1 to 10 of them, and no zero leads two or more.
+// Whether `count` leading digits may be a number: 1 to 10 of them, and no zero leads two or more, so that each number has one
+// spelling.
 fn is_numeral(text: &[u8], count: usize) -> bool
     requires { count ≤ length text.now }
     ensures { IsTrue result ↔ IsNumeral text.now count }

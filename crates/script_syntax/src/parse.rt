@@ -13,8 +13,8 @@ use crate::verb::{Tail, Verb, verb_of};
 use crate::words::{is_end, next_numbers};
 use std::alloc::{AllocError, Global};
 
-/// Parses a line into `command`, and a payload, which must be as long as the buffer, into `payload`. Returns whether the
-/// line spells a command.
+/// Parses a line into `command`, and a payload, which must be as long as the buffer, into `payload`. Returns whether the line
+/// spells a command. If not, both may have parts of it.
 pub fn read_command(
     alloc: Global,
     line: &[u8],

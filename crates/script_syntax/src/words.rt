@@ -46,7 +46,7 @@ pub fn last_word(text: Option<&[u8]>) -> Option<&[u8]>
     Some(word)
 }
 
-/// Whether no words remain.
+/// Whether no words remain. A space at the end of a line is followed by an empty word, so it isn't the end.
 pub fn is_end(text: Option<&[u8]>) -> bool
     ensures { IsTrue result ↔ (words_left (text_of text.entry) ≡ []) }
 {

@@ -29,10 +29,10 @@ abbrev pub HaveBegun : List (Carried Act) → ArrayView → Type 0
 HaveBegun [] array = ⊥
 HaveBegun (hand ∷ hands) array = hand.seen ≡ entry 0 (Opens array) ∷ []
 
--- A storm of so many hands, and of so many rounds each, that ended in this way. There is an array at its end, to which one run of the
--- flat machine leads from a new array of 16 blocks with payloads of this size. All hands came back, so each entry of the run is one of
--- theirs, and each hand's entries are those that its worker's rounds made, in its order. The map of the run's records is the array's,
--- and so the storm ended as it says.
+-- A storm of a number of hands, with a number of rounds each, that ended in this way. There is an array at its end, to which
+-- one run of the flat machine leads from a new array of 16 blocks with payloads of this size. All hands came back, so each
+-- entry of the run is one of theirs, and each hand's entries are those that its worker's rounds made, in its order. The map of
+-- the run's records is the array's, and so the storm ended as it says.
 pub record HasStormed (count payload rounds : ℕ) (storm : Storm) : Type 0 where
   pub array : ArrayView
   pub keeper : Course Act

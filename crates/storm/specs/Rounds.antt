@@ -21,8 +21,8 @@ IsTolerated (Err fault.NoRoom) = Unit {0}
 IsTolerated (Err (fault.Core (refusal.Ahead newest))) = Unit {0}
 IsTolerated (Err other) = ⊥
 
--- the block of a worker's round, of 16, and the payload of so many bytes that it writes: the worker's number and the round's, each
--- with its highest byte first, and zeros after them
+-- the block of a worker's round, of 16, and the payload that it writes, of a number of bytes: the worker's number and the
+-- round's, each with its highest byte first, and zeros after them
 abbrev pub round_block : ℕ → ℕ → ℕ
 round_block number round = (number + round % 16) % 16
 
@@ -54,7 +54,7 @@ abbrev pub AreRounds : Sized → ℕ → ℕ → ℕ → Carried Act → List (C
 AreRounds sizes size number from v [] w = w ≡ v
 AreRounds sizes size number from v (x ∷ xs) w = IsRound sizes size number from v x × AreRounds sizes size number (from + 1) x xs w
 
--- so many rounds, from 0 on
+-- a number of rounds, from 0 on
 pub record HasPlayed (sizes : Sized) (size rounds number : ℕ) (v w : Carried Act) : Type 0 where
   pub after : List (Carried Act)
   pub many : length after ≡ rounds

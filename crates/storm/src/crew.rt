@@ -26,7 +26,7 @@ pub(crate) struct Crew {
 }
 
 // Runs the workers in threads, each with a part of what these hands have and one of the hands of the history. Returns what all
-// had, the hands first, and what they carried out.
+// had, the hands first, and what they carried out. A fault returns nothing of it: `close` then settles without hands.
 pub(crate) fn run_all<
     N: slot_words::Naming + Sizes + Send + Sync,
     A: map_words::Naming + Send + Sync,
@@ -102,6 +102,7 @@ fn dismiss<N: slot_words::Naming + Sizes, A: map_words::Naming, B: map_words::Na
     ensures { IfSome result (λ all. map (λ e. e.hand) all.items ≡ hands.hand ∷ map (λ w. w.hand) hired.entry.items) }
 {
     let mut ended = Vec::new(alloc);
+    // First, since `settle` joins all others into it.
     if ended.push(hands).is_err() {
         return None;
     }

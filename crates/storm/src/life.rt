@@ -39,6 +39,7 @@ pub struct Fuse {
 #[derive(Clone, Copy, Debug, PartialEq, Eq)]
 pub struct Orders {
     pub workers: u8,
+    /// Rounds of each worker: a write, a migration and a read.
     pub writes: u32,
     /// Bytes of a payload: a multiple of 8, 8 to 65,536.
     pub payload: u32,
@@ -113,6 +114,7 @@ fn play_out<
     let (words, mut pass) = slots.named::<N>();
     let (even, one) = maps.0.named::<A>();
     let (odd, other) = maps.1.named::<B>();
+    // A Pass for the array's claims, so that they are released also where the workers' Passes are lost.
     let mut spare = words.split(&mut pass);
     let (book, hand, parts) = open(alloc, words, (even, odd), &mut spare, opened, orders)?;
     let hands = Ended {
@@ -129,6 +131,7 @@ fn play_out<
     match run_all(rt, alloc, &book, (hands, parts), crew) {
         Ok((ended, tally)) => close(alloc, book, ended, tally, crew.writes, &mut spare),
         Err(fault) => {
+            // Nothing can be settled without hands: this only releases the claims, which can't be dropped.
             let _ = close(alloc, book, Vec::new(alloc), Tally::new(), 0, &mut spare);
             Err(fault)
         }
@@ -156,7 +159,9 @@ fn open<N: slot_words::Naming + Sizes, A: map_words::Naming, B: map_words::Namin
         Ok(array) => array,
         Err(refusal) => return Err(StormFault::Setup(refusal)),
     };
+    // After the groups are made: what that reads and writes doesn't count for the fuse.
     if !is_fused(&mut array, orders.fuse) {
+        // Before each return: the claims that the array keeps can't be dropped.
         release_all(&words, spare, array);
         return Err(StormFault::Setup(Refusal::BadMember));
     }
@@ -174,7 +179,7 @@ fn open<N: slot_words::Naming + Sizes, A: map_words::Naming, B: map_words::Namin
     }
 }
 
-// This many more hands of a history.
+// This many more hands of a history. All hands of a Book's history are hired before the Book is made.
 fn hire_hands<N: Chronicle>(
     alloc: Global,
     history: &History<N, Deed>,
@@ -240,6 +245,7 @@ fn conclude<N: slot_words::Naming + Sizes, A: map_words::Naming, B: map_words::N
     match settle(alloc, book, ended) {
         Ok(settled) => {
             let mut tally = tally;
+            // At the end, because drives are lost during the run.
             tally.lost = count_lost(&settled.array);
             (Ok(Storm::Agreed(tally)), settled)
         }

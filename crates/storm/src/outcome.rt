@@ -45,7 +45,7 @@ pub enum Storm {
 #[derive(Clone, Copy, Debug, PartialEq, Eq)]
 pub enum StormFault {
     /// There is no array, or there are no workers for it: `Full` where the hands can't be split for all workers, `BadMember` where
-    /// the drive to be lost isn't one of the four, or no payload has this size.
+    /// the drive to be lost isn't one of the four, its call is the 0th, or no payload has this size; `Memory`.
     Setup(Refusal),
     Run(RunFault),
     /// Never `Differs`.

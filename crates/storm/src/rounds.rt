@@ -13,10 +13,11 @@ use std::sync::Wait;
 use std::sync::atomic::AtomicU64;
 use std::sync::atomic::Ordering::SeqCst;
 
-/// A demotion is due when fewer than this many mirrored slots are free.
+/// A demotion is due when fewer than this many of the 48 mirrored slots are free, so when more than four are held.
 const LOW: u32 = 44;
 
-// `writes` rounds with payloads of `payload` bytes, and what all workers that are done have carried out.
+// `writes` rounds with payloads of `payload` bytes, and what all workers that are done have carried out. Atomic, since all
+// threads share it.
 #[derive(Drop)]
 pub(crate) struct Rounds {
     writes: u32,
@@ -82,6 +83,7 @@ impl<D: Drive, N: slot_words::Naming + Sizes, A: map_words::Naming, B: map_words
         for round in 0..self.writes {
             play(rt, alloc, worker, &mut payload, round, &mut tally)?;
         }
+        // At the end alone: a worker whose job fails adds nothing.
         self.add(&tally);
         Ok(())
     }
@@ -109,12 +111,14 @@ fn play<
     ensures payload { (length payload.new ≡ length payload.old) × (drop 8 payload.new ≡ drop 8 payload.old) }
 {
     let number = worker.number();
+    // Of each worker of a storm this is false. It is tested, because a job may be given any worker.
     if worker.blocks() != BLOCKS
         || worker.payload() as usize != payload.len()
         || payload.len() < 8
     {
         return Err(WorkFault::NoRoom);
     }
+    // The round's remainder first, since the sum of both numbers may be past 32 bits.
     let block = (u32::from(number) + round % BLOCKS) % BLOCKS;
     payload[..8].copy_from_slice(&numbers_of(u32::from(number), round));
     if let Some(_emitted) = passed_over(worker.write(rt, alloc, block, payload, &NoGate))? {
@@ -123,6 +127,7 @@ fn play<
     if let Some(Migration::Moved(_)) = passed_over(worker.migrate(rt, alloc, LOW, &NoGate))? {
         tally.moves = tally.moves.saturating_add(1);
     }
+    // By the other controller's words, which may have an older record, or none: then the read learns, or finds nothing.
     match passed_over(worker.read(rt, alloc, Controller::of(number % 2 + 1), block))? {
         Some(Some(_)) => tally.reads = tally.reads.saturating_add(1),
         Some(None) => tally.blanks = tally.blanks.saturating_add(1),

@@ -57,6 +57,7 @@ pub(crate) fn storm_array<N: Naming>(
         return Err(Refusal::BadMember);
     };
     let mut array = Array::in_memory(alloc, shape, DRIVES)?;
+    // Each drive is in groups of both classes, so that a lost one is missed by both.
     let groups = [
         (Class::Mirrored, members(0, [0, 1, 2])),
         (Class::Mirrored, members(1, [1, 2, 3])),
@@ -65,6 +66,7 @@ pub(crate) fn storm_array<N: Naming>(
     ];
     for (class, members) in groups {
         if let Err(refusal) = add_group(alloc, words, pass, &mut array, class, &members) {
+            // An array of such claims has no `Drop`, also where it keeps none.
             release_all(words, pass, array);
             return Err(refusal);
         }
@@ -90,7 +92,7 @@ fn members(extent: u16, drives: [u8; 3]) -> [Member; 3] {
     ]
 }
 
-// Makes a group, and releases the claims that were kept for its number.
+// Makes a group, and releases the claims that were kept for its number. Else no worker could claim the group's slots.
 fn add_group<N: Naming>(
     alloc: Global,
     words: &SlotWords<N>,

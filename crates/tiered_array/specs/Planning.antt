@@ -14,7 +14,7 @@ use Rattle.tiered_array.specs.declared.planner.Planner.{Planner}
 abbrev pub IsOldestMirrored : ArrayView → Planner → Option ℕ → Type 0
 IsOldestMirrored a p block = IsOldest p.ages.order (IsMirrored a.parts.groups (key_at a)) block
 
--- the same of those that can be read, where there are any
+-- the block in a mirrored group that was written longest ago, of those that can be read where there are any
 abbrev pub IsDueHere : ArrayView → Planner → Option ℕ → Type 0
 IsDueHere a p block = IsDueOf p.ages.order a.parts.groups (lost_of a.parts) (key_at a) block
 

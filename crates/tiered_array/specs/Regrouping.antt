@@ -25,7 +25,7 @@ pub record AreLost (F : Flat) (lost : List Bool) : Type 0 where
   pub many : length lost ≡ 16
   pub each : (drive : ℕ) → drive < 16 → slice_index_or lost drive true ≡ F.lost drive
 
--- the same of an array's parts
+-- which of sixteen drives of an array's parts are lost; past the last drive none is there, which counts as lost
 pub record AreLostOf (v : PartsView) (lost : List Bool) : Type 0 where
   pub many : length lost ≡ 16
   pub each : (drive : ℕ) → drive < 16 → slice_index_or lost drive true ≡ lost_of v drive

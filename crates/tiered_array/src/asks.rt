@@ -81,7 +81,7 @@ impl<'a, D: Drive> Free for Unheld<'a, D> {
     }
 }
 
-// The slots that nobody holds in a world and that aren't gone.
+// The slots that nobody holds in a world and that aren't gone. A copy into one that is gone would be refused.
 #[derive(Drop)]
 pub(crate) struct Open<'a, D: Drive> {
     pub(crate) world: &'a World<D>,
@@ -95,7 +95,7 @@ impl<'a, D: Drive> Free for Open<'a, D> {
     }
 }
 
-// The blocks of an array whose newest place isn't gone.
+// The blocks of an array whose newest place isn't gone. A copy of another would be refused.
 #[derive(Drop)]
 pub(crate) struct Readable<'a, D: Drive, C: Hold> {
     pub(crate) array: &'a Array<D, C>,
@@ -105,6 +105,7 @@ impl<'a, D: Drive, C: Hold> PicksBlocks for Readable<'a, D, C> {
     ghost picked = { λ r block. IsThereHere r.array.now block };
 
     fn is_picked(&self, block: u32) -> bool {
+        // `newest` requires a block of the array, and `is_picked` is asked for any number.
         if block >= self.array.shape().blocks {
             return false;
         }
@@ -129,7 +130,7 @@ impl<'a, D: Drive> Free for Mirrors<'a, D> {
     }
 }
 
-// Whether the slot is one of a mirrored group.
+// Whether the slot is one of a mirrored group. `members` is called for its clause, which says that these are groups.
 pub(crate) fn is_mirror(groups: &GroupTable, slot: u16) -> bool
     ensures { IsTrue result ↔ IsSlotOf Mirrored groups.now slot }
 {
@@ -152,7 +153,7 @@ impl<'a, D: Drive> Free for Holes<'a, D> {
     }
 }
 
-// Whether the slot is one of a parity group.
+// Whether the slot is one of a parity group. `members` is called for its clause, which says that these are groups.
 pub(crate) fn is_parity(groups: &GroupTable, slot: u16) -> bool
     ensures { IsTrue result ↔ IsSlotOf Parity groups.now slot }
 {

@@ -25,7 +25,7 @@ pub(crate) fn put(words: &mut [u64], at: usize)
     words[at / BITS] |= 1 << (at % BITS);
 }
 
-// Clears a bit that is set, which makes its word smaller.
+// Clears a bit that is set, which makes its word smaller: by this a search that clears bits ends.
 #[inline(always)]
 pub(crate) fn take(words: &mut [u64], at: usize)
     requires inside { at < 64 * length words.old }

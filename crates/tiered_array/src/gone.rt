@@ -1,4 +1,5 @@
-// Which slots are gone, by the lost drives and the geometry alone: no unit is read.
+// Which slots are gone, by the lost drives and the geometry alone: no unit is read. Whether the units there are sound makes no
+// difference: Gone depends on lost drives alone.
 ghost use Rattle.std.specs.Prelude.{◌↔◌, ◌≢◌, ℕ, ◌<◌, IsTrue, Some, slice_get, true};
 ghost use Rattle.extent_groups.specs.declared.class.Class.TheVariants.{Mirrored, Parity};
 ghost use Rattle.extent_groups.specs.Stores.{IsSlotOf};
@@ -32,7 +33,8 @@ fn is_pair_gone<D: Drive, C: Hold>(array: &Array<D, C>, slot: u16) -> bool
     array.is_lost(first.drive) && array.is_lost(second.drive)
 }
 
-// Whether a parity slot's drive is lost, and so is the drive of another unit of its row.
+// Whether a parity slot's drive is lost, and so is the drive of another unit of its row. Its own drive has the unit; without
+// it all others of the row are needed to rebuild it.
 fn is_row_gone<D: Drive, C: Hold>(array: &Array<D, C>, slot: u16) -> bool
     requires { IsSlotOf Parity array.now.parts.groups slot }
     ensures { IsTrue result ↔ IsLost array.now.parts slot }

@@ -1,4 +1,5 @@
-// Which slots may be free: each that is, and some that aren't.
+// Which slots may be free: each that is, and some that aren't. A claim clears no hint, so that claims, fills and copies
+// needn't call here; a search clears what it finds held.
 ghost use Rattle.std.specs.Prelude.{◌≡◌, ℕ, ◌/◌, ◌<◌, length, IfOk, MatchOption};
 ghost use Rattle.migrator.specs.First.{IsFirst};
 ghost use Rattle.step_core.specs.declared.step.Answer.TheVariants as Answer;
@@ -11,7 +12,7 @@ use std::alloc::{AllocError, Global};
 use std::marker::Model;
 use step_core::Answer;
 
-// Rows of 64 slots, and words that have a bit for each row.
+// Rows of 64 slots: 1,024 for 65,536 slots. 16 words have a bit for each row, so that a search skips rows without hints.
 const ROWS: usize = 1024;
 
 const WORDS: usize = 16;
@@ -35,7 +36,7 @@ impl Model for FreeHints {
 }
 
 impl FreeHints {
-    /// Each of the 65,536 slots may be free.
+    /// Each of the 65,536 slots may be free. Those that aren't are cleared by the first searches, so no array has to be read.
     pub(crate) fn new(alloc: Global) -> Result<FreeHints, AllocError>
         ensures { IfOk result (λ hints. (slot : ℕ) → slot < 65536 → IsHinted hints slot) }
     {
@@ -84,11 +85,13 @@ pub(crate) fn hint_made(hints: &mut FreeHints, answer: &Answer)
     }
 }
 
-// Records that each slot of a group may be free.
+// Records that each slot of a group may be free. All 128, also of a group that has fewer: those that it lacks aren't free, and
+// the next search clears them.
 fn hint_group(hints: &mut FreeHints, group: u16)
     ensures all { group < 512 → (slot : ℕ) → slot / 128 ≡ group → IsHinted hints.new slot }
     ensures others { (other : ℕ) → IsHinted hints.old other → IsHinted hints.new other }
 {
+    // Else the slot's number below wouldn't fit into 16 bits.
     if group >= GROUPS as u16 {
         return;
     }
@@ -125,6 +128,7 @@ fn first_in_rows<F: Free>(slots: &mut [u64], rows: &mut [u64], word: usize, free
         if let Some(slot) = first_in_row(slots, row, free) {
             return Some(slot);
         }
+        // So that no search looks here again, until a slot of the row is hinted.
         take(rows, row);
     }
     None
@@ -142,6 +146,7 @@ fn first_in_row<F: Free>(slots: &mut [u64], row: usize, free: &F) -> Option<u16>
         if free.is_free(slot as u16) {
             return Some(slot as u16);
         }
+        // Its release hints it again.
         take(slots, slot);
     }
     None

@@ -19,7 +19,8 @@ use std::alloc::{AllocError, Global};
 /// What the plans of an array depend on, in addition to its tables. Each commit has to be noted. Only `new` allocates.
 #[derive(Drop)]
 pub struct Planner {
-    /// The order of last writes since the array was made or restarted. Blocks in mirrored groups are marked.
+    /// The order of last writes since the array was made or restarted. Blocks in mirrored groups are marked. Kept, because a log
+    /// that was shortened has lost it.
     pub ages: MarkedAges,
     /// The end of the write log.
     pub end: LogEnd,
@@ -34,8 +35,10 @@ impl Planner {
         ensures marks { IfOk result (λ planner. AreMarked planner.ages.marks array.now.parts.groups (key_at array.now)) }
         ensures end { IfOk result (λ planner. planner.end ≡ at_start) }
     {
+        // For its clause, the array's invariant: it does nothing.
         array.whole();
         let mut ages = MarkedAges::new(alloc, array.shape().blocks)?;
+        // A restarted array has blocks: their marks are known, the order of their writes isn't.
         mark_stored(&mut ages, array);
         Ok(Planner {
             ages,
@@ -62,7 +65,7 @@ impl Planner {
         ensures same { self.new ≡ self.old }
     {
         array.whole();
-        // This passes the turns before the oldest for good.
+        // First the oldest: this passes the turns before it for good, and the search after it starts there.
         let oldest = self.oldest_mirrored(array);
         let readable = self.ages.oldest_picked(&Readable { array });
         match below(readable, array.shape().blocks) {
@@ -101,6 +104,7 @@ impl Planner {
     {
         array.whole();
         let counts = live_counts(array);
+        // Held or not, because plans follow the map and not each short claim: a held slot is answered by `NoRoom`.
         let append = self.next_append(array, &Any);
         clean_plan_counted(
             array.groups(),
@@ -137,6 +141,7 @@ impl Planner {
         ensures end { self.new.end ≡ self.old.end }
     {
         let block = committed.block;
+        // Else `wrote` would be called for a block that has no turn.
         if block as usize >= self.ages.len() {
             return;
         }
@@ -164,7 +169,8 @@ fn live_counts<D: Drive, C: Hold>(array: &Array<D, C>) -> &[u16; GROUPS]
     array.live_counts()
 }
 
-// The block, if it is below `blocks`.
+// The block, if it is below `blocks`. Callers may pass another array than the planner's, so the bound isn't known without the
+// test.
 fn below(block: Option<u32>, blocks: u32) -> Option<u32>
     ensures within { MatchOption result (Unit {0}) (λ block. block < blocks) }
     ensures same { MatchOption block (Unit {0}) (λ block. block < blocks) → result ≡ block }

@@ -22,6 +22,7 @@ impl<D: Drive> Tiers<D> {
         ensures room { SameSizes self.old.world.array self.new.world.array }
     {
         let array = self.world.array();
+        // Before the slot: without a block the answer is `Nothing`, also where there is no room.
         let Some(block) = self.planner.oldest_mirrored(array) else {
             return Ok(Outcome::Nothing)
         };
@@ -41,6 +42,7 @@ impl<D: Drive> Tiers<D> {
         ensures room { SameSizes self.old.world.array self.new.world.array }
     {
         match self.planner.plug(self.world.array()) {
+            // By `put`, not `append`: a plug's target is never the write group, so the log's end stays.
             Some(plan) => self.put(alloc, plan.to, plan.block, None),
             None => Ok(Outcome::Nothing),
         }
@@ -76,6 +78,7 @@ impl<D: Drive> Tiers<D> {
     {
         match self.put(alloc, slot, block, None) {
             Ok(Outcome::Placed(record)) => {
+                // Only after the commit: the slot of a refused copy is free again, and the log goes on at it.
                 self.planner.appended(slot);
                 Ok(Outcome::Placed(record))
             }

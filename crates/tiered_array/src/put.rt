@@ -32,6 +32,7 @@ impl<D: Drive> Tiers<D> {
     {
         match self.world.place(alloc, slot, block, given) {
             Ok(placed) => {
+                // In both tables, because nobody asks for the class of the place that was left.
                 hint_left(&mut self.hints, placed.left);
                 hint_left(&mut self.holes, placed.left);
                 self.planner.note(self.world.array(), placed.newest);

@@ -15,7 +15,8 @@ use std::alloc::AllocError;
 use step_core::{Drive, Refusal, World};
 
 /// Moves one extent from a drive of greatest load to one of least, of those pairs whose loads (extents in groups) are two
-/// apart or more; `Nothing` where there is no such pair, or none that may be moved.
+/// apart or more; `Nothing` where there is no such pair, or none that may be moved. Refused as the move is: with `DriveLost`
+/// where the target fails, or with `Gone` where the giving drive does and a unit can't be rebuilt.
 pub fn balance<D: Drive>(world: &mut World<D>) -> Result<Regrouped, AllocError>
     ensures ok { IfOk result (λ outcome. (F : Flat) → Represents world.old F → (G : Flat) × BalanceCase F outcome G × Represents world.new G) }
     ensures evens { IfOk result (λ outcome. IfMoved outcome (sum_of_squares world.new.array.parts.owners + 2 ≤ sum_of_squares world.old.array.parts.owners)) }
@@ -31,7 +32,8 @@ pub fn balance<D: Drive>(world: &mut World<D>) -> Result<Regrouped, AllocError>
 
 /// Rebuilds one extent of a lost drive on a present one: that of the lowest group that has one there, on the drive of least
 /// load that has room and no member of the group. `Nothing` where the drive isn't lost, no group is on it, or that group has
-/// no such drive; refused as a bad member where there is no drive of that number.
+/// no such drive. Refused with `BadMember` where there is no drive of that number. The move is refused with `Gone` and the
+/// group's lowest such slot where a unit can't be rebuilt, or with `DriveLost` where the target fails.
 pub fn rebuild<D: Drive>(world: &mut World<D>, drive: u8) -> Result<Regrouped, AllocError>
     ensures ok { IfOk result (λ outcome. (F : Flat) → Represents world.old F → (G : Flat) × RebuildCase F drive outcome G × Represents world.new G) }
     ensures err { OnErr result (world.new ≡ world.old) }
@@ -39,6 +41,7 @@ pub fn rebuild<D: Drive>(world: &mut World<D>, drive: u8) -> Result<Regrouped, A
         × IsAllocating F (MoveExtent s.group s.member s.to)) }
     ensures room { SameSizes world.old.array world.new.array }
 {
+    // Before the plan, which is for numbers below 16, and says `Nothing` of a drive that isn't there.
     if drive >= world.array().drive_count() {
         return Ok(Regrouped::Refused(Refusal::BadMember));
     }
@@ -53,6 +56,7 @@ fn plan_balance<D: Drive>(world: &World<D>) -> Option<Shift>
     ensures evens { IfSome result (Evens world.now.array.parts.groups world.now.array.parts.owners) }
     ensures whole { IsWhole world.now.array }
 {
+    // For its clause, which the plans require: the tables agree.
     world.whole();
     let array = world.array();
     balance_plan(array.extents(), array.groups(), &array.lost())
@@ -64,6 +68,7 @@ fn plan_rebuild<D: Drive>(world: &World<D>, drive: u8) -> Option<Shift>
         × IsRebuild world.now.array.parts.owners world.now.array.parts.groups lost drive result }
     ensures whole { IsWhole world.now.array }
 {
+    // For its clause, which the plans require: the tables agree.
     world.whole();
     let array = world.array();
     rebuild_plan(array.extents(), array.groups(), &array.lost(), drive)

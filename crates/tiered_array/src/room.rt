@@ -34,6 +34,7 @@ impl<D: Drive> Tiers<D> {
         ensures room { SameSizes self.old.world.array self.new.world.array }
     {
         let array = self.world.array();
+        // Before the slot: without a block the answer is `Nothing`, also where there is no room.
         let Some(block) = self.planner.due(array) else {
             return Ok(Outcome::Nothing)
         };
@@ -44,6 +45,7 @@ impl<D: Drive> Tiers<D> {
         let Some(slot) = self.any_hole() else {
             return Ok(Outcome::NoRoom)
         };
+        // By `put`, not `append`: the log goes on nowhere, so its end stays.
         self.put(alloc, slot, block, None)
     }
 
@@ -116,7 +118,8 @@ impl<D: Drive> Tiers<D> {
         }
     }
 
-    // The lowest free slot of mirrored groups that can be written; where none can, the lowest free one.
+    // The lowest free slot of mirrored groups that can be written; where none can, the lowest free one. The latter is tried so
+    // that the refusal names a slot.
     fn any_mirror(&mut self) -> Option<u16>
         ensures first { (T : Tiered) → RepresentsTiers self.old T → IsFirstOf (IsFreeMirror T.flat) (IsOpenMirror T) result × RepresentsTiers self.new T }
         ensures same { self.new.world ≡ self.old.world }
@@ -127,7 +130,8 @@ impl<D: Drive> Tiers<D> {
         }
     }
 
-    // The lowest free slot of mirrored groups that can be written. Where the lowest free one is gone, all are looked at.
+    // The lowest free slot of mirrored groups that can be written. Where the lowest free one is gone, all are looked at. The
+    // hints are asked first, because with no drive lost the lowest free slot is the answer.
     fn open_mirror(&mut self) -> Option<u16>
         ensures first { (T : Tiered) → RepresentsTiers self.old T → IsFirst (IsOpenMirror T) result × RepresentsTiers self.new T }
         ensures same { self.new.world ≡ self.old.world }
@@ -141,7 +145,8 @@ impl<D: Drive> Tiers<D> {
         first_mirror(self.world.array().groups(), &Open { world: &self.world })
     }
 
-    // The lowest free slot of parity groups that can be written; where none can, the lowest free one.
+    // The lowest free slot of parity groups that can be written; where none can, the lowest free one. The latter is tried so
+    // that the refusal names a slot.
     fn any_hole(&mut self) -> Option<u16>
         ensures first { (T : Tiered) → RepresentsTiers self.old T → IsFirstOf (IsHole T) (IsOpenHole T) result × RepresentsTiers self.new T }
         ensures same { self.new.world ≡ self.old.world }
@@ -152,7 +157,8 @@ impl<D: Drive> Tiers<D> {
         }
     }
 
-    // The lowest free slot of parity groups that can be written. Where the lowest free one is gone, all are looked at.
+    // The lowest free slot of parity groups that can be written. Where the lowest free one is gone, all are looked at. The
+    // hints are asked first, because with no drive lost the lowest free slot is the answer.
     fn open_hole(&mut self) -> Option<u16>
         ensures first { (T : Tiered) → RepresentsTiers self.old T → IsFirst (IsOpenHole T) result × RepresentsTiers self.new T }
         ensures same { self.new.world ≡ self.old.world }

@@ -17,7 +17,7 @@ use std::alloc::{AllocError, Global};
 use step_core::{Answer, Drive, HotSwap, Refusal, Visit};
 
 impl<D: Drive> Tiers<D> {
-    /// Claims a slot that nobody holds.
+    /// Claims a slot that nobody holds, also one of no group; answers `Taken` where somebody holds it.
     pub fn claim(&mut self, worker: u8, slot: u16) -> Answer
         ensures flat { (T : Tiered) → RepresentsTiers self.old T
             → (U : Tiered) × StepNoted T (f.Claim worker slot) (flat_answer result) U × RepresentsTiers self.new U }
@@ -26,7 +26,8 @@ impl<D: Drive> Tiers<D> {
         self.world.claim(worker, slot)
     }
 
-    /// Fills a slot that the worker holds with a payload. It allocates nothing, and never runs out of memory.
+    /// Fills a slot that the worker holds with a payload. Answers `NotHeld` where it doesn't, also of its ticket's slot;
+    /// refused with `NoGroup`, `WrongClass` of a parity slot, then `Gone`. It allocates nothing, and never runs out of memory.
     pub fn fill(&mut self, worker: u8, slot: u16, payload: &[u8]) -> Result<Answer, AllocError>
         requires { length payload.now ≡ self.old.world.array.parts.groups.payload }
         ensures ok { IfOk result (λ answer. (T : Tiered) → RepresentsTiers self.old T
@@ -37,7 +38,9 @@ impl<D: Drive> Tiers<D> {
         self.world.fill(worker, slot, payload)
     }
 
-    /// Copies what a block holds into a slot that the worker holds. It allocates nothing, and never runs out of memory.
+    /// Copies what a block holds into a slot that the worker holds. Answers `NotHeld` where it doesn't, also of its ticket's
+    /// slot; refused with `NoGroup`, `Unwritten`, `HopsSpent`, then `Gone` with the block's slot or this one. It allocates
+    /// nothing, and never runs out of memory.
     pub fn copy(&mut self, worker: u8, slot: u16, block: u32) -> Result<Answer, AllocError>
         requires { block < self.old.world.array.parts.groups.blocks }
         ensures ok { IfOk result (λ answer. (T : Tiered) → RepresentsTiers self.old T
@@ -48,7 +51,8 @@ impl<D: Drive> Tiers<D> {
         self.world.copy(worker, slot, block)
     }
 
-    /// Discards what waits in a slot for the worker, who has its claim again.
+    /// Discards what waits in a slot for the worker, who has its claim again; refused with `NoTicket` where nothing waits
+    /// there. The unit stays.
     pub fn discard(&mut self, worker: u8, slot: u16) -> Answer
         ensures flat { (T : Tiered) → RepresentsTiers self.old T
             → (U : Tiered) × StepNoted T (f.Discard worker slot) (flat_answer result) U × RepresentsTiers self.new U }
@@ -58,6 +62,7 @@ impl<D: Drive> Tiers<D> {
     }
 
     /// Reads a block's last write into a buffer of a payload's length: its version, or none where there is none or a trim.
+    /// Refused with `Gone`. Without a version the buffer may hold any bytes.
     pub fn read_into(&mut self, block: u32, payload: &mut [u8]) -> Result<Option<u32>, Refusal>
         requires block { block < self.old.world.array.parts.groups.blocks }
         requires payload { length payload.old ≡ self.old.world.array.parts.groups.payload }
@@ -97,7 +102,8 @@ impl<D: Drive> Tiers<D> {
         self.world.shorten_log(alloc)
     }
 
-    /// Reads what lies at a record's place.
+    /// Reads what lies at a record's place. Refused with `Ahead` where the record is greater than the block's newest, then
+    /// with `Gone`.
     pub fn read_at(&mut self, alloc: Global, asked: Record) -> Result<Answer, AllocError>
         requires { asked.block < self.old.world.array.parts.groups.blocks }
         ensures ok { IfOk result (λ answer. (T : Tiered) → RepresentsTiers self.old T
@@ -130,7 +136,7 @@ impl<D: Drive> Tiers<D> {
 }
 
 impl<D: HotSwap> Tiers<D> {
-    /// Loses a drive from outside; refused where there is none of that number.
+    /// Loses a drive from outside, also one that is lost; refused with `BadMember` where there is none of that number.
     pub fn lose(&mut self, drive: u8) -> Answer
         ensures flat { (T : Tiered) → RepresentsTiers self.old T
             → (U : Tiered) × StepNoted T (f.Lose drive) (flat_answer result) U × RepresentsTiers self.new U }
@@ -141,7 +147,7 @@ impl<D: HotSwap> Tiers<D> {
 }
 
 impl<D: HotSwap + Drop> Tiers<D> {
-    /// Adds a new drive, all of whose units are zero.
+    /// Adds a new drive, all of whose units are zero; refused with `Full` where there are 16.
     pub fn add_drive(&mut self, alloc: Global) -> Result<Answer, AllocError>
         ensures ok { IfOk result (λ answer. (T : Tiered) → RepresentsTiers self.old T
             → (U : Tiered) × StepNoted T f.AddDrive (flat_answer answer) U × RepresentsTiers self.new U) }

@@ -21,7 +21,8 @@ use step_core::{Answer, Class, Drive, MemDrive, Member, World};
 pub struct Tiers<D: Drive = MemDrive> {
     pub(crate) world: World<D>,
     pub(crate) planner: Planner,
-    // The slots of mirrored groups that may be free, and those of parity groups.
+    // The slots of mirrored groups that may be free, and those of parity groups. Two tables, because a search for one class
+    // clears the other class's slots.
     pub(crate) hints: FreeHints,
     pub(crate) holes: FreeHints,
 }
@@ -54,7 +55,7 @@ impl<D: Drive + Drop> Tiers<D> {
 }
 
 impl<D: Drive> Tiers<D> {
-    /// The world, for the calls that only read it.
+    /// The world, for the calls that only read it. Changes go through `Tiers` alone, else planner and hints would miss them.
     pub fn world(&self) -> &World<D>
         ensures { result.now ≡ self.now.world }
     {
@@ -68,7 +69,8 @@ impl<D: Drive> Tiers<D> {
         self.world
     }
 
-    /// Commits a slot that waits for the worker, and notes the write where what waited was a fresh payload or trim.
+    /// Commits a slot that waits for the worker, and notes the write where what waited was a fresh payload or trim. Refused
+    /// with `NoTicket`, then `VersionSpent` of a fresh content or `Outrun` of a copy, `LogFull`, `Gone`: the ticket stays.
     pub fn commit(
         &mut self,
         alloc: Global,
@@ -86,23 +88,27 @@ impl<D: Drive> Tiers<D> {
         let Answer::Committed(record) = answer else {
             return Ok(answer);
         };
+        // The old place isn't hinted: the worker holds it until it is released.
         self.planner.note(self.world.array(), record);
         Ok(Answer::Committed(record))
     }
 
-    /// Releases a slot that the worker holds.
+    /// Releases a slot that the worker holds; answers `NotHeld` where it doesn't, also of its ticket's slot.
     pub fn release(&mut self, worker: u8, slot: u16) -> Answer
         ensures flat { (T : Tiered) → RepresentsTiers self.old T
             → (U : Tiered) × StepNoted T (f.Release worker slot) (flat_answer result) U × RepresentsTiers self.new U }
         ensures room { SameSizes self.old.world.array self.new.world.array }
     {
         let answer = self.world.release(worker, slot);
+        // Whatever the answer: a hint too many costs one test, a hint too few hides a free slot. In both tables, because
+        // nobody asks for the slot's class.
         self.hints.add(slot);
         self.holes.add(slot);
         answer
     }
 
-    /// Makes a group.
+    /// Makes a group under the lowest free number. Refused with `BadMember`, `SameDrive`, `ExtentTaken`, `DriveLost`, then
+    /// `Full`; or with `DriveLost` where a drive fails while its extent is wiped.
     pub fn make(
         &mut self,
         alloc: Global,
@@ -120,7 +126,8 @@ impl<D: Drive> Tiers<D> {
         Ok(answer)
     }
 
-    /// Dissolves a group of which the worker holds all slots.
+    /// Dissolves a group of which the worker holds all slots; refused with `NoGroup`, or `SlotsHeld` and the lowest slot that
+    /// it doesn't hold. Hints no slot: its group's number holds them from then on.
     pub fn unmake(&mut self, alloc: Global, worker: u8, group: u16) -> Result<Answer, AllocError>
         ensures ok { IfOk result (λ answer. (T : Tiered) → RepresentsTiers self.old T
             → (U : Tiered) × StepNoted T (f.Unmake worker group) (flat_answer answer) U × RepresentsTiers self.new U) }

@@ -30,6 +30,7 @@ impl<D: Drive> Tiers<D> {
             return self.put(alloc, slot, block, Some(given));
         }
         match self.demote(alloc) {
+            // Also after `NoRoom`, `Nothing` or a refusal: the demotion then freed no slot, and the second look says so.
             Ok(_) => self.write_after_demotion(alloc, block, given),
             Err(_) => Err(AllocError),
         }

@@ -23,6 +23,7 @@ impl<D: Drive> Counted<D> {
         self.calls
     }
 
+    // Counts a call, before it is made: one that fails counts too.
     fn count(&mut self)
         ensures { self.new.drive ≡ self.old.drive }
     {

@@ -3,7 +3,7 @@ ghost use Rattle.std.specs.Prelude.{◌≡◌, IfSome};
 
 use step_core::{Hold, TakeBack};
 
-/// How many slots the desk has claims of.
+/// How many slots the desk has claims of. Those of groups 0 and 1.
 const SEATS: usize = 256;
 
 /// A claim of a slot, which only a desk makes.

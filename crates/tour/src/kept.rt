@@ -27,7 +27,8 @@ fn opened(alloc: Global, shape: &Shape, disk: Disk) -> Result<FileDrive<Disk>> {
 }
 
 impl Volume<FileDrive<Disk>> {
-    /// The array that is found after a crash, by the headers of its disks.
+    /// The array that is found after a crash, by the headers of its disks. A drive is closed for its disk, because what a
+    /// drive keeps in memory is lost with the process.
     pub(crate) fn crash(self) -> Result<Volume<FileDrive<Disk>>> {
         let Volume { alloc, array, desk } = self;
         let Ok((mut parts, seats)) = array.into_parts(alloc) else {
@@ -45,7 +46,8 @@ impl Volume<FileDrive<Disk>> {
     }
 }
 
-/// Writes two blocks, and makes the first durable before the second: both blocks after a crash.
+/// Writes two blocks, and makes the first durable before the second. Returns what both are after a crash: the second is
+/// absent, since nothing synced it.
 pub(crate) fn keep(alloc: Global, shape: Shape) -> Result<(Option<[u8; 8]>, Option<[u8; 8]>)> {
     let drives = open_disks(alloc, &shape)?;
     let mut volume = Volume::new(alloc, shape, drives, Desk::new())?;

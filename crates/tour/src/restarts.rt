@@ -13,7 +13,8 @@ use std::alloc::Global;
 use step_core::{Drive, MemDrive, TakeBack};
 use unit_store::Parts;
 
-// Whether the parts fit one another.
+// Whether the parts fit one another. `restart` requires it, and no clause says it of parts that were changed by one's own
+// code.
 fn are_fit<D: Drive>(parts: &Parts<D>) -> bool
     ensures { IsTrue result → IsFit D.units parts.now }
 {

@@ -80,6 +80,7 @@ impl<D: Drive + Drop> Volume<D> {
     /// Makes a group of an extent of this number on each of three drives: its number.
     pub(crate) fn make(&mut self, class: Class, drives: [u8; 3], extent: u16) -> Result<u16> {
         let members = drives.map(|drive| Member { drive, extent });
+        // No seats come: the array keeps those of a dissolved group, and none was dissolved.
         let (group, _seats) = self.array.make_group(self.alloc, class, &members)?;
         Ok(group)
     }
@@ -107,7 +108,8 @@ impl<D: Drive + Drop> Volume<D> {
         self.commit(trimmed, block)
     }
 
-    // Commits what waits. The claim that is free then goes to the desk.
+    // Commits what waits. The claim that is free then goes to the desk. A refusal is taken too, so that its claim goes back
+    // here and nowhere else.
     fn commit(&mut self, waits: Result<Ticket, (Refusal, Seat)>, block: u32) -> Result<Record> {
         let ticket = match waits {
             Ok(ticket) => ticket,
@@ -116,6 +118,7 @@ impl<D: Drive + Drop> Volume<D> {
                 return Err(refusal.into());
             }
         };
+        // `commit` requires a block of the array. The ticket is discarded, else it would hold its slot.
         if block >= self.array.shape().blocks {
             self.give_up(ticket);
             bail!("no such block");

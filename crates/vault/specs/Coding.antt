@@ -39,11 +39,11 @@ code units es = word (length es) ++ (entries_code es ++ units)
 abbrev pub packed_units : List ℕ → List ℕ
 packed_units bytes = drop (32 * number bytes) (drop 8 bytes)
 
--- the writes for which bytes stand
+-- the writes that bytes represent
 abbrev pub decoded : List ℕ → List Intended
 decoded bytes = writes_in (packed_units bytes) (entries_at (number bytes) (drop 8 bytes))
 
--- an entry's numbers are in range, for so many bytes of units
+-- an entry's numbers are in range, for a number of bytes of units
 pub record IsGoodEntry (units : ℕ) (e : Entry) : Type 0 where
   pub drive : e.place.drive < 2 ^ 8
   pub address : e.place.address < 2 ^ 32
@@ -54,7 +54,7 @@ abbrev pub AreGood : ℕ → List Entry → Type 0
 AreGood units [] = Unit {0}
 AreGood units (e ∷ es) = IsGoodEntry units e × AreGood units es
 
--- bytes that stand for a batch
+-- bytes that represent a batch
 pub record IsCode (bytes : List ℕ) : Type 0 where
   pub counted : 8 ≤ length bytes
   pub table : 8 + 32 * number bytes ≤ length bytes
@@ -68,7 +68,7 @@ abbrev pub AreSmall : List Entry → Type 0
 AreSmall [] = Unit {0}
 AreSmall (e ∷ es) = IsSmall e × AreSmall es
 
--- bytes with a batch behind them
+-- bytes with a batch after them
 pub record Encodes (old new : List ℕ) (writes : List Intended) : Type 0 where
   pub code : List ℕ
   pub bytes : new ≡ old ++ code

@@ -1,4 +1,4 @@
--- What lies in a vault, and which units it stands for.
+-- What lies in a vault, and which units it represents.
 use Rattle.std.specs.Prelude.{◌≡◌, ℕ, Bool, false, Option, Some, None, List, [], ◌∷◌, ◌++◌, slice_get}
 use Rattle.extent_groups.specs.declared.place.Place.{Place}
 use Rattle.extent_groups.specs.Cells.{Cells, held}
@@ -14,7 +14,7 @@ abbrev pub flat : List (List Intended) → List Intended
 flat [] = []
 flat (writes ∷ batches) = writes ++ flat batches
 
--- the units that an image stands for: those after the writes of its journal
+-- the units that an image represents: those after the writes of its journal
 abbrev pub recovered : Image → Cells
 recovered i = after i.cells (flat i.journal)
 
@@ -46,6 +46,6 @@ with_write i place unit = record { cells = with_unit i.cells (record { place = p
 abbrev pub with_journal : Image → List (List Intended) → Image
 with_journal i batches = record { cells = i.cells; journal = batches }
 
--- an image stands for these units, but for those of lost drives
+-- an image represents these units, but for those of lost drives
 abbrev pub Matches : List Bool → Cells → Image → Type 0
 Matches lost cells i = SameOn lost (recovered i) cells

@@ -123,14 +123,14 @@ pub record IsLogged {V : Type 0} (seen : V → Image) (may_leave : V → Stop �
 abbrev pub AreLogged : {V : Type 0} → (V → Image) → (V → Stop → Image → Type 0) → List Bool → V → Type 0
 AreLogged seen may_leave lost vault = (stop : Stop) → IsLogged seen may_leave lost stop vault (length (seen vault).journal)
 
--- an image stands for the units of after the first of some batches, `low` of them at least, none left out and none in part
+-- an image represents the units of after the first of some batches, `low` of them at least, none left out and none in part
 pub record RepresentsSome (lost : List Bool) (cells : Cells) (low : ℕ) (batches : List (List Intended)) (i : Image) : Type 0 where
   pub count : ℕ
   pub least : low ≤ count
   pub most : count ≤ length batches
   pub matches : Matches lost (after cells (flat (take count batches))) i
 
--- an image stands for these units, or for those of after a batch
+-- an image represents these units, or those of after a batch
 abbrev pub IsBeforeOrAfter : List Bool → Cells → List Intended → Image → Type 0
 IsBeforeOrAfter lost cells writes i = Matches lost cells i ⊎ Matches lost (after cells writes) i
 
@@ -161,7 +161,7 @@ pub record IsSettled {V : Type 0} (seen : V → Image) (may_leave : V → Stop �
   pub durable : AreLogged seen may_leave lost new
   pub cells : SameOn lost (seen new).cells (recovered (seen old))
 
--- the journal is as before and durable, and the vault stands for the same units
+-- the journal is as before and durable, and the vault represents the same units
 pub record IsPreserved {V : Type 0} (seen : V → Image) (may_leave : V → Stop → Image → Type 0) (lost : List Bool) (old new : V) : Type 0 where
   pub journal : (seen new).journal ≡ (seen old).journal
   pub durable : AreLogged seen may_leave lost new

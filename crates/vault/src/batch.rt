@@ -8,7 +8,8 @@ use extent_groups::Place;
 use std::alloc::{AllocError, Global};
 use std::marker::Model;
 
-/// How many of the last writes are looked at for one with the same unit.
+/// How many of the last writes are looked at for one with the same unit. A new unit is compared with all of them, so without a
+/// bound a long batch would take quadratic time.
 const LOOKED_AT: usize = 64;
 
 /// The byte that is compared first: the low one of a header's slot number, in which most units differ.
@@ -27,7 +28,8 @@ struct Entry {
 pub struct Batch {
     entries: Vec<Entry>,
     units: Vec<u8>,
-    /// The write after the one that last had the same unit as another: the next pair's may be there.
+    /// The write after the one that last had the same unit as another: the next pair's may be there. It may be out of date or
+    /// past the end, since it is only where to look first.
     hint: usize,
 }
 
@@ -71,6 +73,7 @@ impl Batch {
             from,
             to: from + unit.len(),
         };
+        // If this fails, the unit's bytes stay, and no write has them.
         self.entries.push(entry)?;
         Ok(())
     }
@@ -83,7 +86,7 @@ impl Batch {
         self.units.clear();
     }
 
-    /// Takes all writes but the first `count` away.
+    /// Takes all writes but the first `count` away. The bytes of their units stay, and are encoded with the others.
     #[tactic(auto, using(crate::proofs::Held::writes_front, crate::proofs::Held::within_front))]
     pub fn truncate(&mut self, count: usize)
         ensures { self.new ≡ take count self.old }
@@ -131,6 +134,7 @@ impl Batch {
     {
         self.entries.clear();
         self.units.clear();
+        // Before the entries, which are in range only with these bytes: a failure leaves none of them.
         self.units.extend_from_slice(&other.units)?;
         self.entries.extend_from_slice(&other.entries)
     }
@@ -141,10 +145,12 @@ impl Batch {
     {
         put_number(out, self.entries.len())?;
         put_entries(out, &self.entries)?;
+        // Last, because they need no length: they are all bytes that are left.
         out.extend_from_slice(&self.units)
     }
 
-    /// Becomes the batch for which bytes stand. False where they stand for none.
+    /// Becomes the batch that bytes represent. False where they represent none. If false or out of memory, it may have any
+    /// writes.
     pub fn decode(&mut self, bytes: &[u8]) -> Result<bool, AllocError>
         ensures decoded { IfOk result (λ is. IsTrue is → self.new ≡ decoded bytes.now) }
         ensures is { IfOk result (λ is. IsTrue is ↔ IsCode bytes.now) }
@@ -160,7 +166,8 @@ impl Batch {
     }
 }
 
-// Whether the telling byte of a unit is another than that of the unit at `from`.
+// Whether the telling byte of a unit is another than that of the unit at `from`. Most units differ there, so that one
+// comparison of a byte spares one of a whole unit.
 fn differ(units: &[u8], from: usize, unit: &[u8]) -> bool
     ensures { IsTrue result → (to : ℕ) → slice_range units.now from to ≡ unit.now → ⊥ }
 {
@@ -176,6 +183,7 @@ fn is_unit_of(entries: &[Entry], units: &[u8], index: usize, unit: &[u8]) -> boo
     requires { AreWithin units.now entries.now }
     ensures { IsTrue result ↔ IsUnitOf units.now entries.now index unit.now }
 {
+    // A hint may be past the end.
     if index >= entries.len() {
         return false;
     }
@@ -252,7 +260,7 @@ fn put_entry(out: &mut Vec<u8>, entry: &Entry) -> Result<(), AllocError>
     put_number(out, entry.to)
 }
 
-// Reads entries that are in range for so many bytes of units. False where one isn't.
+// Reads `count` entries that are in range for `units` bytes of units. False where one isn't.
 #[tactic(auto, using(crate::proofs::Codes::tail_is, crate::proofs::Codes::good_at, crate::proofs::Codes::good_more))]
 fn read_entries(
     entries: &mut Vec<Entry>,
@@ -286,6 +294,7 @@ fn read_entry(bytes: &[u8], units: usize) -> Option<Entry>
     let address = number(&bytes[8..]);
     let from = number(&bytes[16..]);
     let to = number(&bytes[24..]);
+    // Tested here, so that no bytes of a file can make `unit` read past the end.
     if drive > 255 || address > u32::MAX as usize || from > to || to > units {
         return None;
     }

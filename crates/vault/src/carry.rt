@@ -30,6 +30,7 @@ pub fn settle<V: Vault>(
     ensures cause { V.known vault.old → HasCause (λ d. is_lost_of lost.now d ≡ false) (V.faults vault.old) (V.faults vault.new) result }
 {
     write_batches(vault, batch, lost)?;
+    // Before the journal is emptied: else a loss of power could leave neither a unit nor the batch that has it.
     vault.sync_units(lost)?;
     vault.clear()
 }
@@ -46,6 +47,7 @@ fn write_batches<V: Vault>(
     ensures written { V.known vault.old → OnOk result (SameOn lost.now (Image.cells (V.seen vault.new)) (recovered (V.seen vault.old))) }
     ensures cause { V.known vault.old → HasCause (λ d. is_lost_of lost.now d ≡ false) (V.faults vault.old) (V.faults vault.new) result }
 {
+    // Each place once takes fewer writes, but a set of places; all in order takes none.
     if write_last(vault, batch, lost)? {
         return Ok(());
     }
@@ -53,6 +55,7 @@ fn write_batches<V: Vault>(
 }
 
 // Writes the last unit of each place, the last batch first. False where the places can't be kept: then some units are written.
+// Those are written again by `write_all`, since the journal is as it was.
 fn write_last<V: Vault>(
     vault: &mut V,
     batch: &mut Batch,
@@ -66,6 +69,7 @@ fn write_last<V: Vault>(
     let mut made = Places::new(batch.allocator());
     let count = vault.batches()?;
     for done in 0..count {
+        // The last batch first, so that the first unit of a place is the one that stays.
         vault.read_batch(count - 1 - done, batch)?;
         if !write_fresh(vault, batch, lost, &mut made)? {
             return Ok(false);
@@ -147,7 +151,7 @@ fn write_all<V: Vault>(
     Ok(())
 }
 
-// Writes the units of a batch that is in the journal.
+// Writes the units of a batch that is in the journal. In their order: a later unit of a place goes over an earlier one.
 fn write_units<V: Vault>(
     vault: &mut V,
     batch: &Batch,

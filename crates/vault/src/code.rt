@@ -32,6 +32,7 @@ pub(crate) fn count_in(bytes: &[u8]) -> Option<usize>
         return None;
     }
     let count = number(bytes);
+    // By a division: 32 times a count that bytes spell may be past 64 bits.
     if count > (bytes.len() - 8) / 32 {
         return None;
     }

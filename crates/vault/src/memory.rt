@@ -12,7 +12,7 @@ use extent_groups::Place;
 use extents::DRIVES;
 use std::alloc::Global;
 
-/// A call that was carried out.
+/// A call that was carried out. Calls are kept, not what they did, because what a stop leaves depends on which were synced.
 #[derive(Drop)]
 enum Call {
     Unit(Place, Vec<u8>),
@@ -118,6 +118,7 @@ fn find_in(call: &Call, count: usize, index: usize, found: &mut Batch) -> Result
 fn find_unit(calls: &[Call], place: Place, out: &mut [u8]) -> bool
     ensures { IsUnitAt (Image.cells (seen_at calls.now)) place out.new result }
 {
+    // At first each place holds a unit without bytes.
     let mut there = out.is_empty();
     for call in calls {
         there = unit_after(call, place, there, out);

@@ -7,10 +7,11 @@ use crate::store::TABLE;
 use extent_groups::Place;
 use std::alloc::{AllocError, Global};
 
-/// A set of places of drives and of the table.
+/// A set of places of drives and of the table. Marks, so that neither a test nor a new place searches.
 #[derive(Drop)]
 pub(crate) struct Places {
-    /// A mark for each drive and the table at address 0, then at address 1, and so on.
+    /// A mark for each drive and the table at address 0, then at address 1, and so on, so that there are marks only up to the
+    /// greatest address that was put.
     marks: Vec<bool>,
 }
 
@@ -66,6 +67,7 @@ impl Places {
     pub(crate) fn put(&mut self, place: Place) -> bool
         ensures { IsTrue result → (x : Place) → Has self.new.marks.items x ↔ (Has self.old.marks.items x ⊎ (place ≡ x)) }
     {
+        // Else its mark would be that of another place.
         if place.drive > TABLE {
             return false;
         }

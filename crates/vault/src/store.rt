@@ -11,7 +11,8 @@ use extent_groups::Place;
 use extents::DRIVES;
 use std::alloc::{AllocError, AllocFailed};
 
-/// The drive number of the table, which says which drives are lost: one unit, at address 0.
+/// The drive number of the table, which says which drives are lost: one unit, at address 0. As a place like any other it goes
+/// through batches, so that a loss is noted together with the writes that skipped the drive.
 pub const TABLE: u8 = 16;
 
 /// How a run ends.
@@ -26,7 +27,7 @@ pub enum Stop {
 /// Why a call of a vault fails.
 #[derive(Clone, Copy, Debug, PartialEq, Eq)]
 pub enum VaultError {
-    /// Out of memory.
+    /// Out of memory. The journal is as it was.
     Memory,
     /// A unit isn't as long as the one at its place, or the journal is full. Nothing was changed.
     Misfit,
@@ -72,8 +73,8 @@ pub trait Vault {
     /// How often a drive, the journal or the table failed.
     ghost faults: { Self → ℕ };
 
-    /// Writes a unit over that of a place; where no unit is, nothing is written. Until a sync, a loss of power may leave any bytes
-    /// there.
+    /// Writes a unit over that of a place; where no unit is, nothing is written. Until a sync, a loss of power may leave any
+    /// bytes there. With an error the place may hold other bytes, and all other places stay.
     fn write_unit(&mut self, place: Place, unit: &[u8]) -> Result<(), VaultError>
         ensures stays { known self.old → known self.new }
         ensures written { known self.old → OnOk result (Alike (seen self.new) (with_write (seen self.old) place unit.now)) }
@@ -102,7 +103,8 @@ pub trait Vault {
             (may_leave self.old stop) (may_leave self.new stop) }
         ensures cause { known self.old → HasCause (λ d. d ≡ place.drive) (faults self.old) (faults self.new) result };
 
-    /// Appends a batch to the journal, in one piece. Until a sync, a loss of power may leave it out.
+    /// Appends a batch to the journal, in one piece. Until a sync, a loss of power may leave it out. With `Memory` or `Misfit`
+    /// nothing changes; with `Journal` a stop may leave the batch or not.
     fn append(&mut self, batch: &Batch) -> Result<(), VaultError>
         ensures stays { known self.old → known self.new }
         ensures appended { known self.old → OnOk result (Alike (seen self.new) (with_journal (seen self.old) (Image.journal (seen self.old) ++ batch.now ∷ []))) }
@@ -121,7 +123,8 @@ pub trait Vault {
             (more_batches (seen self.old) (may_leave self.old stop)) (may_leave self.new stop) }
         ensures cause { known self.old → HasCause no_drive (faults self.old) (faults self.new) result };
 
-    /// Empties the journal, in one piece, and makes that durable.
+    /// Empties the journal, in one piece, and makes that durable. With `Memory` or `Misfit` nothing changes; with `Journal` a
+    /// stop may leave the journal or an empty one.
     fn clear(&mut self) -> Result<(), VaultError>
         ensures stays { known self.old → known self.new }
         ensures cleared { known self.old → OnOk result (Alike (seen self.new) (with_journal (seen self.old) [])) }
@@ -140,7 +143,7 @@ pub trait Vault {
             (may_leave self.old stop) (may_leave self.new stop) }
         ensures cause { known self.old → HasCause no_drive (faults self.old) (faults self.new) result };
 
-    /// Reads a batch of the journal, the first of them at 0.
+    /// Reads a batch of the journal, the first of them at 0. Of an index past the last, any.
     fn read_batch(&mut self, index: usize, batch: &mut Batch) -> Result<(), VaultError>
         ensures stays { known self.old → known self.new }
         ensures batch { known self.old → index < length (Image.journal (seen self.old)) → OnOk result (slice_get (Image.journal (seen self.old)) index ≡ Some batch.new) }
