@@ -39,7 +39,7 @@ impl Trouble {
     pub(crate) fn report(&self, rt: &HostRuntime) -> io::Result<()> {
         match self {
             Trouble::Differs(_) => eprintln!(rt; "a step isn't answered as it should be"),
-            Trouble::Words => eprintln!(rt; "stops takes a folder, or nothing"),
+            Trouble::Words => eprintln!(rt; "crash_trials takes a folder, or nothing"),
             Trouble::File(file) => eprintln!(rt; "{file} can't be read"),
             Trouble::Form => eprintln!(rt; "a row can't be parsed"),
             Trouble::Line(file, line) => eprintln!(rt; "{file}: line {line} can't be parsed"),
