@@ -1,8 +1,8 @@
 // Loaded before a program: stops it at a write, and records what it writes. Standard input, output and error are left alone.
-// STOP=N: at the N-th write or sync of a file the process is killed, before it; with HALF=1 after the first half of its bytes.
-// RECORD=FILE: each write and sync that was made is appended to FILE: a kind (1 write, 2 sync), the length of the file's name, the
+// STOP=N: at the N-th write, cut or sync of a file the process is killed, before it; with HALF=1 after the first half of a write's bytes.
+// RECORD=FILE: each of them that was made is appended to FILE: a kind (1 write, 2 sync, 3 cut), the length of the file's name, the
 // offset and the length of the bytes, in eight bytes each; then the name and the bytes.
-// BREAK=NAME: from the N-th write or sync on, N by BREAK_AT, those of a file of that name fail with an input/output error.
+// BREAK=NAME: from the N-th of them on, N by BREAK_AT, those of a file of that name fail with an input/output error.
 #define _GNU_SOURCE
 #include <dlfcn.h>
 #include <errno.h>
@@ -69,6 +69,18 @@ ssize_t pwrite64(int file, const void *from, size_t bytes, off64_t at) {
 
 ssize_t pwrite(int file, const void *from, size_t bytes, off_t at) {
     return pwrite64(file, from, bytes, at);
+}
+
+int ftruncate64(int file, off64_t at) {
+    NEXT(ftruncate64);
+    if (stops(file, 0, 0, 0)) return -1;
+    int done = next(file, at);
+    if (done == 0) record(3, file, at, "", 0);
+    return done;
+}
+
+int ftruncate(int file, off_t at) {
+    return ftruncate64(file, at);
 }
 
 int fdatasync(int file) {

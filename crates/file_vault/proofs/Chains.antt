@@ -1,10 +1,11 @@
--- Batches that lie one after the other in a journal's file.
-use Rattle.std.proofs.Common.{◌≡◌, ◌≤◌, ◌<◌, ℕ, zero, suc, ◌+◌, ◌*◌, true, false, if◌then◌else◌, List, [], ◌∷◌, ◌++◌, refl, sym, ◌∙◌, ap, subst, arith, length, take}
+-- Whole records that lie one after the other in a journal's file.
+use Rattle.std.proofs.Common.{◌≡◌, ◌≤◌, ◌<◌, ℕ, zero, suc, ◌+◌, ◌*◌, ◌^◌, ◌==◌, true, List, [], ◌∷◌, ◌++◌, refl, sym, ◌∙◌, ap, subst, arith, length}
+use Rattle.std.specs.Prelude.{◌&&◌}
 use Rattle.extent_groups.specs.Planned.{Intended}
-use Rattle.vault.specs.declared.store.Stop.{Stop}
-use Rattle.vault.specs.Coding.{number, decoded, IsCode}
+use Rattle.vault.specs.Coding.{decoded, IsCode}
 use Rattle.file_vault.specs.Folders.{Bytes, part}
-use Rattle.file_vault.specs.Journals.{length_at, body_at, next_at, opens, batches_from, AreAt, AreOpen, gate_at}
+use Rattle.file_vault.specs.Records.{from_digits, are_digits, nonzero, length_at, nonzero_at, body_at, next_at, is_whole}
+use Rattle.file_vault.specs.Journals.{AreAt, place_at, most}
 
 -- the same bytes where they are read
 pub part_same : (f g : Bytes) (at count : ℕ) → ((k : ℕ) → at ≤ k → k < at + count → g k ≡ f k) → part g at count ≡ part f at count
@@ -13,91 +14,82 @@ part_same f g at (suc count) same =
     ap (λ b. b ∷ part g (suc at) count) (same at (omega arith) (omega arith))
     ∙ ap (λ bs. f at ∷ bs) (part_same f g (suc at) count (λ k low high. same k (omega (arith, low)) (omega (arith, high))))
 
--- a batch lies before the next gate
-pub at_before : (f : Bytes) (at : ℕ) → at + 9 ≤ next_at f at
+-- a record lies before the next place
+pub at_before : (f : Bytes) (at : ℕ) → at + 18 ≤ next_at f at
 at_before f at = omega arith
 
-pub end_past : (f : Bytes) (at : ℕ) (gates : List ℕ) (batches : List (List Intended)) (end : ℕ) → AreAt f at gates batches end → at + 9 * length gates ≤ end
+pub end_past : (f : Bytes) (at : ℕ) (places : List ℕ) (batches : List (List Intended)) (end : ℕ) → AreAt f at places batches end → at + 18 * length places ≤ end
 end_past f at [] [] end e = omega (arith, e)
 end_past f at [] (b ∷ bs) end e = absurd e
 end_past f at (s ∷ ss) [] end e = absurd e
-end_past f at (s ∷ ss) (b ∷ bs) end (is, code, back, more) = let later = end_past f (next_at f at) ss bs end more in omega (arith, later, at_before f at)
+end_past f at (s ∷ ss) (b ∷ bs) end (is, whole, code, back, more) = let later = end_past f (next_at f at) ss bs end more in omega (arith, later, at_before f at)
 
-pub as_many : (f : Bytes) (at : ℕ) (gates : List ℕ) (batches : List (List Intended)) (end : ℕ) → AreAt f at gates batches end → length batches ≡ length gates
+pub as_many : (f : Bytes) (at : ℕ) (places : List ℕ) (batches : List (List Intended)) (end : ℕ) → AreAt f at places batches end → length batches ≡ length places
 as_many f at [] [] end e = refl
 as_many f at [] (b ∷ bs) end e = absurd e
 as_many f at (s ∷ ss) [] end e = absurd e
-as_many f at (s ∷ ss) (b ∷ bs) end (is, code, back, more) = ap (λ n. suc n) (as_many f (next_at f at) ss bs end more)
+as_many f at (s ∷ ss) (b ∷ bs) end (is, whole, code, back, more) = ap (λ n. suc n) (as_many f (next_at f at) ss bs end more)
 
--- the length and the bytes of a batch, where files are the same
-length_same : (f g : Bytes) (at end : ℕ) → next_at f at ≤ end → ((k : ℕ) → at ≤ k → k < end → g k ≡ f k) → length_at g at ≡ length_at f at
-length_same f g at end within same = ap number (part_same f g (at + 1) 8 (λ k low high. same k (omega (arith, low)) (omega (arith, high, within, at_before f at))))
+-- so many batches can be read
+pub few_places : (f : Bytes) (places : List ℕ) (batches : List (List Intended)) (end : ℕ) → AreAt f 4096 places batches end → end ≤ 2 ^ 62 → length places + 2 < most
+unfolding most
+few_places f places batches end are inside = let past = end_past f 4096 places batches end are in omega (arith, past, inside)
 
-body_same : (f g : Bytes) (at end : ℕ) → next_at f at ≤ end → ((k : ℕ) → at ≤ k → k < end → g k ≡ f k) → body_at g at ≡ body_at f at
-body_same f g at end within same =
-    ap (λ n. part g (at + 9) n) (length_same f g at end within same)
-    ∙ part_same f g (at + 9) (length_at f at) (λ k low high. same k (omega (arith, low)) (omega (arith, high, within)))
+-- the place of a record is no further than the end
+pub place_within : (f : Bytes) (at count : ℕ) (places : List ℕ) (batches : List (List Intended)) (end : ℕ) → AreAt f at places batches end → count ≤ length places → (at ≤ place_at places end count) × (place_at places end count ≤ end)
+place_within f at zero [] [] end are le = (omega (arith, are), omega arith)
+place_within f at zero (s ∷ ss) (b ∷ bs) end are le = let past = end_past f at (s ∷ ss) (b ∷ bs) end are in let is = are.0 in (omega (arith, is), omega (arith, is, past))
+place_within f at zero [] (b ∷ bs) end are le = absurd are
+place_within f at zero (s ∷ ss) [] end are le = absurd are
+place_within f at (suc count) [] bs end are le = absurd (omega (arith, le))
+place_within f at (suc count) (s ∷ ss) [] end are le = absurd are
+place_within f at (suc count) (s ∷ ss) (b ∷ bs) end (is, whole, code, back, more) le =
+    let later = place_within f (next_at f at) count ss bs end more (omega (arith, le)) in let low = later.0 in (omega (arith, low, at_before f at), later.1)
 
--- batches are read from files that are the same up to a closed gate
-pub read_all : (stop : Stop) (most : ℕ) (f g : Bytes) (at : ℕ) (gates : List ℕ) (batches : List (List Intended)) (end : ℕ) → AreAt f at gates batches end → AreOpen stop f gates
-    → ((k : ℕ) → at ≤ k → k < end → g k ≡ f k) → opens stop (g end) ≡ false → length gates < most → batches_from stop most g at ≡ batches
-read_all stop zero f g at gates batches end are opened same shut few = absurd (omega (arith, few))
-read_all stop (suc most) f g at [] [] end are opened same shut few =
-    ap (λ b. if b then decoded (body_at g at) ∷ batches_from stop most g (next_at g at) else []) (ap (λ n. opens stop (g n)) are ∙ shut)
-read_all stop (suc most) f g at [] (b ∷ bs) end are opened same shut few = absurd are
-read_all stop (suc most) f g at (s ∷ ss) [] end are opened same shut few = absurd are
-read_all stop (suc most) f g at (s ∷ ss) (b ∷ bs) end (is, code, back, more) opened same shut few =
-    let past = end_past f (next_at f at) ss bs end more in
-    let within : next_at f at ≤ end = omega (arith, past) in
-    let gate : opens stop (g at) ≡ true = ap (opens stop) (same at (omega arith) (omega (arith, within, at_before f at)) ∙ ap f (sym is)) ∙ opened.0 in
-    let next : next_at g at ≡ next_at f at = ap (λ n. at + 9 + n) (length_same f g at end within same) in
-    ap (λ c. if c then decoded (body_at g at) ∷ batches_from stop most g (next_at g at) else []) gate
-    ∙ ap (λ w. w ∷ batches_from stop most g (next_at g at)) (ap decoded (body_same f g at end within same) ∙ back)
-    ∙ ap (λ n. b ∷ batches_from stop most g n) next
-    ∙ ap (λ l. b ∷ l) (read_all stop most f g (next_at f at) ss bs end more opened.1 (λ k low high. same k (omega (arith, low, at_before f at)) high) shut (omega (arith, few)))
+-- a record where files are the same up to the next place
+pub length_same : (f g : Bytes) (at : ℕ) → ((k : ℕ) → at ≤ k → k < at + 18 → g k ≡ f k) → length_at g at ≡ length_at f at
+length_same f g at same = ap from_digits (part_same f g at 9 (λ k low high. same k low (omega (arith, high))))
 
--- the first of them
-pub first_at : (f : Bytes) (at count : ℕ) (gates : List ℕ) (batches : List (List Intended)) (end : ℕ) → AreAt f at gates batches end → count ≤ length gates
-    → AreAt f at (take count gates) (take count batches) (gate_at gates end count)
-first_at f at zero [] [] end are le = are
-first_at f at zero (s ∷ ss) (b ∷ bs) end are le = sym are.0
-first_at f at zero [] (b ∷ bs) end are le = absurd are
-first_at f at zero (s ∷ ss) [] end are le = absurd are
-first_at f at (suc count) [] bs end are le = absurd (omega (arith, le))
-first_at f at (suc count) (s ∷ ss) [] end are le = absurd are
-first_at f at (suc count) (s ∷ ss) (b ∷ bs) end (is, code, back, more) le = (is, code, back, first_at f (next_at f at) count ss bs end more (omega (arith, le)))
+pub nonzero_same : (f g : Bytes) (at : ℕ) → ((k : ℕ) → at ≤ k → k < at + 18 → g k ≡ f k) → nonzero_at g at ≡ nonzero_at f at
+nonzero_same f g at same = ap from_digits (part_same f g (at + 9) 9 (λ k low high. same k (omega (arith, low)) (omega (arith, high))))
 
--- the place of a gate is no further than the end
-pub gate_within : (f : Bytes) (at count : ℕ) (gates : List ℕ) (batches : List (List Intended)) (end : ℕ) → AreAt f at gates batches end → count ≤ length gates → (at ≤ gate_at gates end count) × (gate_at gates end count ≤ end)
-gate_within f at zero [] [] end are le = (omega (arith, are), omega arith)
-gate_within f at zero (s ∷ ss) (b ∷ bs) end are le = let past = end_past f at (s ∷ ss) (b ∷ bs) end are in let is = are.0 in (omega (arith, is), omega (arith, is, past))
-gate_within f at zero [] (b ∷ bs) end are le = absurd are
-gate_within f at zero (s ∷ ss) [] end are le = absurd are
-gate_within f at (suc count) [] bs end are le = absurd (omega (arith, le))
-gate_within f at (suc count) (s ∷ ss) [] end are le = absurd are
-gate_within f at (suc count) (s ∷ ss) (b ∷ bs) end (is, code, back, more) le =
-    let later = gate_within f (next_at f at) count ss bs end more (omega (arith, le)) in let low = later.0 in (omega (arith, low, at_before f at), later.1)
+pub next_same : (f g : Bytes) (at : ℕ) → ((k : ℕ) → at ≤ k → k < at + 18 → g k ≡ f k) → next_at g at ≡ next_at f at
+next_same f g at same = ap (λ n. at + 18 + n) (length_same f g at same)
 
--- the same batches in files that are the same up to the end
-pub are_same : (f g : Bytes) (at : ℕ) (gates : List ℕ) (batches : List (List Intended)) (end : ℕ) → AreAt f at gates batches end → ((k : ℕ) → at ≤ k → k < end → g k ≡ f k) → AreAt g at gates batches end
+pub body_same : (f g : Bytes) (at : ℕ) → ((k : ℕ) → at ≤ k → k < next_at f at → g k ≡ f k) → body_at g at ≡ body_at f at
+body_same f g at same =
+    ap (λ n. part g (at + 18) n) (length_same f g at (λ k low high. same k low (omega (arith, high, at_before f at))))
+    ∙ part_same f g (at + 18) (length_at f at) (λ k low high. same k (omega (arith, low)) (omega (arith, high)))
+
+pub whole_same : (f g : Bytes) (at : ℕ) → ((k : ℕ) → at ≤ k → k < next_at f at → g k ≡ f k) → is_whole g at ≡ is_whole f at
+whole_same f g at same =
+    let head : (k : ℕ) → at ≤ k → k < at + 18 → g k ≡ f k = λ k low high. same k low (omega (arith, high, at_before f at)) in
+    ap (λ (l : List ℕ). are_digits l && (nonzero (body_at g at) == nonzero_at g at)) (part_same f g at 18 head)
+    ∙ ap (λ (l : List ℕ). are_digits (part f at 18) && (nonzero l == nonzero_at g at)) (body_same f g at same)
+    ∙ ap (λ n. are_digits (part f at 18) && (nonzero (body_at f at) == n)) (nonzero_same f g at head)
+
+-- the same records in files that are the same up to the end
+pub are_same : (f g : Bytes) (at : ℕ) (places : List ℕ) (batches : List (List Intended)) (end : ℕ) → AreAt f at places batches end → ((k : ℕ) → at ≤ k → k < end → g k ≡ f k) → AreAt g at places batches end
 are_same f g at [] [] end are same = are
 are_same f g at [] (b ∷ bs) end are same = absurd are
 are_same f g at (s ∷ ss) [] end are same = absurd are
-are_same f g at (s ∷ ss) (b ∷ bs) end (is, code, back, more) same =
+are_same f g at (s ∷ ss) (b ∷ bs) end (is, whole, code, back, more) same =
     let past = end_past f (next_at f at) ss bs end more in
-    let within : next_at f at ≤ end = omega (arith, past) in
-    let body = body_same f g at end within same in
-    let next : next_at g at ≡ next_at f at = ap (λ n. at + 9 + n) (length_same f g at end within same) in (
+    let here : (k : ℕ) → at ≤ k → k < next_at f at → g k ≡ f k = λ k low high. same k low (omega (arith, high, past)) in
+    let body = body_same f g at here in
+    let next = next_same f g at (λ k low high. here k low (omega (arith, high, at_before f at))) in (
       is,
+      whole_same f g at here ∙ whole,
       subst IsCode (sym body) code,
       ap decoded body ∙ back,
       subst (λ n. AreAt g n ss bs end) (sym next) (are_same f g (next_at f at) ss bs end more (λ k low high. same k (omega (arith, low, at_before f at)) high)),
     )
 
--- one batch more
-pub one_more : (f : Bytes) (at : ℕ) (gates : List ℕ) (batches : List (List Intended)) (end : ℕ) → AreAt f at gates batches end → IsCode (body_at f end)
-    → AreAt f at (gates ++ end ∷ []) (batches ++ decoded (body_at f end) ∷ []) (next_at f end)
-one_more f at [] [] end are code = (sym are, subst (λ n. IsCode (body_at f n)) (sym are) code, ap (λ n. decoded (body_at f n)) are, ap (λ n. next_at f n) are)
-one_more f at [] (b ∷ bs) end are code = absurd are
-one_more f at (s ∷ ss) [] end are code = absurd are
-one_more f at (s ∷ ss) (b ∷ bs) end (is, was, back, more) code = (is, was, back, one_more f (next_at f at) ss bs end more code)
+-- one record more
+pub one_more : (f : Bytes) (at : ℕ) (places : List ℕ) (batches : List (List Intended)) (end : ℕ) → AreAt f at places batches end → is_whole f end ≡ true → IsCode (body_at f end)
+    → AreAt f at (places ++ end ∷ []) (batches ++ decoded (body_at f end) ∷ []) (next_at f end)
+one_more f at [] [] end are full code =
+    (sym are, ap (λ n. is_whole f n) are ∙ full, subst (λ n. IsCode (body_at f n)) (sym are) code, ap (λ n. decoded (body_at f n)) are, ap (λ n. next_at f n) are)
+one_more f at [] (b ∷ bs) end are full code = absurd are
+one_more f at (s ∷ ss) [] end are full code = absurd are
+one_more f at (s ∷ ss) (b ∷ bs) end (is, whole, was, back, more) full code = (is, whole, was, back, one_more f (next_at f at) ss bs end more full code)

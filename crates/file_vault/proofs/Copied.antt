@@ -10,9 +10,8 @@ use Rattle.file_vault.specs.declared.held.Held.TheVariants.{Both, Only, Neither}
 use Rattle.file_vault.specs.declared.twin.Twin.{Twin}
 use Rattle.file_vault.specs.declared.twin.Twin.TheVariants.{First, Second}
 use Rattle.file_vault.specs.Twins.{file_of, other, count_in, Counts, after_first_block, seen_as, MergesTwins, shown, AreAlike, CopiedOver, copied_at, IsOnly, IsAvailable, IsBoth, HasCount, IsRaised, newer_of, lead_of}
-use Rattle.file_vault.proofs.Puts.{below_or}
+use Rattle.file_vault.proofs.Puts.{below_or, inside_or}
 use Rattle.file_vault.proofs.Shown.{following_eq, count_same, shows_as, seen_same, which_file, with_other}
-use Rattle.file_vault.proofs.PairCalls.{inside_or}
 
 pub not_err : {T E : Type 0} (r : Result T E) (P : Type 0) → OnOk r P → is_err r ≡ false → P
 not_err (Ok x) P ok is = ok

@@ -1,5 +1,5 @@
 -- The count of one of a journal's two files becomes another.
-use Rattle.std.proofs.Common.{◌≡◌, ◌≤◌, ◌<◌, ◌⊎◌, inl, inr, ℕ, ◌^◌, Bool, true, false, List, [], ◌∷◌, refl, sym, ◌∙◌, ap, arith, length}
+use Rattle.std.proofs.Common.{◌≡◌, ◌≤◌, ◌<◌, ◌⊎◌, inl, inr, ℕ, ◌+◌, ◌^◌, Bool, true, false, List, [], ◌∷◌, refl, sym, ◌∙◌, ap, arith, length}
 use Rattle.std.specs.Prelude.{◌==◌, not}
 use Rattle.std.specs.Int.{w64, to_le_bytes}
 use Rattle.vault.specs.Coding.{word, number}
@@ -10,7 +10,10 @@ use Rattle.file_vault.specs.Headers.{SameAfterHeader}
 use Rattle.file_vault.specs.Twins.{which_in, count_offset, mark_of, count_in, counted_at}
 use Rattle.file_vault.proofs.Chains.{part_same}
 use Rattle.file_vault.proofs.Blocks.{part_wrote}
-use Rattle.file_vault.proofs.Opened.{mixed_following}
+
+-- a write into the first block
+pub mixed_following : (file at : ℕ) (bytes : List ℕ) (f g : Folder) → at + length bytes ≤ 4096 → Mixed file at bytes f g → SameAfterHeader file f g
+mixed_following file at bytes f g inside mixed = record { following = λ k past. mixed.outside k (inr (omega (arith, inside, past))); others = mixed.others }
 
 word_count : (n : ℕ) → n < 2 ^ 64 → number (to_le_bytes w64 n) ≡ n
 unfolding word

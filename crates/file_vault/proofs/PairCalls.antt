@@ -1,5 +1,5 @@
 -- Calls that are made of both files of a journal, and of which either may fail.
-use Rattle.std.proofs.Common.{◌≡◌, ◌≢◌, ◌≤◌, ◌<◌, ◌⊎◌, inl, inr, ⊎_elim, ℕ, ◌+◌, Bool, true, false, List, Result, Ok, Err, refl, sym, ◌∙◌, ap, subst, arith, length}
+use Rattle.std.proofs.Common.{◌≡◌, ◌≢◌, ◌≤◌, ◌<◌, inl, inr, ⊎_elim, ℕ, ◌+◌, Bool, true, false, List, Result, Ok, Err, refl, sym, ◌∙◌, ap, subst, arith, length}
 use Rattle.std.specs.Prelude.{OnOk, is_ok}
 use Rattle.std.proofs.lemmas.Bool.{false≢true}
 use Rattle.vault.specs.declared.store.Stop.{Stop}
@@ -10,7 +10,7 @@ use Rattle.file_vault.specs.declared.twin.Twin.TheVariants.{First, Second}
 use Rattle.file_vault.specs.declared.held.Held.{Held}
 use Rattle.file_vault.specs.declared.held.Held.TheVariants.{Both, Only, Neither}
 use Rattle.file_vault.specs.Twins.{file_of, count_in, Counts, after_first_block, seen_as, MergesTwins, shown, lead_of, AreAlike, IsHeld, IsAvailable, HasSucceeded, SameBoth}
-use Rattle.file_vault.proofs.Puts.{below_or, both_elapse}
+use Rattle.file_vault.proofs.Puts.{below_or, inside_or, both_elapse}
 use Rattle.file_vault.proofs.Replayed.{whole_mixed, none_mixed}
 use Rattle.file_vault.proofs.Shown.{both_still, after_header_at, following_eq, count_same, with_other, which_file, WroteFollowing, MixedFollowing, shown_wrote, shown_mixed}
 
@@ -61,22 +61,6 @@ mixed_low file at bytes f g d k mixed low = elim (below_or d file) [
 
 pub mixed_count : (file at : ℕ) (bytes : List ℕ) (f g : Folder) (d : ℕ) → 4096 ≤ at → Mixed file at bytes f g → count_in (g d) ≡ count_in (f d)
 mixed_count file at bytes f g d past mixed = count_same (f d) (g d) (λ k low. mixed_low file at bytes f g d k mixed (omega (arith, low, past)))
-
--- where an offset lies
-pub inside_or : (k at count : ℕ) → ((k < at) ⊎ (at + count ≤ k)) ⊎ ((j : ℕ) × (j < count) × (k ≡ at + j))
-inside_or k at count = elim (below_or k at) [
-  | inl under ↦ inl (inl under)
-  | inr rest ↦ elim rest [
-    | inl e ↦ from 0 (omega (arith, e))
-    | inr (j, e) ↦ from (1 + j) (omega (arith, e))
-  ]
-]
-  where
-    from : (j : ℕ) → k ≡ at + j → ((k < at) ⊎ (at + count ≤ k)) ⊎ ((j : ℕ) × (j < count) × (k ≡ at + j))
-    from j e = elim (below_or j count) [
-      | inl low ↦ inr (j, low, e)
-      | inr more ↦ inl (inr (elim more [ inl is ↦ omega (arith, e, is) | inr (i, is) ↦ omega (arith, e, is) ]))
-    ]
 
 -- both files are written, one after the other; then first blocks may change
 module _ (at : ℕ) (bytes : List ℕ) (past : 4096 ≤ at) (f e g s : Folder) (m1 : Mixed 17 at bytes f e) (m2 : Mixed 18 at bytes e g) (same : SameBoth g s) where
@@ -136,7 +120,7 @@ module _ (at : ℕ) (bytes : List ℕ) (past : 4096 ≤ at) (f e g s : Folder) (
   ]
 
 -- what calls find after a write
-seen_others : (twin : Twin) (f s : Folder) → ((d : ℕ) → d ≢ 17 → d ≢ 18 → s d ≡ f d) → (d : ℕ) → d ≢ 17 → seen_as twin s d ≡ seen_as First f d
+pub seen_others : (twin : Twin) (f s : Folder) → ((d : ℕ) → d ≢ 17 → d ≢ 18 → s d ≡ f d) → (d : ℕ) → d ≢ 17 → seen_as twin s d ≡ seen_as First f d
 seen_others twin f s others d n17 = elim (which_file d) [
   | inl e ↦ absurd (n17 e)
   | inr rest ↦ elim rest [

@@ -9,9 +9,9 @@ use Rattle.vault.proofs.Writes.{take_next}
 use Rattle.vault.specs.declared.store.Stop.{Stop}
 use Rattle.vault.specs.declared.store.Stop.TheVariants.{Killed, PowerLost}
 use Rattle.file_vault.specs.declared.mem_files.FileCall.{FileCall}
-use Rattle.file_vault.specs.declared.mem_files.FileCall.TheVariants.{Write, Cut, Sync}
-use Rattle.file_vault.specs.Folders.{Folder, Wrote, Mixed, mixed_at}
-use Rattle.file_vault.specs.Calls.{file_patched, left_first, seen_after, leaves_during, leaves_after, seen_from, leaves_from, leaves_at, LeftSince}
+use Rattle.file_vault.specs.declared.mem_files.FileCall.TheVariants.{Write, TornWrite, Cut, TornCut, Sync}
+use Rattle.file_vault.specs.Folders.{Folder, Wrote, Mixed, WasCut, CutShort, mixed_at}
+use Rattle.file_vault.specs.Calls.{file_patched, file_cut, left_first, seen_after, leaves_during, leaves_after, seen_from, leaves_from, leaves_at, LeftSince}
 
 pub seen_more : (calls : List FileCall) (call : FileCall) (f : Folder) → seen_from f (calls ++ call ∷ []) ≡ seen_after call (seen_from f calls)
 seen_more [] call f = refl
@@ -29,16 +29,29 @@ whole_mixed file at bytes f g wrote = record { inside = λ j low. inr (wrote.ins
 pub none_mixed : (file at : ℕ) (bytes : List ℕ) (f : Folder) → Mixed file at bytes f f
 none_mixed file at bytes f = record { inside = λ j low. inl refl; outside = λ k where_. refl; others = λ d ne. refl }
 
+-- the same of a cut
+pub whole_cut : (file at : ℕ) (f g : Folder) → WasCut file at f g → CutShort file at f g
+whole_cut file at f g cut = record { before = cut.before; either = λ k past. inr (cut.zeros k past); others = cut.others }
+
+pub none_cut : (file at : ℕ) (f : Folder) → CutShort file at f f
+none_cut file at f = record { before = λ k low. refl; either = λ k past. inl refl; others = λ d ne. refl }
+
 still : (call : FileCall) (leaves : Folder → Type 0) (g : Folder) → leaves g → leaves_during call leaves g
 still (Write file at bytes) leaves g was = (g, was, none_mixed file at bytes.items g)
-still (Cut file at bytes) leaves g was = (g, was, none_mixed file at bytes.items g)
+still (TornWrite file at bytes) leaves g was = (g, was, none_mixed file at bytes.items g)
+still (Cut file at) leaves g was = (g, was, none_cut file at g)
+still (TornCut file at) leaves g was = (g, was, none_cut file at g)
 still (Sync file) leaves g was = was
 
 at_last : (stop : Stop) (call : FileCall) (f : Folder) (leaves : Folder → Type 0) (g : Folder) → leaves_after stop call f leaves g → leaves_during call leaves g
 at_last Killed (Write file at bytes) f leaves g (h, was, wrote) = (h, was, whole_mixed file at bytes.items h g wrote)
 at_last PowerLost (Write file at bytes) f leaves g now = now
-at_last Killed (Cut file at bytes) f leaves g now = now
-at_last PowerLost (Cut file at bytes) f leaves g now = now
+at_last Killed (TornWrite file at bytes) f leaves g now = now
+at_last PowerLost (TornWrite file at bytes) f leaves g now = now
+at_last Killed (Cut file at) f leaves g now = now
+at_last PowerLost (Cut file at) f leaves g now = now
+at_last Killed (TornCut file at) f leaves g now = now
+at_last PowerLost (TornCut file at) f leaves g now = now
 at_last Killed (Sync file) f leaves g now = now.0
 at_last PowerLost (Sync file) f leaves g now = now.0
 
@@ -174,14 +187,31 @@ cut_mixed first calls later file at bytes call does kept =
     subst (λ g. Mixed file at bytes (seen_from first calls) g) (sym (found_same first calls later call does kept)) (none_mixed file at bytes (seen_from first calls))
 
 -- time in a write, for the bytes that were copied
-pub time_cut : (stop : Stop) (first : Folder) (calls later : List FileCall) (file at : ℕ) (copy : Vec ℕ Global) (bytes : List ℕ) → copy.items ≡ bytes → (later ≡ calls ++ Cut file at copy ∷ []) ⊎ (later ≡ calls)
+pub time_torn : (stop : Stop) (first : Folder) (calls later : List FileCall) (file at : ℕ) (copy : Vec ℕ Global) (bytes : List ℕ) → copy.items ≡ bytes → (later ≡ calls ++ TornWrite file at copy ∷ []) ⊎ (later ≡ calls)
     → Elapses (length calls) (length later) (λ t g. LeftSince stop first calls t g) (λ t g. LeftSince stop first later t g) (mixed_at file at bytes (λ h. leaves_at stop first calls h)) (λ g. leaves_at stop first later g)
-time_cut stop first calls later file at copy bytes same kept =
+time_torn stop first calls later file at copy bytes same kept =
     subst (λ (b : List ℕ). Elapses (length calls) (length later) (λ t g. LeftSince stop first calls t g) (λ t g. LeftSince stop first later t g) (mixed_at file at b (λ h. leaves_at stop first calls h)) (λ g. leaves_at stop first later g)) same
-    (time_on stop first calls later (Cut file at copy) kept)
+    (time_on stop first calls later (TornWrite file at copy) kept)
 
 pub time_write : (stop : Stop) (first : Folder) (calls later : List FileCall) (file at : ℕ) (copy : Vec ℕ Global) (bytes : List ℕ) → copy.items ≡ bytes → (later ≡ calls ++ Write file at copy ∷ []) ⊎ (later ≡ calls)
     → Elapses (length calls) (length later) (λ t g. LeftSince stop first calls t g) (λ t g. LeftSince stop first later t g) (mixed_at file at bytes (λ h. leaves_at stop first calls h)) (λ g. leaves_at stop first later g)
 time_write stop first calls later file at copy bytes same kept =
     subst (λ (b : List ℕ). Elapses (length calls) (length later) (λ t g. LeftSince stop first calls t g) (λ t g. LeftSince stop first later t g) (mixed_at file at b (λ h. leaves_at stop first calls h)) (λ g. leaves_at stop first later g)) same
     (time_on stop first calls later (Write file at copy) kept)
+
+-- a file that was cut
+pub over_cut : (f : Folder) (file at : ℕ) → WasCut file at f (file_cut f file at)
+over_cut f file at = record {
+  before = λ k low. ap (λ b. if (file == file) && b then 0 else f file k) (lt-leb at k low) ∙ ap (λ b. if b then 0 else f file k) (never (file == file));
+  zeros = λ k past. ap (λ b. if b && nat_le at k then 0 else f file k) (eq-eqb file file refl) ∙ ap (λ b. if b then 0 else f file k) (le-leb at k past);
+  others = λ d ne. λ i k. (ap (λ b. if b && nat_le at k then 0 else f d k) (ne_eqb d file ne)) i;
+}
+
+pub cut_found : (first : Folder) (calls later : List FileCall) (file at : ℕ) → later ≡ calls ++ Cut file at ∷ [] → WasCut file at (seen_from first calls) (seen_from first later)
+cut_found first calls later file at more =
+    subst (λ g. WasCut file at (seen_from first calls) g) (sym (found first calls later (Cut file at) more)) (over_cut (seen_from first calls) file at)
+
+-- a cut that failed, of which calls find nothing
+pub cut_nothing : (first : Folder) (calls later : List FileCall) (file at : ℕ) → (later ≡ calls ++ TornCut file at ∷ []) ⊎ (later ≡ calls) → CutShort file at (seen_from first calls) (seen_from first later)
+cut_nothing first calls later file at kept =
+    subst (λ g. CutShort file at (seen_from first calls) g) (sym (found_same first calls later (TornCut file at) refl kept)) (none_cut file at (seen_from first calls))

@@ -4,7 +4,7 @@ use Rattle.std.specs.Prelude.{◌==◌, not}
 use Rattle.std.proofs.lemmas.Bool.{ne_eqb, lt-ltb, le-ltb}
 use Rattle.vault.specs.Coding.{number}
 use Rattle.vault.specs.Moments.{Elapses, Within}
-use Rattle.file_vault.specs.Folders.{Bytes, Folder, part, Wrote, Mixed, HasFile}
+use Rattle.file_vault.specs.Folders.{Bytes, Folder, part, Wrote, Mixed, CutShort, HasFile}
 use Rattle.file_vault.specs.Headers.{SameAfterHeader}
 use Rattle.file_vault.specs.declared.twin.Twin.{Twin}
 use Rattle.file_vault.specs.declared.twin.Twin.TheVariants.{First, Second}
@@ -152,6 +152,13 @@ pick_by : {A B : Type 0} (x p q p2 q2 : ℕ) (s : (A × (x ≡ p)) ⊎ (B × (x 
 pick_by x p q p2 q2 (inl (a, is)) P one two = subst (λ y. P y p2) (sym is) (one a)
 pick_by x p q p2 q2 (inr (b, is)) P one two = subst (λ y. P y q2) (sym is) (two b)
 
+-- a file that was cut, in whole or in part, after the first block
+abbrev pub CutFollowing : ℕ → Bytes → Bytes → Type 0
+CutFollowing at b c = (k : ℕ) → 4096 ≤ k → (c k ≡ b k) ⊎ ((at ≤ k) × (c k ≡ 0))
+
+pub uncut : (at : ℕ) (b c : Bytes) (k : ℕ) → k < at → 4096 ≤ k → CutFollowing at b c → c k ≡ b k
+uncut at b c k low more cut = elim (cut k more) [ inl same ↦ same | inr (le, none) ↦ absurd (omega (arith, low, le)) ]
+
 -- bytes of one file that were written over, in whole or in part, after the first block
 pub record WroteFollowing (at : ℕ) (bytes : List ℕ) (b c : Bytes) : Type 0 where
   pub inside : (j : ℕ) → j < length bytes → c (at + j) ≡ get_or bytes j 0
@@ -213,6 +220,25 @@ module _ (at : ℕ) (bytes : List ℕ) (past : 4096 ≤ at) (f g h : Folder) (sh
       outside = λ k out. back_byte k (λ x y. x ≡ y)
           (λ c. following_eq (f 17) (g 17) k (λ more. (one c).outside k out more))
           (λ c. following_eq (f 18) (g 18) k (λ more. (two c).outside k out more));
+      others = back_others;
+    },
+  )
+
+  cut_byte : (b c : Bytes) (k : ℕ) → at ≤ k → CutFollowing at b c → (after_first_block c k ≡ after_first_block b k) ⊎ (after_first_block c k ≡ 0)
+  cut_byte b c k low cut = elim (cut k (omega (arith, low, past))) [
+    | inl same ↦ inl (following_eq b c k (λ more. same))
+    | inr (le, none) ↦ inr (after_header_at c k (omega (arith, low, past)) ∙ none)
+  ]
+
+  pub shown_cut : (Counts g First → CutFollowing at (f 17) (g 17)) → (Counts g Second → CutFollowing at (f 18) (g 18)) → (e : Folder) × MergesTwins f e × CutShort 17 at e h
+  shown_cut one two = (
+    back,
+    back_shows,
+    record {
+      before = λ k low. back_byte k (λ x y. x ≡ y)
+          (λ c. following_eq (f 17) (g 17) k (λ more. uncut at (f 17) (g 17) k low more (one c)))
+          (λ c. following_eq (f 18) (g 18) k (λ more. uncut at (f 18) (g 18) k low more (two c)));
+      either = λ k low. back_byte k (λ x y. (x ≡ y) ⊎ (x ≡ 0)) (λ c. cut_byte (f 17) (g 17) k low (one c)) (λ c. cut_byte (f 18) (g 18) k low (two c));
       others = back_others;
     },
   )

@@ -2,7 +2,7 @@
 use Rattle.std.proofs.Common.{◌≡◌, ◌≢◌, ◌≤◌, inl, inr, ⊎_elim, ℕ, suc, ◌+◌, List, refl, sym, ◌∙◌, ap, subst, arith, get_or}
 use Rattle.vault.specs.declared.store.Stop.{Stop}
 use Rattle.vault.specs.Moments.{Within}
-use Rattle.file_vault.specs.Folders.{Bytes, Folder, Wrote, Mixed, mixed_at, wrote_at, HasFile}
+use Rattle.file_vault.specs.Folders.{Bytes, Folder, Wrote, Mixed, CutShort, mixed_at, wrote_at, HasFile}
 use Rattle.file_vault.specs.declared.twin.Twin.{Twin}
 use Rattle.file_vault.specs.declared.twin.Twin.TheVariants.{First, Second}
 use Rattle.file_vault.specs.declared.held.Held.{Held}
@@ -56,7 +56,7 @@ ahead_wrote seen may_leave old new twin count at n bytes past is within stop g n
     (mine ∙ was.0, omega (arith, was.1, mate))
 
 -- another file is written: what calls find, and what stops leave
-seen_rest : (twin : Twin) (file : ℕ) (s t : Folder) → file ≢ 17 → file ≢ 18 → ((d : ℕ) → d ≢ file → t d ≡ s d) → (d : ℕ) → d ≢ file → seen_as twin t d ≡ seen_as twin s d
+pub seen_rest : (twin : Twin) (file : ℕ) (s t : Folder) → file ≢ 17 → file ≢ 18 → ((d : ℕ) → d ≢ file → t d ≡ s d) → (d : ℕ) → d ≢ file → seen_as twin t d ≡ seen_as twin s d
 seen_rest twin file s t n17 n18 others d ne = elim (which_file d) [
   | inl e ↦ ap (seen_as twin t) e ∙ ap (λ (b : Bytes). after_first_block b) (mine twin) ∙ sym (ap (seen_as twin s) e)
   | inr rest ↦ elim rest [
@@ -138,6 +138,19 @@ module _ (file at : ℕ) (bytes : List ℕ) (n17 : file ≢ 17) (n18 : file ≢ 
     },
   )
 
+  pub other_shown_short : CutShort file at f g → (e : Folder) × MergesTwins f e × CutShort file at e h
+  other_shown_short cut = (
+    from,
+    from_shows,
+    record {
+      before = λ k low. ap (λ (b : Bytes). b k) (shows.others file n17 n18) ∙ cut.before k low ∙ sym (ap (λ (b : Bytes). b k) (with_other (h 17) f file n17 n18));
+      either = λ k past.
+          let to = ap (λ (b : Bytes). b k) (shows.others file n17 n18) in
+          ⊎_elim (λ was. inl (to ∙ was ∙ sym (ap (λ (b : Bytes). b k) (with_other (h 17) f file n17 n18)))) (λ none. inr (to ∙ none)) (cut.either k past);
+      others = from_others;
+    },
+  )
+
 pub other_within : (file at : ℕ) (bytes : List ℕ) (outcomes : Folder → Type 0) → file ≢ 17 → file ≢ 18 → Within (λ h. shown (mixed_at file at bytes outcomes) h) (mixed_at file at bytes (λ h. shown outcomes h))
 other_within file at bytes outcomes n17 n18 h (g, (f, was, mixed), shows) =
     let back = other_shown_mixed file at bytes n17 n18 f g h shows mixed.others mixed in (back.0, (f, was, back.1), back.2)
@@ -151,7 +164,7 @@ pub other_file : (file : ℕ) (s : Folder) (outcomes : Folder → Type 0) (twin 
 other_file file s outcomes twin n17 n18 has h (g, now, shows) = shows.others file n17 n18 ∙ has g now ∙ sym (with_other _ s file n17 n18)
 
 -- what calls find of the file that is left alone
-lone_others : (twin : Twin) (n : ℕ) (s t : Folder) → n ≡ file_of twin → ((d : ℕ) → d ≢ n → t d ≡ s d) → (d : ℕ) → d ≢ 17 → seen_as twin t d ≡ seen_as twin s d
+pub lone_others : (twin : Twin) (n : ℕ) (s t : Folder) → n ≡ file_of twin → ((d : ℕ) → d ≢ n → t d ≡ s d) → (d : ℕ) → d ≢ 17 → seen_as twin t d ≡ seen_as twin s d
 lone_others twin n s t is others d n17 = elim (which_file d) [
   | inl e ↦ absurd (n17 e)
   | inr rest ↦ elim rest [

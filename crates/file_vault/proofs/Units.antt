@@ -8,7 +8,6 @@ use Rattle.extent_groups.specs.declared.place.Place.{Place}
 use Rattle.extent_groups.specs.Cells.{held}
 use Rattle.extent_groups.specs.Planned.{with_unit, over}
 use Rattle.extent_groups.proofs.Finishing.{place_or_not, write_here, write_else}
-use Rattle.vault.specs.declared.store.Stop.{Stop}
 use Rattle.vault.specs.Images.{Alike, with_write}
 use Rattle.vault.specs.Moments.{Torn, IsMisfit, IsUnitAt}
 use Rattle.file_vault.specs.Folders.{Bytes, Folder, part, Wrote, Mixed, Reads}
@@ -78,29 +77,29 @@ module _ (plan : Plan) where
     cells_there x = there_both (nat_lt x.address (count_of plan.counts x.drive)) (unit_in_file plan g x.drive x.address) (unit_in_file plan f x.drive x.address)
 
   -- the journal where its file is the same
-  pub journal_same : (stop : Stop) (f g : Folder) → g 17 ≡ f 17 → journal_of stop g ≡ journal_of stop f
-  journal_same stop f g same = ap (λ (b : Bytes). batches_from stop most b 4096) same
+  pub journal_same : (f g : Folder) → g 17 ≡ f 17 → journal_of g ≡ journal_of f
+  journal_same f g same = ap (λ (b : Bytes). batches_from most b 4096) same
 
   -- a write of a unit that is cut short, and one that is whole
-  pub unit_torn : (stop : Stop) (place : Place) (unit : List ℕ) (f g : Folder) → length unit ≡ size_at place.drive → place.drive ≢ 17 → Mixed place.drive (spot_of place) unit f g → Torn place (image_of plan stop f) (image_of plan stop g)
-  unit_torn stop place unit f g fits ne mixed = record {
+  pub unit_torn : (place : Place) (unit : List ℕ) (f g : Folder) → length unit ≡ size_at place.drive → place.drive ≢ 17 → Mixed place.drive (spot_of place) unit f g → Torn place (image_of plan f) (image_of plan g)
+  unit_torn place unit f g fits ne mixed = record {
     there = cells_there place f g outside mixed.others;
     elsewhere = cells_else place f g outside mixed.others;
-    journal = journal_same stop f g (mixed.others 17 (λ e. ne (sym e)));
+    journal = journal_same f g (mixed.others 17 (λ e. ne (sym e)));
   }
     where
       outside : (k : ℕ) → (k < spot_of place) ⊎ (spot_of place + size_at place.drive ≤ k) → g place.drive k ≡ f place.drive k
       outside k out = mixed.outside k (elim out [ inl low ↦ inl low | inr high ↦ inr (omega (arith, high, fits)) ])
 
-  pub unit_written : (stop : Stop) (place : Place) (unit : List ℕ) (f g : Folder) → length unit ≡ size_at place.drive → place.drive ≢ 17 → Wrote place.drive (spot_of place) unit f g
-      → Alike (image_of plan stop g) (with_write (image_of plan stop f) place unit)
-  unit_written stop place unit f g fits ne wrote = record {
+  pub unit_written : (place : Place) (unit : List ℕ) (f g : Folder) → length unit ≡ size_at place.drive → place.drive ≢ 17 → Wrote place.drive (spot_of place) unit f g
+      → Alike (image_of plan g) (with_write (image_of plan f) place unit)
+  unit_written place unit f g fits ne wrote = record {
     cells = λ x. elim (place_or_not x place) [
       | inl e ↦ subst (λ y. held (cells_of plan g) y ≡ held (with_unit (cells_of plan f) (record { place = place; unit = unit })) y) (sym e)
           (here ∙ sym (write_here (cells_of plan f) (record { place = place; unit = unit })))
       | inr other ↦ cells_else place f g outside wrote.others x other ∙ sym (write_else (cells_of plan f) (record { place = place; unit = unit }) x (λ e. other (sym e)))
     ];
-    journal = journal_same stop f g (wrote.others 17 (λ e. ne (sym e)));
+    journal = journal_same f g (wrote.others 17 (λ e. ne (sym e)));
   }
     where
       outside : (k : ℕ) → (k < spot_of place) ⊎ (spot_of place + size_at place.drive ≤ k) → g place.drive k ≡ f place.drive k
@@ -116,8 +115,8 @@ module _ (plan : Plan) where
   pub none_at : (f : Folder) (place : Place) → count_of plan.counts place.drive ≤ place.address → held (cells_of plan f) place ≡ None
   none_at f place past = ap (λ b. if b then Some (unit_in_file plan f place.drive place.address) else None) (le-ltb place.address (count_of plan.counts place.drive) past)
 
-  pub none_written : (stop : Stop) (place : Place) (unit : List ℕ) (f : Folder) → count_of plan.counts place.drive ≤ place.address → Alike (image_of plan stop f) (with_write (image_of plan stop f) place unit)
-  none_written stop place unit f past = record {
+  pub none_written : (place : Place) (unit : List ℕ) (f : Folder) → count_of plan.counts place.drive ≤ place.address → Alike (image_of plan f) (with_write (image_of plan f) place unit)
+  none_written place unit f past = record {
     cells = λ x. elim (place_or_not x place) [
       | inl e ↦ subst (λ y. held (cells_of plan f) y ≡ held (with_unit (cells_of plan f) (record { place = place; unit = unit })) y) (sym e)
           (none_at f place past ∙ sym (write_here (cells_of plan f) (record { place = place; unit = unit }) ∙ ap (λ o. over o unit) (none_at f place past)))

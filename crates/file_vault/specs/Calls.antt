@@ -7,8 +7,8 @@ use Rattle.std.proofs.lemmas.Option.{none-some}
 use Rattle.vault.specs.declared.store.Stop.{Stop}
 use Rattle.vault.specs.declared.store.Stop.TheVariants.{Killed, PowerLost}
 use Rattle.file_vault.specs.declared.mem_files.FileCall.{FileCall}
-use Rattle.file_vault.specs.declared.mem_files.FileCall.TheVariants.{Write, Cut, Sync}
-use Rattle.file_vault.specs.Folders.{Folder, wrote_at, mixed_at}
+use Rattle.file_vault.specs.declared.mem_files.FileCall.TheVariants.{Write, TornWrite, Cut, TornCut, Sync}
+use Rattle.file_vault.specs.Folders.{Folder, wrote_at, mixed_at, cut_at}
 
 -- the bytes of an optional file
 abbrev pub bytes_of_file : Option (Vec ℕ Global) → ℕ → ℕ
@@ -35,23 +35,33 @@ left_first first g = g ≡ first
 abbrev pub file_patched : Folder → ℕ → ℕ → List ℕ → Folder
 file_patched f file at bytes d k = if (d == file) && ((nat_le at k) && (nat_lt k (at + length bytes))) then get_or bytes (k - at) 0 else f d k
 
--- what calls find after one call more; of a write that was cut short they find nothing
+-- a file that was cut
+abbrev pub file_cut : Folder → ℕ → ℕ → Folder
+file_cut f file at d k = if (d == file) && nat_le at k then 0 else f d k
+
+-- what calls find after one call more; of a write that failed, or of a cut, they find nothing
 abbrev pub seen_after : FileCall → Folder → Folder
 seen_after (Write file at bytes) f = file_patched f file at bytes.items
-seen_after (Cut file at bytes) f = f
+seen_after (TornWrite file at bytes) f = f
+seen_after (Cut file at) f = file_cut f file at
+seen_after (TornCut file at) f = f
 seen_after (Sync file) f = f
 
 -- what a stop leaves during a call
 abbrev pub leaves_during : FileCall → (Folder → Type 0) → Folder → Type 0
 leaves_during (Write file at bytes) leaves g = mixed_at file at bytes.items leaves g
-leaves_during (Cut file at bytes) leaves g = mixed_at file at bytes.items leaves g
+leaves_during (TornWrite file at bytes) leaves g = mixed_at file at bytes.items leaves g
+leaves_during (Cut file at) leaves g = cut_at file at leaves g
+leaves_during (TornCut file at) leaves g = cut_at file at leaves g
 leaves_during (Sync file) leaves g = leaves g
 
 -- what a stop leaves after a call
 abbrev pub leaves_after : Stop → FileCall → Folder → (Folder → Type 0) → Folder → Type 0
 leaves_after Killed (Write file at bytes) f leaves g = wrote_at file at bytes.items leaves g
 leaves_after PowerLost (Write file at bytes) f leaves g = mixed_at file at bytes.items leaves g
-leaves_after stop (Cut file at bytes) f leaves g = mixed_at file at bytes.items leaves g
+leaves_after stop (TornWrite file at bytes) f leaves g = mixed_at file at bytes.items leaves g
+leaves_after stop (Cut file at) f leaves g = cut_at file at leaves g
+leaves_after stop (TornCut file at) f leaves g = cut_at file at leaves g
 leaves_after stop (Sync file) f leaves g = leaves g × (g file ≡ f file)
 
 -- all calls, the first of them first

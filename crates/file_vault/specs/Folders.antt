@@ -37,6 +37,21 @@ wrote_at file at bytes outcomes g = (f : Folder) × outcomes f × Wrote file at 
 abbrev pub mixed_at : ℕ → ℕ → List ℕ → (Folder → Type 0) → Folder → Type 0
 mixed_at file at bytes outcomes g = (f : Folder) × outcomes f × Mixed file at bytes f g
 
+-- a file was cut at an offset: from there on it has zeros
+pub record WasCut (file at : ℕ) (old new : Folder) : Type 0 where
+  pub before : (k : ℕ) → k < at → new file k ≡ old file k
+  pub zeros : (k : ℕ) → at ≤ k → new file k ≡ 0
+  pub others : (d : ℕ) → d ≢ file → new d ≡ old d
+
+-- a stop cut that short: each byte from there on is the one from before, or 0
+pub record CutShort (file at : ℕ) (old new : Folder) : Type 0 where
+  pub before : (k : ℕ) → k < at → new file k ≡ old file k
+  pub either : (k : ℕ) → at ≤ k → (new file k ≡ old file k) ⊎ (new file k ≡ 0)
+  pub others : (d : ℕ) → d ≢ file → new d ≡ old d
+
+abbrev pub cut_at : ℕ → ℕ → (Folder → Type 0) → Folder → Type 0
+cut_at file at outcomes g = (f : Folder) × outcomes f × CutShort file at f g
+
 -- each outcome of a stop has this file as it is here
 abbrev pub HasFile : ℕ → Folder → (Folder → Type 0) → Type 0
 HasFile file f outcomes = (g : Folder) → outcomes g → g file ≡ f file

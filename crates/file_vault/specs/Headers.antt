@@ -1,8 +1,6 @@
 -- What the first block of a file says.
 use Rattle.std.specs.Prelude.{◌≡◌, ◌≢◌, ◌≤◌, ℕ, List, [], ◌∷◌}
 use Rattle.std.specs.Int.{w32, from_le_bytes}
-use Rattle.vault.specs.declared.store.Stop.{Stop}
-use Rattle.vault.specs.declared.store.Stop.TheVariants.{Killed, PowerLost}
 use Rattle.file_vault.specs.declared.header.Header.{Header}
 use Rattle.file_vault.specs.Folders.{Bytes, Folder, part}
 
@@ -27,20 +25,3 @@ pub record HasFileHeader (f : Bytes) (header : Header) : Type 0 where
 pub record SameAfterHeader (file : ℕ) (f g : Folder) : Type 0 where
   pub following : (k : ℕ) → 4096 ≤ k → g file k ≡ f file k
   pub others : (d : ℕ) → d ≢ file → g d ≡ f d
-
-abbrev pub after_header_at : ℕ → (Folder → Type 0) → Folder → Type 0
-after_header_at file outcomes g = (f : Folder) × outcomes f × SameAfterHeader file f g
-
--- the id of the boot in which a disk was last opened
-abbrev pub boot_in : Folder → List ℕ
-boot_in f = part (f 16) 64 16
-
--- the files that calls find have this boot's id, and so have those that each stop leaves
-pub record HasBoot (boot : List ℕ) (f : Folder) (outcomes : Stop → Folder → Type 0) : Type 0 where
-  pub now : boot_in f ≡ boot
-  pub left : (stop : Stop) (g : Folder) → outcomes stop g → boot_in g ≡ boot
-
--- by which rule files are read in a boot: as a kill left them if they were last opened in it, else as a loss of power did
-pub record IsReadAs (boot : List ℕ) (f : Folder) (kind : Stop) : Type 0 where
-  pub same : kind ≡ Killed → boot_in f ≡ boot
-  pub other : kind ≡ PowerLost → boot_in f ≢ boot

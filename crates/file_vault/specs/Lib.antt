@@ -1,9 +1,9 @@
 pub mod Folders
 pub mod Calls
 pub mod Layouts
+pub mod Records
 pub mod Journals
 pub mod Vaults
-pub mod Openings
 pub mod Headers
 pub mod Recoveries
 pub mod Twins

@@ -7,7 +7,6 @@ use Rattle.vault.specs.declared.store.VaultError.TheVariants.{Journal, Drive}
 use Rattle.vault.specs.Images.{Image, is_lost}
 use Rattle.file_vault.specs.Folders.{Folder, HasFile}
 use Rattle.file_vault.specs.Layouts.{Plan}
-use Rattle.file_vault.specs.Headers.{HasBoot}
 use Rattle.file_vault.specs.Journals.{IsSound, image_of}
 use Rattle.file_vault.specs.declared.layout.Layout.{Layout}
 
@@ -15,20 +14,19 @@ use Rattle.file_vault.specs.declared.layout.Layout.{Layout}
 abbrev pub plan_of : Layout → Plan
 plan_of l = record { unit_bytes = l.unit_bytes; table_bytes = l.table_bytes; counts = l.counts }
 
--- what files stand for that a stop of a kind left
-abbrev pub left_of : Plan → Stop → (Folder → Type 0) → Image → Type 0
-left_of plan stop outcomes i = (g : Folder) × outcomes g × (i ≡ image_of plan stop g)
+-- what files stand for that a stop left
+abbrev pub left_of : Plan → (Folder → Type 0) → Image → Type 0
+left_of plan outcomes i = (g : Folder) × outcomes g × (i ≡ image_of plan g)
 
 -- some batches lie in a sound journal
-pub record HasBatches {F : Type 0} (seen : F → Folder) (may_leave : F → Stop → Folder → Type 0) (files : F) (gates : List ℕ) (end durable : ℕ) : Type 0 where
+pub record HasBatches {F : Type 0} (seen : F → Folder) (may_leave : F → Stop → Folder → Type 0) (files : F) (places : List ℕ) (end durable : ℕ) : Type 0 where
   pub batches : List (List Intended)
-  pub sound : IsSound seen may_leave files gates batches end durable
+  pub sound : IsSound seen may_leave files places batches end durable
 
--- the files are known and have the boot's id, also after each stop; and the journal is sound unless its file has failed
-pub record IsKnown {F : Type 0} (known : F → Type 0) (seen : F → Folder) (may_leave : F → Stop → Folder → Type 0) (faults : F → ℕ) (files : F) (boot : List ℕ) (gates : List ℕ) (end durable : ℕ) (broken : Bool) : Type 0 where
+-- the files are known, and the journal is sound unless its file has failed
+pub record IsKnown {F : Type 0} (known : F → Type 0) (seen : F → Folder) (may_leave : F → Stop → Folder → Type 0) (faults : F → ℕ) (files : F) (places : List ℕ) (end durable : ℕ) (broken : Bool) : Type 0 where
   pub files_known : known files
-  pub booted : HasBoot boot (seen files) (may_leave files)
-  pub batches : broken ≡ false → HasBatches seen may_leave files gates end durable
+  pub batches : broken ≡ false → HasBatches seen may_leave files places end durable
   pub failed : broken ≡ true → 0 < faults files
 
 -- the fault of a drive's file, or of the table's

@@ -3,7 +3,7 @@ ghost use Rattle.std.specs.Prelude.{◌≡◌, ◌≤◌, ℕ, OnOk, IfOk};
 ghost use Rattle.vault.specs.Moments.{Elapses, Within};
 ghost use Rattle.vault.specs.declared.store.Stop.{Stop};
 ghost use Rattle.vault.specs.declared.store.Stop.TheVariants.{Killed};
-ghost use Rattle.file_vault.specs.Folders.{Folder, Reads, Wrote, Mixed, wrote_at, mixed_at, HasFile, HasFault};
+ghost use Rattle.file_vault.specs.Folders.{Folder, Reads, Wrote, Mixed, WasCut, CutShort, wrote_at, mixed_at, cut_at, HasFile, HasFault};
 
 /// A call on a file failed.
 #[derive(Clone, Copy, Debug, PartialEq, Eq)]
@@ -39,7 +39,16 @@ pub trait Files {
             (mixed_at file at bytes.now (may_leave self.old stop)) (may_leave self.new stop) }
         ensures cause { known self.old → HasFault (faults self.old) (faults self.new) result };
 
-    /// Makes all that was written to a file durable.
+    /// Cuts a file at an offset: from there on it has zeros. Until a sync of the file, a stop may leave any of these bytes as it was.
+    fn cut(&mut self, file: u8, at: u64) -> Result<(), FileFault>
+        ensures stays { known self.old → known self.new }
+        ensures cut { known self.old → OnOk result (WasCut file at (seen self.old) (seen self.new)) }
+        ensures short { known self.old → CutShort file at (seen self.old) (seen self.new) }
+        ensures time { known self.old → (stop : Stop) → Elapses (moment self.old) (moment self.new) (left_since self.old stop) (left_since self.new stop)
+            (cut_at file at (may_leave self.old stop)) (may_leave self.new stop) }
+        ensures cause { known self.old → HasFault (faults self.old) (faults self.new) result };
+
+    /// Makes all that was written to a file, and where it was cut, durable.
     fn sync(&mut self, file: u8) -> Result<(), FileFault>
         ensures stays { known self.old → known self.new }
         ensures seen { known self.old → seen self.new ≡ seen self.old }

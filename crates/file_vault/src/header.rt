@@ -1,20 +1,16 @@
 // The first block of each file: eight bytes of a mark, the disk's identity, the file's number, and how long its units are and how
-// many, in four bytes each, the lowest first. In the table's file the boot in which the disk was last opened follows at 64.
-ghost use Rattle.std.specs.Prelude.{◌≡◌, ◌≢◌, ◌<◌, ◌^◌, ◌↔◌, ℕ, length, true, OnOk, IfOk, IfSome, IfNone, IsTrue};
+// many, in four bytes each, the lowest first.
+ghost use Rattle.std.specs.Prelude.{◌≡◌, ◌≢◌, ◌<◌, ◌^◌, length, OnOk, IfOk, IfSome, IfNone};
 ghost use Rattle.std.specs.Int.{w32, to_le_bytes};
 ghost use Rattle.vault.specs.Moments.{Elapses};
 ghost use Rattle.vault.specs.declared.store.Stop.{Stop};
-ghost use Rattle.file_vault.specs.Folders.{HasFault, HasFile, Wrote, part};
-ghost use Rattle.file_vault.specs.Headers.{HasFileHeader, SameAfterHeader, after_header_at, boot_in, mark as the_mark, number_at};
+ghost use Rattle.file_vault.specs.Folders.{HasFault, Wrote, part};
+ghost use Rattle.file_vault.specs.Headers.{HasFileHeader, mark as the_mark, number_at};
 
 use crate::files::{FileFault, Files};
-use vault::TABLE;
 
 /// Marks a file of a vault.
 const MARK: [u8; 8] = *b"behkuna1";
-
-/// The offset of the boot's id in the table's file.
-const BOOT: u64 = 64;
 
 /// What a file is.
 #[derive(Clone, Copy, Debug, PartialEq, Eq)]
@@ -115,35 +111,4 @@ fn read_number<F: Files>(files: &mut F, number: u8, at: u64) -> Result<u32, File
     let mut bytes = [0; 4];
     read_part(files, number, at, &mut bytes)?;
     Ok(u32::from_le_bytes(bytes))
-}
-
-// Whether the disk was last opened in this boot.
-pub(crate) fn is_boot<F: Files>(files: &mut F, boot: &[u8; 16]) -> Result<bool, FileFault>
-    ensures stays { F.known files.old → F.known files.new }
-    ensures is { F.known files.old → IfOk result (λ same. IsTrue same ↔ (boot_in (F.seen files.old) ≡ boot.now)) }
-    ensures seen { F.known files.old → F.seen files.new ≡ F.seen files.old }
-    ensures time { F.known files.old
-        → (stop : Stop) → Elapses (F.moment files.old) (F.moment files.new) (F.left_since files.old stop) (F.left_since files.new stop)
-        (F.may_leave files.old stop) (F.may_leave files.new stop) }
-    ensures cause { F.known files.old → HasFault (F.faults files.old) (F.faults files.new) result }
-{
-    let mut last = [0; 16];
-    read_part(files, TABLE, BOOT, &mut last)?;
-    Ok(last == *boot)
-}
-
-// Writes the boot in which the disk is opened, and makes it durable.
-pub(crate) fn put_boot<F: Files>(files: &mut F, boot: &[u8; 16]) -> Result<(), FileFault>
-    ensures stays { F.known files.old → F.known files.new }
-    ensures following { F.known files.old → SameAfterHeader 16 (F.seen files.old) (F.seen files.new) }
-    ensures boot { F.known files.old → OnOk result (boot_in (F.seen files.new) ≡ boot.now) }
-    ensures durable { F.known files.old → OnOk result ((stop : Stop) → HasFile 16 (F.seen files.new) (F.may_leave files.new stop)) }
-    ensures time { F.known files.old
-        → (stop : Stop) → Elapses (F.moment files.old) (F.moment files.new) (F.left_since files.old stop) (F.left_since files.new stop)
-        (after_header_at 16 (F.may_leave files.old stop)) (F.may_leave files.new stop) }
-    ensures cause { F.known files.old → HasFault (F.faults files.old) (F.faults files.new) result }
-    ensures long { length boot.now ≡ 16 }
-{
-    files.write_at(TABLE, BOOT, boot)?;
-    files.sync(TABLE)
 }

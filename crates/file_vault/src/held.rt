@@ -3,7 +3,7 @@ ghost use Rattle.std.specs.Prelude.{◌+◌, ◌≡◌, ◌≤◌, true};
 ghost use Rattle.vault.specs.Moments.{Elapses, Within};
 ghost use Rattle.vault.specs.declared.store.Stop.{Stop};
 ghost use Rattle.vault.specs.declared.store.Stop.TheVariants.{Killed};
-ghost use Rattle.file_vault.specs.Folders.{Folder, HasFile, Wrote, Mixed, Reads, wrote_at, mixed_at};
+ghost use Rattle.file_vault.specs.Folders.{Folder, HasFile, Wrote, Mixed, WasCut, CutShort, Reads, wrote_at, mixed_at, cut_at};
 ghost use Rattle.file_vault.specs.Headers.{SameAfterHeader};
 ghost use Rattle.file_vault.specs.declared.twin.Twin.TheVariants.{First};
 ghost use Rattle.file_vault.specs.Twins.{lead_of, file_of, seen_as, shown, IsHeld, IsAvailable, IsOnly, HasCount, HasSucceeded, AreEven, AreAlike, MayLead, SameBoth, ShownElapses};
@@ -92,6 +92,26 @@ pub(crate) fn write_both<F: Files>(files: &mut F, count: u64, at: u64, bytes: &[
 {
     let first = files.write_at(JOURNAL, at, bytes).is_ok();
     let second = files.write_at(SECOND, at, bytes).is_ok();
+    keep(files, count, first, second)
+}
+
+// Cuts both files at an offset.
+pub(crate) fn cut_both<F: Files>(files: &mut F, count: u64, at: u64) -> Held
+    requires { 4096 ≤ at }
+    ensures stays { F.known files.old → F.known files.new }
+    ensures later { F.known files.old → F.faults files.old ≤ F.faults files.new }
+    ensures held { F.known files.old → AreEven F.may_leave files.old count → AreAlike (F.seen files.old)
+        → IsHeld F.seen F.may_leave files.new result }
+    ensures cut { F.known files.old → AreAlike (F.seen files.old) → IsAvailable result
+        → WasCut 17 at (seen_as First (F.seen files.old)) (seen_as (lead_of result) (F.seen files.new)) }
+    ensures short { F.known files.old → AreAlike (F.seen files.old)
+        → CutShort 17 at (seen_as First (F.seen files.old)) (seen_as (lead_of result) (F.seen files.new)) }
+    ensures time { F.known files.old → AreEven F.may_leave files.old count
+        → (stop : Stop) → ShownElapses F.moment F.left_since F.may_leave files.old files.new stop
+        (cut_at 17 at (λ h. shown (F.may_leave files.old stop) h)) }
+{
+    let first = files.cut(JOURNAL, at).is_ok();
+    let second = files.cut(SECOND, at).is_ok();
     keep(files, count, first, second)
 }
 

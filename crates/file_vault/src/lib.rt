@@ -11,6 +11,7 @@ mod layout;
 mod mem_files;
 mod over_files;
 mod real_files;
+mod record;
 mod recovery;
 mod twin;
 mod twin_files;

@@ -15,7 +15,10 @@ const LIMIT: u64 = 1 << 62;
 enum FileCall {
     Write(u8, u64, Vec<u8>),
     /// A write that failed.
-    Cut(u8, u64, Vec<u8>),
+    TornWrite(u8, u64, Vec<u8>),
+    Cut(u8, u64),
+    /// A cut that failed.
+    TornCut(u8, u64),
     Sync(u8),
 }
 
@@ -96,7 +99,7 @@ struct Fuse {
 
 impl Fuse {
     // Whether this call fails; it counts.
-    fn is_cut(&mut self, file: u8) -> bool {
+    fn is_blown(&mut self, file: u8) -> bool {
         if self.alive == 0 || (file == self.weak && self.weak_alive == 0) {
             return true;
         }
@@ -153,15 +156,23 @@ fn byte_at(first: &[Vec<u8>], calls: &[FileCall], file: u8, at: u64) -> u8
 fn byte_after(call: &FileCall, file: u8, at: u64, byte: u8) -> u8
     ensures { (f : ℕ → ℕ → ℕ) → byte ≡ f file at → result ≡ seen_after call.now f file at }
 {
-    let FileCall::Write(to, from, bytes) = call else {
-        return byte;
-    };
-    if *to != file || at < *from {
-        return byte;
-    }
-    match bytes.get((at - *from) as usize) {
-        Some(written) => *written,
-        None => byte,
+    match call {
+        FileCall::Write(to, from, bytes) => {
+            if *to != file || at < *from {
+                return byte;
+            }
+            match bytes.get((at - *from) as usize) {
+                Some(written) => *written,
+                None => byte,
+            }
+        }
+        FileCall::Cut(to, from) => {
+            if *to != file || at < *from {
+                return byte;
+            }
+            0
+        }
+        _ => byte,
     }
 }
 
@@ -197,7 +208,9 @@ fn end_after(call: &FileCall, file: u8, end: u64) -> Option<u64>
             let past = from.checked_add(bytes.len() as u64)?;
             Some(end.max(past))
         }
-        FileCall::Cut(_, _, _) => Some(end),
+        FileCall::TornWrite(_, _, _) => Some(end),
+        FileCall::Cut(_, _) => Some(end),
+        FileCall::TornCut(_, _) => Some(end),
         FileCall::Sync(_) => Some(end),
     }
 }
@@ -235,9 +248,9 @@ impl Files for MemFiles {
             self.faults = one_more(self.faults);
             return Err(FileFault);
         };
-        if self.fuse.is_cut(file) {
+        if self.fuse.is_blown(file) {
             self.faults = one_more(self.faults);
-            let _ = keep(&mut self.calls, FileCall::Cut(file, at, copy));
+            let _ = keep(&mut self.calls, FileCall::TornWrite(file, at, copy));
             return Err(FileFault);
         }
         if keep(&mut self.calls, FileCall::Write(file, at, copy)).is_err() {
@@ -247,8 +260,21 @@ impl Files for MemFiles {
         Ok(())
     }
 
+    fn cut(&mut self, file: u8, at: u64) -> Result<(), FileFault> {
+        if self.fuse.is_blown(file) {
+            self.faults = one_more(self.faults);
+            let _ = keep(&mut self.calls, FileCall::TornCut(file, at));
+            return Err(FileFault);
+        }
+        if keep(&mut self.calls, FileCall::Cut(file, at)).is_err() {
+            self.faults = one_more(self.faults);
+            return Err(FileFault);
+        }
+        Ok(())
+    }
+
     fn sync(&mut self, file: u8) -> Result<(), FileFault> {
-        if self.fuse.is_cut(file) || keep(&mut self.calls, FileCall::Sync(file)).is_err() {
+        if self.fuse.is_blown(file) || keep(&mut self.calls, FileCall::Sync(file)).is_err() {
             self.faults = one_more(self.faults);
             return Err(FileFault);
         }
@@ -256,7 +282,7 @@ impl Files for MemFiles {
     }
 
     fn read_at(&mut self, file: u8, at: u64, out: &mut [u8]) -> Result<(), FileFault> {
-        if at > LIMIT || out.len() as u64 > LIMIT || self.fuse.is_cut(file) {
+        if at > LIMIT || out.len() as u64 > LIMIT || self.fuse.is_blown(file) {
             self.faults = one_more(self.faults);
             return Err(FileFault);
         }
@@ -265,7 +291,7 @@ impl Files for MemFiles {
     }
 
     fn length(&mut self, file: u8) -> Result<u64, FileFault> {
-        if !self.fuse.is_cut(file) {
+        if !self.fuse.is_blown(file) {
             if let Some(end) = end_of(&self.first, &self.calls, file) {
                 return Ok(end);
             }
@@ -277,12 +303,14 @@ impl Files for MemFiles {
 
 // Whether the file of the first of these calls is synced by a later one.
 fn is_synced(calls: &[FileCall]) -> bool {
-    let Some(FileCall::Write(file, _, _)) = calls.first() else {
-        return false;
+    let file = match calls.first() {
+        Some(FileCall::Write(file, _, _)) => *file,
+        Some(FileCall::Cut(file, _)) => *file,
+        _ => return false,
     };
     for call in calls {
         if let FileCall::Sync(synced) = call {
-            if *synced == *file {
+            if *synced == file {
                 return true;
             }
         }
@@ -299,8 +327,37 @@ fn replay(
 ) -> Result<(), AllocError> {
     match call {
         FileCall::Write(file, at, bytes) => put_some(held, *file, *at, bytes, whole, random),
-        FileCall::Cut(file, at, bytes) => put_some(held, *file, *at, bytes, false, random),
+        FileCall::TornWrite(file, at, bytes) => put_some(held, *file, *at, bytes, false, random),
+        FileCall::Cut(file, at) => {
+            cut_some(held, *file, *at, whole, random);
+            Ok(())
+        }
+        FileCall::TornCut(file, at) => {
+            cut_some(held, *file, *at, false, random);
+            Ok(())
+        }
         FileCall::Sync(_) => Ok(()),
+    }
+}
+
+// Makes the bytes from an offset on zeros, all or some of them.
+fn cut_some(held: &mut Vec<Vec<u8>>, file: u8, at: u64, whole: bool, random: &mut u64) {
+    let file = file as usize;
+    if file >= held.len() {
+        return;
+    }
+    let from = at as usize;
+    let how = if whole { 1 } else { roll(random) % 4 };
+    let past = from.saturating_add(roll(random) as usize % (held[file].len() + 1));
+    cut_bytes(&mut held[file], from, how, past, random);
+}
+
+// Makes the bytes from an offset on zeros: none of them (`how` 0), all (1), those past another (2), or those that a coin chooses (3).
+fn cut_bytes(held: &mut [u8], from: usize, how: u64, past: usize, random: &mut u64) {
+    for spot in from..held.len() {
+        if is_kept(how, spot >= past, random) {
+            held[spot] = 0;
+        }
     }
 }
 
@@ -331,16 +388,21 @@ fn put_some(
 // Writes none of the bytes (`how` 0), all (1), those before a cut (2), or those that a coin chooses (3).
 fn put_bytes(held: &mut [u8], from: usize, bytes: &[u8], how: u64, cut: usize, random: &mut u64) {
     for index in 0..bytes.len() {
-        let kept = match how {
-            0 => false,
-            1 => true,
-            2 => index < cut,
-            _ => roll(random) % 2 == 0,
-        };
+        let kept = is_kept(how, index < cut, random);
         let spot = from.saturating_add(index);
         if kept && spot < held.len() {
             held[spot] = bytes[index];
         }
+    }
+}
+
+// Whether a byte of a call is kept.
+fn is_kept(how: u64, inside: bool, random: &mut u64) -> bool {
+    match how {
+        0 => false,
+        1 => true,
+        2 => inside,
+        _ => roll(random) % 2 == 0,
     }
 }
 

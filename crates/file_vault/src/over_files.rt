@@ -6,14 +6,13 @@ ghost use Rattle.vault.specs.Coding.{decoded, IsCode};
 ghost use Rattle.vault.specs.declared.store.VaultError.TheVariants.{Memory, Journal};
 ghost use Rattle.vault.specs.declared.store.Stop.{Stop};
 ghost use Rattle.file_vault.specs.Folders.{HasFile};
-ghost use Rattle.file_vault.specs.Journals.{image_of, gate_at};
+ghost use Rattle.file_vault.specs.Journals.{image_of, place_at};
 ghost use Rattle.file_vault.specs.Vaults.{plan_of, left_of, IsKnown, fault_of_file, AreSynced};
-ghost use Rattle.file_vault.specs.Openings.{found_at_opening, finds_left, left_found};
-ghost use Rattle.vault.specs.declared.store.Stop.TheVariants.{Killed};
 
 use crate::files::{FileFault, Files};
-use crate::journal::{close_first, flush_gates, make_record, put_record, read_body};
-use crate::layout::{HEADER, Layout};
+use crate::journal::{end_at, read_body};
+use crate::layout::{HEADER, JOURNAL, Layout};
+use crate::record::{HEAD, make_record};
 use extent_groups::Place;
 use extents::DRIVES;
 use vault::{Batch, TABLE, Vault, VaultError};
@@ -26,19 +25,16 @@ pub(crate) const LIMIT: u64 = 1 << 60;
 pub struct FileVault<F: Files + Drop> {
     pub(crate) files: F,
     pub(crate) layout: Layout,
-    // The id of the boot in which the files were opened.
-    pub(crate) boot: [u8; 16],
-    // The places of the gates of the journal's batches.
-    pub(crate) gates: Vec<u64>,
-    // The place of the closed gate after them.
+    // The places of the journal's records.
+    pub(crate) places: Vec<u64>,
+    // The place after them.
     pub(crate) end: u64,
-    // How many batches are durable.
+    // How many of the first are durable.
     pub(crate) durable: usize,
     // The journal's file failed.
     pub(crate) broken: bool,
-    // A batch's bytes, and these after their length and before a closed gate.
-    pub(crate) body: Vec<u8>,
-    pub(crate) record: Vec<u8>,
+    // A batch's bytes, or its record.
+    pub(crate) bytes: Vec<u8>,
     ghost end_is: { (4096 ≤ end) × (end ≤ 2 ^ 62) },
 }
 
@@ -53,13 +49,13 @@ fn fault_of(drive: u8) -> VaultError
     }
 }
 
-// The place of the gate of a batch; of one past the last, that of the closed gate.
-#[tactic(auto, using(crate::proofs::Gates::gate_in, crate::proofs::Gates::gate_out))]
-fn gate_at(gates: &[u64], end: u64, index: usize) -> u64
-    ensures { result ≡ gate_at gates.now end index }
+// The place of a batch's record; of one past the last, the place after them.
+#[tactic(auto, using(crate::proofs::Places::place_in, crate::proofs::Places::place_out))]
+fn place_at(places: &[u64], end: u64, index: usize) -> u64
+    ensures { result ≡ place_at places.now end index }
 {
-    if index < gates.len() {
-        gates[index]
+    if index < places.len() {
+        places[index]
     } else {
         end
     }
@@ -147,24 +143,21 @@ impl From<FileFault> for VaultError {
 }
 
 impl<F: Files + Drop> Vault for FileVault<F> {
-    ghost known = { λ v. IsKnown F.Files.known F.Files.seen F.Files.may_leave F.Files.faults v.files v.boot v.gates.items v.end v.durable v.broken };
+    ghost known = { λ v. IsKnown F.Files.known F.Files.seen F.Files.may_leave F.Files.faults v.files v.places.items v.end v.durable v.broken };
 
-    ghost seen = { λ v. image_of (plan_of v.layout) Killed (F.Files.seen v.files) };
+    ghost seen = { λ v. image_of (plan_of v.layout) (F.Files.seen v.files) };
 
-    ghost may_leave = { λ v stop i. left_of (plan_of v.layout) stop (F.Files.may_leave v.files stop) i };
+    ghost may_leave = { λ v stop i. left_of (plan_of v.layout) (F.Files.may_leave v.files stop) i };
 
     ghost moment = { λ v. F.Files.moment v.files };
 
-    // What the next opening may find, which reads the files by the boot's id in them: no stop during a call may leave another id.
-    ghost left_since = { λ v stop t i. found_at_opening (plan_of v.layout) v.boot stop (F.Files.left_since v.files stop t) i };
+    ghost left_since = { λ v stop t i. left_of (plan_of v.layout) (F.Files.left_since v.files stop t) i };
 
     ghost faults = { λ v. F.Files.faults v.files };
 
-    ghost counts_now = { λ v known stop t i le now. finds_left (plan_of v.layout) v.boot stop (F.Files.may_leave v.files stop)
-        (F.Files.left_since v.files stop t) (known.booted.left stop) (λ g here. F.Files.counts_now v.files known.files_known stop t g le here) i now };
+    ghost counts_now = { λ v known stop t i le now. (now.0, F.Files.counts_now v.files known.files_known stop t now.0 le now.1, now.2) };
 
-    ghost only_now = { λ v known stop i left. left_found (plan_of v.layout) v.boot stop (F.Files.may_leave v.files stop)
-        (F.Files.left_since v.files stop (F.Files.moment v.files)) (known.booted.left stop) (F.Files.only_now v.files known.files_known stop) i left };
+    ghost only_now = { λ v known stop i left. (left.0, F.Files.only_now v.files known.files_known stop left.0 left.1, left.2) };
 
     fn write_unit(&mut self, place: Place, unit: &[u8]) -> Result<(), VaultError> {
         let Some(size) = self.layout.size_at(place) else {
@@ -209,15 +202,15 @@ impl<F: Files + Drop> Vault for FileVault<F> {
         if !fits(&self.layout, batch) {
             return Err(VaultError::Misfit);
         }
-        make_record(&mut self.body, &mut self.record, batch)?;
-        let length = self.record.len() as u64;
+        make_record(&mut self.bytes, batch)?;
+        let length = self.bytes.len() as u64;
         if length > LIMIT || self.end > LIMIT {
             return Err(VaultError::Misfit);
         }
-        self.gates.reserve(1)?;
-        match put_record(&mut self.files, self.end, &self.record) {
+        self.places.reserve(1)?;
+        match self.files.write_at(JOURNAL, self.end, &self.bytes) {
             Ok(()) => {
-                self.gates.push_reserved(self.end);
+                self.places.push_reserved(self.end);
                 self.end += length;
                 Ok(())
             }
@@ -232,12 +225,12 @@ impl<F: Files + Drop> Vault for FileVault<F> {
         if self.broken {
             return Err(VaultError::Journal);
         }
-        if self.durable >= self.gates.len() {
+        if self.durable >= self.places.len() {
             return Ok(());
         }
-        match flush_gates(&mut self.files, &self.gates[self.durable..]) {
+        match self.files.sync(JOURNAL) {
             Ok(()) => {
-                self.durable = self.gates.len();
+                self.durable = self.places.len();
                 Ok(())
             }
             Err(_) => {
@@ -251,9 +244,9 @@ impl<F: Files + Drop> Vault for FileVault<F> {
         if self.broken {
             return Err(VaultError::Journal);
         }
-        match close_first(&mut self.files) {
+        match end_at(&mut self.files, HEADER) {
             Ok(()) => {
-                self.gates.clear();
+                self.places.clear();
                 self.end = HEADER;
                 self.durable = 0;
                 Ok(())
@@ -269,19 +262,19 @@ impl<F: Files + Drop> Vault for FileVault<F> {
         if self.broken {
             return Err(VaultError::Journal);
         }
-        Ok(self.gates.len())
+        Ok(self.places.len())
     }
 
     fn read_batch(&mut self, index: usize, batch: &mut Batch) -> Result<(), VaultError> {
         if self.broken {
             return Err(VaultError::Journal);
         }
-        if index >= self.gates.len() {
+        if index >= self.places.len() {
             return Err(VaultError::Journal);
         }
-        let body = gate_at(&self.gates, self.end, index).saturating_add(9);
-        let length = gate_at(&self.gates, self.end, index + 1).saturating_sub(body);
-        read_body(&mut self.files, body, length, &mut self.body)?;
-        decode_into(batch, &self.body)
+        let body = place_at(&self.places, self.end, index).saturating_add(HEAD as u64);
+        let length = place_at(&self.places, self.end, index + 1).saturating_sub(body);
+        read_body(&mut self.files, body, length, &mut self.bytes)?;
+        decode_into(batch, &self.bytes)
     }
 }

@@ -1,7 +1,8 @@
 // Files of the system. What has to be read and believed, since no contract says what a real file holds:
 // - A write is one `pwrite`. What it left out, as on a full disk, makes it fail.
-// - `sync` is `fdatasync`. After a failed write or sync of a file each later one fails, since a later `fdatasync` may return without
-//   an error although bytes of before were dropped.
+// - `cut` is one `ftruncate`. A stop leaves of it that each byte from there on is as it was, or 0, also where it made the file longer.
+// - `sync` is `fdatasync`, which makes the file's length durable too. After a failed write, cut or sync of a file each later one
+//   fails, since a later `fdatasync` may return without an error although bytes of before were dropped.
 // - A read past the end of a file gives zeros. `length` is where it ends.
 // - A killed process leaves what `pwrite` took, and a loss of power leaves what `fdatasync` returned for. A byte is written whole.
 ghost use Rattle.std.specs.Prelude.{◌<◌, IfOk, length};
@@ -11,7 +12,7 @@ use std::alloc::{AllocError, Global};
 use std::fs::File;
 use std::os::unix::fs::FileExt;
 
-/// A file, and whether a write or a sync of it failed.
+/// A file, and whether a write, a cut or a sync of it failed.
 #[derive(Drop)]
 struct Held {
     number: u8,
@@ -74,11 +75,13 @@ fn is_written(file: &File, at: u64, bytes: &[u8]) -> bool {
 
 // Reads bytes, zeros past the end of the file; false where a read fails.
 fn is_read(file: &File, at: u64, out: &mut [u8]) -> bool {
-    out.fill(0);
     let mut done = 0;
     while done < out.len() {
         match file.read_at(&mut out[done..], at.saturating_add(done as u64)) {
-            Ok(0) => return true,
+            Ok(0) => {
+                out[done..].fill(0);
+                return true;
+            }
             Ok(count) => done += count,
             Err(_) => return false,
         }
@@ -106,6 +109,15 @@ impl Files for RealFiles {
     fn write_at(&mut self, file: u8, at: u64, bytes: &[u8]) -> Result<(), FileFault> {
         let spot = self.spot(file)?;
         if self.held[spot].failed || !is_written(&self.held[spot].file, at, bytes) {
+            self.held[spot].failed = true;
+            return Err(FileFault);
+        }
+        Ok(())
+    }
+
+    fn cut(&mut self, file: u8, at: u64) -> Result<(), FileFault> {
+        let spot = self.spot(file)?;
+        if self.held[spot].failed || self.held[spot].file.set_len(at).is_err() {
             self.held[spot].failed = true;
             return Err(FileFault);
         }

@@ -5,7 +5,7 @@ ghost use Rattle.file_vault.specs.Folders.{HasFault};
 ghost use Rattle.file_vault.specs.Twins.{seen_as, lead_of, shown, IsHeld, IsAvailable, IsBoth, IsRaised, newer_of, IsNotNewer, IsFoundIn, ShownElapses};
 
 use crate::files::{FileFault, Files};
-use crate::held::{Held, read_both, sync_both, write_both};
+use crate::held::{Held, cut_both, read_both, sync_both, write_both};
 use crate::joined::{Found, join};
 use crate::layout::{HEADER, JOURNAL};
 use crate::mem_files::one_more;
@@ -130,6 +130,28 @@ impl<F: Files + Drop> Files for TwinFiles<F> {
                 outcome(self.held, &mut self.faults)
             }
             Held::Only(twin, _) => self.files.write_at(twin.number(), at, bytes),
+            Held::Neither => outcome(self.held, &mut self.faults),
+        }
+    }
+
+    fn cut(&mut self, file: u8, at: u64) -> Result<(), FileFault> {
+        if file == SECOND {
+            self.faults = one_more(self.faults);
+            return Err(FileFault);
+        }
+        if file != JOURNAL {
+            return self.files.cut(file, at);
+        }
+        if at < HEADER {
+            self.faults = one_more(self.faults);
+            return Err(FileFault);
+        }
+        match self.held {
+            Held::Both(count) => {
+                self.held = cut_both(&mut self.files, count, at);
+                outcome(self.held, &mut self.faults)
+            }
+            Held::Only(twin, _) => self.files.cut(twin.number(), at),
             Held::Neither => outcome(self.held, &mut self.faults),
         }
     }

@@ -1,7 +1,7 @@
 //! A new disk.
 use crate::disk_files::DiskFiles;
 use crate::folder::{Folder, Name};
-use crate::identity::{boot_of, new_identity};
+use crate::identity::new_identity;
 use crate::opened::{file_bytes, header_of, layout_of};
 use crate::table::text_of;
 use crate::trouble::{Trouble, unwritten};
@@ -14,9 +14,6 @@ use std::io;
 use std::io::Write;
 use uuid::Uuid;
 use vault::TABLE;
-
-// The most bytes of batches for which a new journal has room.
-const MOST_ROOM: u64 = 64 * 1024 * 1024;
 
 // Opens a file that isn't there, for reading too.
 fn make_file(rt: &HostRuntime, folder: Folder<'_>, name: Name) -> Result<File, Trouble> {
@@ -102,13 +99,6 @@ fn look(rt: &HostRuntime, folder: Folder<'_>, drives: u8) -> Result<(), Trouble>
     Ok(())
 }
 
-// Bytes of batches for which a new journal has room at once, so that it need not grow at each sync: half of what the drives have, and
-// 64 MiB at most.
-fn journal_room(layout: &Layout, drives: u8) -> u64 {
-    let units = u64::from(layout.count(0)) * u64::from(drives);
-    (units.saturating_mul(u64::from(layout.unit_bytes)) / 2).min(MOST_ROOM)
-}
-
 // Makes the files of the drives and the state, and both of the journal.
 fn make_files(
     rt: &HostRuntime,
@@ -123,7 +113,7 @@ fn make_files(
     }
     let bytes = file_bytes(layout, TABLE);
     files.put(TABLE, make_zeros(rt, folder, Name::State, bytes)?)?;
-    let bytes = file_bytes(layout, JOURNAL).saturating_add(journal_room(layout, plan.drives));
+    let bytes = file_bytes(layout, JOURNAL);
     for twin in [Twin::First, Twin::Second] {
         let file = make_zeros(rt, folder, Name::Journal(twin), bytes)?;
         files.put(twin.number(), file)?;
@@ -187,7 +177,6 @@ pub(crate) fn create_disk(
         Ok(plan) => plan,
         Err(fault) => return Err(Trouble::Shape(fault)),
     };
-    let boot = boot_of(rt)?;
     let number = new_identity(rt)?;
     let identity = Uuid::from_bytes(number);
     let layout = layout_of(&plan);
@@ -201,7 +190,7 @@ pub(crate) fn create_disk(
     let Ok(twins) = TwinFiles::open(files) else {
         return Err(Trouble::NoJournal);
     };
-    if let Err((error, _files)) = FileVault::create(rt.alloc(), twins, layout, &boot) {
+    if let Err((error, _files)) = FileVault::create(rt.alloc(), twins, layout) {
         return Err(Trouble::Vault(error));
     }
     make_table(rt, folder, identity, &plan)?;

@@ -33,6 +33,13 @@ impl Files for DiskFiles {
         self.files.write_at(file, at, bytes)
     }
 
+    fn cut(&mut self, file: u8, at: u64) -> Result<(), FileFault> {
+        if self.looks {
+            return Ok(());
+        }
+        self.files.cut(file, at)
+    }
+
     fn sync(&mut self, file: u8) -> Result<(), FileFault> {
         if self.looks {
             return Ok(());

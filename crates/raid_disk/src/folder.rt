@@ -13,7 +13,7 @@ pub(crate) enum Name {
     Table,
     /// The table until it is whole.
     Fresh,
-    /// Which drives are lost, and the boot in which the disk was last opened.
+    /// Which drives are lost.
     State,
     /// The journal of a disk that has one alone.
     OneJournal,
@@ -21,19 +21,14 @@ pub(crate) enum Name {
     Journal(Twin),
     /// The file of a drive.
     Drive(u8),
-    /// The system's file with the boot's number.
-    Boot,
     /// The system's file with another number at each read.
     Random,
 }
 
 impl Name {
-    /// The path of a file of the system's.
+    /// The path of the system's file.
     pub(crate) fn system_path(&self) -> &'static str {
-        match self {
-            Name::Boot => "/proc/sys/kernel/random/boot_id",
-            _ => "/proc/sys/kernel/random/uuid",
-        }
+        "/proc/sys/kernel/random/uuid"
     }
 }
 
@@ -56,7 +51,7 @@ impl<'a> Folder<'a> {
             Name::Journal(Twin::First) => format!(in alloc; "{folder}/journal0"),
             Name::Journal(Twin::Second) => format!(in alloc; "{folder}/journal1"),
             Name::Drive(drive) => format!(in alloc; "{folder}/drive{drive}"),
-            Name::Boot | Name::Random => {
+            Name::Random => {
                 let path = name.system_path();
                 format!(in alloc; "{path}")
             }

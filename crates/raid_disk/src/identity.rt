@@ -1,4 +1,4 @@
-//! Numbers that the system gives: the boot's, and one for a new disk.
+//! A number that the system gives for a new disk.
 use crate::folder::Name;
 use crate::trouble::{Trouble, unread};
 use std::fs::File;
@@ -23,11 +23,6 @@ fn read_number(rt: &HostRuntime, name: Name) -> Result<[u8; 16], Trouble> {
         }
         Err(_) => Err(Trouble::NoNumber(name)),
     }
-}
-
-/// The boot's number, which is the same until the machine starts again.
-pub(crate) fn boot_of(rt: &HostRuntime) -> Result<[u8; 16], Trouble> {
-    read_number(rt, Name::Boot)
 }
 
 /// A number that no other disk has.

@@ -4,7 +4,6 @@ ghost use Rattle.extent_groups.specs.Groups.{Agree};
 
 use crate::disk_files::DiskFiles;
 use crate::folder::{Folder, Name};
-use crate::identity::boot_of;
 use crate::journals::{Journals, open_journals};
 use crate::table::{Table, table_in};
 use crate::trouble::{Trouble, unread};
@@ -286,7 +285,7 @@ pub(crate) fn open_disk<N: Chronicle>(
     let (mut files, absent) = open_files(rt, folder, &plan, &layout, usage)?;
     test_headers(&mut files, &layout, &absent, &table)?;
     let (twins, journals) = open_journals(rt, folder, files, &layout, &table, usage)?;
-    let vault = match FileVault::open(alloc, twins, layout, &boot_of(rt)?) {
+    let vault = match FileVault::open(alloc, twins, layout) {
         Ok(vault) => vault,
         Err((error, _files)) => return Err(Trouble::Vault(error)),
     };

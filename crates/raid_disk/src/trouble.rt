@@ -40,8 +40,8 @@ pub(crate) enum Trouble {
     Foreign(u8),
     /// This file isn't there, and nothing can be opened without it.
     Needed(Name),
-    /// The table is of a disk with one journal.
-    OneJournal,
+    /// The table is of an earlier version.
+    Earlier,
     /// Neither file of the journal can be read and written, or the newer one can't.
     NoJournal,
     /// This file of the system's has no number.
@@ -96,8 +96,8 @@ impl Trouble {
             Trouble::Shape(fault) => report_shape(rt, fault),
             Trouble::NoDisk => eprintln!(rt; "raid_disk: {at} has no disk: there is no {at}/table"),
             Trouble::NoTable => eprintln!(rt; "raid_disk: {at}/table isn't the table of a disk"),
-            Trouble::OneJournal => eprintln!(rt;
-                "raid_disk: {at} is a disk with one journal, of an earlier version: copy its bytes to a new disk with the program that made it"
+            Trouble::Earlier => eprintln!(rt;
+                "raid_disk: {at} is a disk of an earlier version: copy its bytes to a new disk with the program that made it"
             ),
             Trouble::NoJournal => eprintln!(rt;
                 "raid_disk: neither {at}/journal0 nor {at}/journal1 can be read and written, or the newer one can't: without it nothing can be read"

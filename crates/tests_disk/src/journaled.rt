@@ -159,13 +159,13 @@ fn failing_vault(rt: &impl Abort, alloc: Global, plan: &Plan) -> FileVault<MemFi
         let pushed = empty.push(Vec::new(alloc)).is_ok();
         assert!(rt; pushed);
     }
-    let made = FileVault::create(alloc, MemFiles::new(alloc, empty), layout, &[1; 16]);
+    let made = FileVault::create(alloc, MemFiles::new(alloc, empty), layout);
     let Ok(vault) = made else {
         panic!(rt; "not made")
     };
     let mut files = vault.into_files();
     files.fail_file_after(1, 1);
-    let Ok(vault) = FileVault::open(alloc, files, layout, &[1; 16]) else {
+    let Ok(vault) = FileVault::open(alloc, files, layout) else {
         panic!(rt; "not opened")
     };
     vault

@@ -76,7 +76,7 @@ fn new_files(rt: &impl Abort, alloc: Global, plan: &Plan) -> MemFiles {
         assert!(rt; pushed);
     }
     let files = MemFiles::new(alloc, first);
-    let Ok(vault) = FileVault::create(alloc, files, layout_of(plan), &[1; 16]) else {
+    let Ok(vault) = FileVault::create(alloc, files, layout_of(plan)) else {
         panic!(rt; "not made")
     };
     vault.into_files()
@@ -126,12 +126,11 @@ fn store_of<N: Chronicle>(
     plan: &Plan,
     opened: Opened<Saved>,
     files: MemFiles,
-    boot: u8,
     absent: &[bool; DRIVES],
 ) -> Result<Store<N>, MemFiles>
     requires { opened ≡ N.chronicle }
 {
-    let vault = match FileVault::open(alloc, files, layout_of(plan), &[boot; 16]) {
+    let vault = match FileVault::open(alloc, files, layout_of(plan)) {
         Ok(vault) => vault,
         Err((_, files)) => return Err(files),
     };
@@ -166,7 +165,7 @@ fn run<N: Chronicle>(
 {
     let mut files = new_files(rt, alloc, plan);
     files.fail_after(calls);
-    match store_of::<N>(rt, alloc, plan, opened, files, 1, &[false; DRIVES]) {
+    match store_of::<N>(rt, alloc, plan, opened, files, &[false; DRIVES]) {
         Ok(mut store) => {
             request_all(rt, alloc, &mut store, reached);
             store.into_vault().into_files()
@@ -193,12 +192,11 @@ fn read_again<N: Chronicle>(
     plan: &Plan,
     opened: Opened<Saved>,
     files: MemFiles,
-    boot: u8,
     absent: &[bool; DRIVES],
 ) -> [u8; 1000]
     requires { opened ≡ N.chronicle }
 {
-    let Ok(mut store) = store_of::<N>(rt, alloc, plan, opened, files, boot, absent) else {
+    let Ok(mut store) = store_of::<N>(rt, alloc, plan, opened, files, absent) else {
         panic!(rt; "not opened")
     };
     let mut out = [7u8; 1000];
@@ -213,11 +211,10 @@ fn bytes_again(
     alloc: Global,
     plan: &Plan,
     files: MemFiles,
-    boot: u8,
     absent: &[bool; DRIVES],
 ) -> [u8; 1000] {
     let opened = opened_in(rt, alloc);
-    read_again::<Brand>(rt, alloc, plan, opened, files, boot, absent)
+    read_again::<Brand>(rt, alloc, plan, opened, files, absent)
 }
 
 // Whether these are the bytes after so many requests or more, and no more than were begun.
@@ -238,10 +235,10 @@ fn stop_at(rt: &impl Abort, alloc: Global, plan: &Plan, calls: u32) -> bool {
         flushed: 0,
     };
     let files = run_stopped(rt, alloc, plan, calls, &mut reached);
-    for (stop, boot, choice) in [
-        (Stop::Killed, 1u8, 0u64),
-        (Stop::PowerLost, 2, u64::from(calls)),
-        (Stop::PowerLost, 2, 977 * u64::from(calls) + 5),
+    for (stop, choice) in [
+        (Stop::Killed, 0u64),
+        (Stop::PowerLost, u64::from(calls)),
+        (Stop::PowerLost, 977 * u64::from(calls) + 5),
     ] {
         let least = match stop {
             Stop::Killed => reached.answered,
@@ -253,7 +250,7 @@ fn stop_at(rt: &impl Abort, alloc: Global, plan: &Plan, calls: u32) -> bool {
             let Ok(left) = files.left(stop, choice) else {
                 panic!(rt; "no memory")
             };
-            let bytes = bytes_again(rt, alloc, plan, left, boot, &absent);
+            let bytes = bytes_again(rt, alloc, plan, left, &absent);
             assert!(rt; is_allowed(rt, &bytes, least, reached.begun));
         }
     }

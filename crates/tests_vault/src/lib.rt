@@ -2,6 +2,8 @@
 #![tactic(auto)]
 
 #[cfg(test)]
+mod records;
+#[cfg(test)]
 mod story;
 #[cfg(test)]
 mod tests;

@@ -165,8 +165,8 @@ impl Recovered {
 }
 
 /// Opens files that a stop left, settles, and reads all units.
-pub(crate) fn recover(alloc: Global, files: MemFiles, boot: u8) -> Recovered {
-    match FileVault::open(alloc, files, layout(), &[boot; 16]) {
+pub(crate) fn recover(alloc: Global, files: MemFiles) -> Recovered {
+    match FileVault::open(alloc, files, layout()) {
         Ok(mut vault) => {
             let units = settled(alloc, &mut vault).ok();
             Recovered {

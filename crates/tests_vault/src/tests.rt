@@ -10,7 +10,7 @@ use vault::{Batch, Stop, Vault, VaultError, add, flush, settle};
 
 // A new vault.
 fn made(rt: &impl Abort, alloc: Global, files: MemFiles) -> FileVault<MemFiles> {
-    match FileVault::create(alloc, files, layout(), &[1; 16]) {
+    match FileVault::create(alloc, files, layout()) {
         Ok(vault) => vault,
         Err(_) => panic!(rt; "not made"),
     }
@@ -25,7 +25,7 @@ fn stopped(rt: &impl Abort, alloc: Global, calls: u32) -> Result<(MemFiles, Reac
         added: 0,
         flushed: 0,
     };
-    let mut vault = match FileVault::open(alloc, files, layout(), &[1; 16]) {
+    let mut vault = match FileVault::open(alloc, files, layout()) {
         Ok(vault) => vault,
         Err((_, files)) => return Ok((files, reached, false)),
     };
@@ -80,14 +80,6 @@ struct Ends {
     choice: u64,
 }
 
-/// The boot after a stop.
-pub(crate) fn boot_after(boot: u8, stop: Stop) -> u8 {
-    match stop {
-        Stop::Killed => boot,
-        Stop::PowerLost => boot.wrapping_add(1),
-    }
-}
-
 // Recovers after a recovery that was stopped, and finds units of after some first batches.
 fn check(
     rt: &impl Abort,
@@ -96,12 +88,11 @@ fn check(
     ends: Ends,
     reached: Reached,
 ) -> Result<usize, Fail> {
-    let boot = boot_after(1, ends.run);
     let mut left = files.left(ends.run, ends.choice)?;
     left.fail_after(ends.calls);
-    let left = recover(alloc, left, boot).files;
+    let left = recover(alloc, left).files;
     let last = left.left(ends.recovery, ends.choice ^ 0x5a5a)?;
-    let Some(units) = recover(alloc, last, boot_after(boot, ends.recovery)).into_units() else {
+    let Some(units) = recover(alloc, last).into_units() else {
         panic!(rt; "not recovered");
     };
     let Some(count) = batches_in(alloc, &units.bytes, reached)? else {
@@ -161,7 +152,7 @@ fn a_drive_that_fails_is_named_and_left_out(rt: HostRuntime) -> Result<(), Fail>
     let alloc = rt.alloc();
     let mut files = made(&rt, alloc, empty_files(alloc, 18)?).into_files();
     files.fail_file_after(1, 1);
-    let Ok(mut vault) = FileVault::open(alloc, files, layout(), &[1; 16]) else {
+    let Ok(mut vault) = FileVault::open(alloc, files, layout()) else {
         panic!(rt; "not opened");
     };
     let mut batch = Batch::new(alloc);
@@ -176,8 +167,7 @@ fn a_drive_that_fails_is_named_and_left_out(rt: HostRuntime) -> Result<(), Fail>
     assert!(rt; vault.batches() == Ok(3));
     lost[1] = true;
     assert!(rt; settle(&mut vault, &mut room, &lost) == Ok(()));
-    let Some(units) = recover(alloc, vault.into_files().left(Stop::Killed, 1)?, 1).into_units()
-    else {
+    let Some(units) = recover(alloc, vault.into_files().left(Stop::Killed, 1)?).into_units() else {
         panic!(rt; "not recovered");
     };
     let after = units_after(alloc, 3)?;

@@ -1,6 +1,6 @@
 //! Vaults whose journal lies in two files: one of them fails, is lost, or is an older one, and all is there.
 use crate::story::{BATCHES, Reached, Recovered, empty_files, layout, run, settled};
-use crate::tests::{batches_in, boot_after};
+use crate::tests::batches_in;
 use file_vault::{FileVault, Found, Held, MemFiles, TwinFiles};
 use std::alloc::Global;
 use std::process::Abort;
@@ -18,13 +18,9 @@ const NOTHING: Reached = Reached {
 };
 
 // Opens a vault. Hands the files back if it can't be.
-fn opened(
-    alloc: Global,
-    files: MemFiles,
-    boot: u8,
-) -> Result<FileVault<TwinFiles<MemFiles>>, MemFiles> {
+fn opened(alloc: Global, files: MemFiles) -> Result<FileVault<TwinFiles<MemFiles>>, MemFiles> {
     match TwinFiles::open(files) {
-        Ok(twins) => match FileVault::open(alloc, twins, layout(), &[boot; 16]) {
+        Ok(twins) => match FileVault::open(alloc, twins, layout()) {
             Ok(vault) => Ok(vault),
             Err((_, twins)) => Err(twins.into_files()),
         },
@@ -38,15 +34,15 @@ fn made(rt: &impl Abort, alloc: Global) -> Result<MemFiles, Fail> {
         panic!(rt; "not opened");
     };
     assert!(rt; twins.found() == Found::Pair);
-    match FileVault::create(alloc, twins, layout(), &[1; 16]) {
+    match FileVault::create(alloc, twins, layout()) {
         Ok(vault) => Ok(vault.into_files().into_files()),
         Err(_) => panic!(rt; "not made"),
     }
 }
 
 // Opens files that a stop left, settles, and reads all units.
-fn recover(alloc: Global, files: MemFiles, boot: u8) -> Recovered {
-    match opened(alloc, files, boot) {
+fn recover(alloc: Global, files: MemFiles) -> Recovered {
+    match opened(alloc, files) {
         Ok(mut vault) => {
             let units = settled(alloc, &mut vault).ok();
             Recovered {
@@ -63,10 +59,9 @@ fn found_in(
     rt: &impl Abort,
     alloc: Global,
     files: MemFiles,
-    boot: u8,
     reached: Reached,
 ) -> Result<(usize, MemFiles), Fail> {
-    let Recovered { files, units } = recover(alloc, files, boot);
+    let Recovered { files, units } = recover(alloc, files);
     let Some(units) = units else {
         panic!(rt; "not recovered");
     };
@@ -79,7 +74,7 @@ fn found_in(
 // A run with files, and how far it came.
 fn ran(alloc: Global, files: MemFiles) -> (MemFiles, Reached, Held, bool) {
     let mut reached = NOTHING;
-    match opened(alloc, files, 1) {
+    match opened(alloc, files) {
         Ok(mut vault) => {
             let done = run(alloc, &mut vault, &mut reached).is_ok();
             let twins = vault.into_files();
@@ -100,14 +95,13 @@ fn check_failed(
 ) -> Result<(), Fail> {
     for choice in 0..6 {
         for stop in [Stop::Killed, Stop::PowerLost] {
-            let boot = boot_after(1, stop);
-            let (count, _) = found_in(rt, alloc, files.left(stop, choice)?, boot, reached)?;
+            let (count, _) = found_in(rt, alloc, files.left(stop, choice)?, reached)?;
             assert!(rt; count == BATCHES);
             let mut left = files.left(stop, choice)?;
             left.fail_file_after(failed, 0);
-            let (count, after) = found_in(rt, alloc, left, boot, reached)?;
+            let (count, after) = found_in(rt, alloc, left, reached)?;
             assert!(rt; count == BATCHES);
-            let (count, _) = found_in(rt, alloc, after.left(stop, choice)?, boot, reached)?;
+            let (count, _) = found_in(rt, alloc, after.left(stop, choice)?, reached)?;
             assert!(rt; count == BATCHES);
         }
     }
@@ -145,16 +139,15 @@ fn check_lost(
     choice: u64,
     reached: Reached,
 ) -> Result<(), Fail> {
-    let boot = boot_after(1, stop);
     let mut left = files.left(stop, choice)?;
     left.fail_file_after(lost.0, lost.1);
-    let (count, after) = found_in(rt, alloc, left, boot, reached)?;
+    let (count, after) = found_in(rt, alloc, left, reached)?;
     assert!(rt; count >= reached.flushed);
     if stop == Stop::Killed {
         assert!(rt; count >= reached.added);
     }
     let again = after.left(stop, choice ^ 0x77)?;
-    let (later, _) = found_in(rt, alloc, again, boot_after(boot, stop), reached)?;
+    let (later, _) = found_in(rt, alloc, again, reached)?;
     assert!(rt; later == count);
     Ok(())
 }
@@ -209,14 +202,13 @@ fn an_older_file_of_the_journal_is_written_over(rt: HostRuntime) -> Result<(), F
         let (files, reached, _, done) = ran(alloc, made(&rt, alloc)?);
         assert!(rt; done);
         for stop in [Stop::Killed, Stop::PowerLost] {
-            let boot = boot_after(1, stop);
             let mut left = files.left(stop, 3)?;
             left.take_file(older, &old)?;
-            let (count, after) = found_in(&rt, alloc, left, boot, reached)?;
+            let (count, after) = found_in(&rt, alloc, left, reached)?;
             assert!(rt; count == BATCHES);
             let mut left = after.left(stop, 4)?;
             left.fail_file_after(other_of(older), 0);
-            let (count, _) = found_in(&rt, alloc, left, boot, reached)?;
+            let (count, _) = found_in(&rt, alloc, left, reached)?;
             assert!(rt; count == BATCHES);
         }
     }

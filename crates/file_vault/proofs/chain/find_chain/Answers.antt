@@ -1,7 +1,7 @@
 use Rattle.std.proofs.Common.{sym, subst}
 use Rattle.file_vault.specs.Folders.{Folder}
-use Rattle.file_vault.specs.Recoveries.{HasChain, rule_of}
-use Rattle.file_vault.proofs.Recovered.{both_read}
+use Rattle.file_vault.specs.Recoveries.{HasChain}
+use Rattle.file_vault.proofs.Chained.{both_read}
 use Rattle.file_vault.proofs.chain.find_chain.Goals as goal
 
 pub returns-in_err-take_next-clause-read : goal.returns-in_err-take_next-clause-read
@@ -21,8 +21,8 @@ loop-chain-preserved g c = record {
       both_read _ _ _ _ _ _ c.args.files.now c.loop-chain.files c.take_next.new.files so_far (c.take_next.ensures.read so_far.keeps);
   chain = λ known.
       let so_far = c.loop-chain.invariant.read known in
-      subst (λ (f : Folder). HasChain (f 17) (rule_of c.args.all) c.take_next.new.chain.gates.items c.take_next.new.chain.end c.take_next.new.chain.marked) so_far.same
+      subst (λ (f : Folder). HasChain (f 17) c.take_next.new.chain.places.items c.take_next.new.chain.end) so_far.same
       (c.in_ok-take_next.ensures.more so_far.keeps
-      (subst (λ (f : Folder). HasChain (f 17) (rule_of c.args.all) c.loop-chain.chain.gates.items c.loop-chain.chain.end c.loop-chain.chain.marked) (sym so_far.same) (c.loop-chain.invariant.chain known)) c.if-not-branch.false);
+      (subst (λ (f : Folder). HasChain (f 17) c.loop-chain.chain.places.items c.loop-chain.chain.end) (sym so_far.same) (c.loop-chain.invariant.chain known)) c.if-not-branch.false);
   inside = (c.in_ok-take_next.ensures.grows c.if-not-branch.false).1;
 }

@@ -1,6 +1,6 @@
 use Rattle.std.proofs.Common.{length}
 use Rattle.std.proofs.lemmas.Result.{on_ok_weaker}
-use Rattle.file_vault.proofs.Gates.{reads_part}
+use Rattle.file_vault.proofs.Places.{reads_part}
 use Rattle.file_vault.proofs.header.read_part.Goals as goal
 
 pub returns-clause-bytes : goal.returns-clause-bytes

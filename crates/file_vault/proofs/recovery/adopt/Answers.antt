@@ -1,39 +1,58 @@
-use Rattle.std.proofs.Common.{◌≡◌, ◌≤◌, ◌⊎◌, ◌∙◌, inl, ℕ, List, refl, ap, subst, rules, length, take}
-use Rattle.std.proofs.lemmas.Result.{on_ok_weaker}
-use Rattle.vault.specs.declared.store.Stop.TheVariants.{Killed}
+use Rattle.std.proofs.Common.{refl, ◌∙◌, ap, subst}
+use Rattle.vault.specs.Moments.{Within}
 use Rattle.file_vault.specs.Folders.{Folder}
-use Rattle.file_vault.specs.Headers.{boot_in, HasBoot}
-use Rattle.file_vault.specs.Journals.{journal_of}
-use Rattle.file_vault.proofs.Opened.{read_first}
-use Rattle.file_vault.proofs.Puts.{one_elapse, both_elapse}
+use Rattle.file_vault.specs.Journals.{IsEnded, journal_of}
+use Rattle.file_vault.specs.Recoveries.{leaves_read}
+use Rattle.file_vault.proofs.Ended.{found_all, found_sound, adopt_ended}
+use Rattle.file_vault.proofs.JournalCalls.{images_are}
+use Rattle.file_vault.proofs.Puts.{one_elapse, both_elapse, sound_seen}
 use Rattle.file_vault.proofs.recovery.adopt.Goals as goal
 
-pub returns-in_err-is_boot-clause-killed : goal.returns-in_err-is_boot-clause-killed
-returns-in_err-is_boot-clause-killed g c = λ known same stop. one_elapse _ _ _ _ _ _ _ (c.is_boot.ensures.time known stop) (λ h was. (h, was, (λ d ne. refl), inl refl))
+pub returns-in_err-chain-clause-time : goal.returns-in_err-chain-clause-time
+returns-in_err-chain-clause-time g c = λ known stop. one_elapse _ _ _ _ _ _ _ ((c.find_chain.ensures.read known).time stop) (λ h was. (h, was, (λ d ne. refl), refl))
 
-pub returns-in_err-is_boot-clause-lost : goal.returns-in_err-is_boot-clause-lost
-returns-in_err-is_boot-clause-lost g c = λ known other plan stop. one_elapse _ _ _ _ _ _ _ (c.is_boot.ensures.time known stop) (read_first plan (g.F.Files.may_leave c.args.files.now stop))
+pub returns-in_err-sync-clause-time : goal.returns-in_err-sync-clause-time
+returns-in_err-sync-clause-time g c = λ known stop.
+    let read = c.find_chain.ensures.read known in
+    let to : Within (g.F.Files.may_leave c.args.files.now stop) (leaves_read (g.F.Files.may_leave c.args.files.now stop)) = λ h was. (h, was, (λ d ne. refl), refl) in
+    both_elapse _ _ _ _ _ _ _ _ _ _ _ (read.time stop) (c.sync.ensures.time read.keeps stop) to (λ h there. to h ((read.time stop).ends h there))
 
-pub returns-then-branch-clause-killed : goal.returns-then-branch-clause-killed
-returns-then-branch-clause-killed g c = λ known same stop.
-    let first = c.is_boot.ensures.time known stop in
-    both_elapse _ _ _ _ _ _ _ _ _ _ _ first (c.adopt_killed.ensures.time (c.is_boot.ensures.stays known) stop) (λ h was. (h, was, (λ d ne. refl), inl refl))
-    (λ h from. (
-      from.0,
-      first.ends from.0 from.1,
-      from.2,
-      subst (λ (s : Folder). (journal_of stop h ≡ journal_of stop from.0) ⊎ ((count : ℕ) × (length (journal_of stop from.0) ≤ count) × (count ≤ length (journal_of Killed s)) × (journal_of stop h ≡ take count (journal_of Killed s))))
-          (c.is_boot.ensures.seen known) from.3,
-    ))
+pub returns-in_err-end_at-clause-time : goal.returns-in_err-end_at-clause-time
+returns-in_err-end_at-clause-time g c = λ known stop.
+    let read = c.find_chain.ensures.read known in
+    let found = found_all (g.F.Files.seen c.args.files.now) (g.F.Files.seen c.find_chain.new.files) read.same _ _ (c.in_ok-chain.ensures.found known) in
+    let to : Within (g.F.Files.may_leave c.args.files.now stop) (leaves_read (g.F.Files.may_leave c.args.files.now stop)) = λ h was. (h, was, (λ d ne. refl), refl) in
+    let so_far = both_elapse _ _ _ _ _ _ _ _ _ _ _ (read.time stop) (c.sync.ensures.time read.keeps stop) to (λ h there. to h ((read.time stop).ends h there)) in
+    both_elapse _ _ _ _ _ _ _ _ _ _ _ so_far (c.end_at.ensures.time (c.sync.ensures.stays read.keeps) stop) (λ h d. d)
+    (adopt_ended (g.F.Files.seen c.find_chain.new.files 17) _ _ _ found (g.F.Files.may_leave c.args.files.now stop) (g.F.Files.may_leave c.sync.new.self stop)
+    (λ h there. (read.time stop).ends h ((c.sync.ensures.time read.keeps stop).ends h there)) (c.in_ok-sync.ensures.durable read.keeps stop))
 
-pub returns-else-branch-clause-lost : goal.returns-else-branch-clause-lost
-returns-else-branch-clause-lost g c = λ known other plan stop.
-    let first = c.is_boot.ensures.time known stop in
-    both_elapse _ _ _ _ _ _ _ _ _ _ _ first (c.adopt_lost.ensures.time (c.is_boot.ensures.stays known) plan stop) (read_first plan (g.F.Files.may_leave c.args.files.now stop))
-    (λ h from. (from.0, first.ends from.0 from.1, from.2))
+pub returns-clause-known : goal.returns-clause-known
+returns-clause-known g c = λ known.
+    let read = c.find_chain.ensures.read known in
+    let found = found_all (g.F.Files.seen c.args.files.now) (g.F.Files.seen c.find_chain.new.files) read.same _ _ (c.in_ok-chain.ensures.found known) in
+    let k2 = c.sync.ensures.stays read.keeps in
+    let sound = found_sound g.F.Files.seen g.F.Files.may_leave c.end_at.new.files (g.F.Files.seen c.find_chain.new.files 17) _ _ _ found
+    (subst (λ (f : Folder). IsEnded c.in_ok-chain.chain.end (f 17) (g.F.Files.seen c.end_at.new.files 17)) (c.sync.ensures.seen read.keeps) (c.in_ok-end_at.ensures.ended k2)) (c.in_ok-end_at.ensures.durable k2) in
+    record { batches = journal_of (g.F.Files.seen c.args.files.now); sound = sound }
 
-pub returns-then-branch-clause-boot : goal.returns-then-branch-clause-boot
-returns-then-branch-clause-boot g c = λ known.
-    let now = c.is_boot.ensures.stays known in
-    on_ok_weaker c.adopt_killed.result (λ has. subst (λ (b : List ℕ). HasBoot b (g.F.Files.seen c.adopt_killed.new.files) (g.F.Files.may_leave c.adopt_killed.new.files))
-    (ap boot_in (c.is_boot.ensures.seen known) ∙ search rules) has) (c.adopt_killed.ensures.boot now)
+pub returns-clause-seen : goal.returns-clause-seen
+returns-clause-seen g c = λ known plan.
+    let read = c.find_chain.ensures.read known in
+    let found = found_all (g.F.Files.seen c.args.files.now) (g.F.Files.seen c.find_chain.new.files) read.same _ _ (c.in_ok-chain.ensures.found known) in
+    let k2 = c.sync.ensures.stays read.keeps in
+    let sound = found_sound g.F.Files.seen g.F.Files.may_leave c.end_at.new.files (g.F.Files.seen c.find_chain.new.files 17) _ _ _ found
+    (subst (λ (f : Folder). IsEnded c.in_ok-chain.chain.end (f 17) (g.F.Files.seen c.end_at.new.files 17)) (c.sync.ensures.seen read.keeps) (c.in_ok-end_at.ensures.ended k2)) (c.in_ok-end_at.ensures.durable k2) in
+    images_are plan (g.F.Files.seen c.args.files.now) (g.F.Files.seen c.end_at.new.files)
+    (λ d ne. c.end_at.ensures.others k2 d ne ∙ ap (λ (f : Folder). f d) (c.sync.ensures.seen read.keeps) ∙ ap (λ (f : Folder). f d) read.same)
+    (sound_seen g.F.Files.seen g.F.Files.may_leave c.end_at.new.files _ _ _ _ sound)
+
+pub returns-clause-time : goal.returns-clause-time
+returns-clause-time g c = λ known stop.
+    let read = c.find_chain.ensures.read known in
+    let found = found_all (g.F.Files.seen c.args.files.now) (g.F.Files.seen c.find_chain.new.files) read.same _ _ (c.in_ok-chain.ensures.found known) in
+    let to : Within (g.F.Files.may_leave c.args.files.now stop) (leaves_read (g.F.Files.may_leave c.args.files.now stop)) = λ h was. (h, was, (λ d ne. refl), refl) in
+    let so_far = both_elapse _ _ _ _ _ _ _ _ _ _ _ (read.time stop) (c.sync.ensures.time read.keeps stop) to (λ h there. to h ((read.time stop).ends h there)) in
+    both_elapse _ _ _ _ _ _ _ _ _ _ _ so_far (c.end_at.ensures.time (c.sync.ensures.stays read.keeps) stop) (λ h d. d)
+    (adopt_ended (g.F.Files.seen c.find_chain.new.files 17) _ _ _ found (g.F.Files.may_leave c.args.files.now stop) (g.F.Files.may_leave c.sync.new.self stop)
+    (λ h there. (read.time stop).ends h ((c.sync.ensures.time read.keeps stop).ends h there)) (c.in_ok-sync.ensures.durable read.keeps stop))

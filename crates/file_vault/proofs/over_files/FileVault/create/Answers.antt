@@ -1,8 +1,8 @@
 use Rattle.std.proofs.Common.{arith, refl, sym, []}
 use Rattle.std.proofs.lemmas.Bool.{false≢true}
 use Rattle.file_vault.specs.Vaults.{plan_of}
-use Rattle.file_vault.proofs.Flushing.{sound_seen}
-use Rattle.file_vault.proofs.Gates.{sound_as}
+use Rattle.file_vault.proofs.Puts.{sound_seen}
+use Rattle.file_vault.proofs.Places.{sound_as}
 use Rattle.file_vault.proofs.JournalCalls.{all_durable}
 use Rattle.file_vault.proofs.Syncs.{logged_empty}
 use Rattle.file_vault.proofs.over_files.FileVault.create.Goals as goal
@@ -10,7 +10,6 @@ use Rattle.file_vault.proofs.over_files.FileVault.create.Goals as goal
 pub returns-in-Ok-clause-known : goal.returns-in-Ok-clause-known
 returns-in-Ok-clause-known g c = λ known. record {
   files_known = c.begin.ensures.stays known;
-  booted = c.in-Ok.ensures.boot known;
   batches = λ whole. record { batches = []; sound = sound_as _ _ _ _ _ _ _ _ _ _ (c.in-Ok.ensures.kept known) (sym c.new.ensures.items) refl refl };
   failed = λ broken. absurd (false≢true broken);
 }

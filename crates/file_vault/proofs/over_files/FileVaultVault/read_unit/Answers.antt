@@ -1,6 +1,5 @@
 use Rattle.std.proofs.Common.{refl, sym, ◌∙◌, ap, subst}
 use Rattle.file_vault.specs.Folders.{Folder, Reads}
-use Rattle.file_vault.specs.Headers.{boot_in}
 use Rattle.file_vault.specs.Vaults.{plan_of}
 use Rattle.file_vault.proofs.Units.{unit_read, other_length}
 use Rattle.file_vault.proofs.Lifts.{lifted, known_on}
@@ -13,8 +12,8 @@ returns-then-size-out-clause-found g c = λ known.
 pub returns-in-Ok-clause-stays : goal.returns-in-Ok-clause-stays
 returns-in-Ok-clause-stays g c = λ known.
     let is = known.files_known in
-    known_on _ _ _ _ c.args.self.now.files c.read_at.new.self _ _ _ _ _ known (c.read_at.ensures.stays is) ((c.read_at.ensures.cause is).later)
-    (ap (λ (f : Folder). f 17) (c.read_at.ensures.seen is)) (ap boot_in (c.read_at.ensures.seen is)) (λ stop h now. (h, (c.read_at.ensures.time is stop).ends h now, refl, refl))
+    known_on _ _ _ _ c.args.self.now.files c.read_at.new.self _ _ _ _ known (c.read_at.ensures.stays is) ((c.read_at.ensures.cause is).later)
+    (ap (λ (f : Folder). f 17) (c.read_at.ensures.seen is)) (λ stop h now. (h, (c.read_at.ensures.time is stop).ends h now, refl))
 
 pub returns-in-Ok-clause-found : goal.returns-in-Ok-clause-found
 returns-in-Ok-clause-found g c = λ known.
@@ -22,13 +21,13 @@ returns-in-Ok-clause-found g c = λ known.
     (subst (λ n. Reads (g.F.Files.seen c.args.self.now.files c.args.place.drive) n c.read_at.new.out) c.offset-offset.ensures (c.in-Ok.ensures.bytes known.files_known))
 
 pub returns-in-Ok-clause-time : goal.returns-in-Ok-clause-time
-returns-in-Ok-clause-time g c = λ known stop. lifted (plan_of c.args.self.now.layout) c.args.self.now.boot stop _ _ _ _ _ _ _ (c.read_at.ensures.time known.files_known stop) (known.booted.left stop) (λ h was. (h, was, refl))
+returns-in-Ok-clause-time g c = λ known stop. lifted (plan_of c.args.self.now.layout) _ _ _ _ _ _ _ (c.read_at.ensures.time known.files_known stop) (λ h was. (h, was, refl))
 
 pub returns-in-Err-clause-stays : goal.returns-in-Err-clause-stays
 returns-in-Err-clause-stays g c = λ known.
     let is = known.files_known in
-    known_on _ _ _ _ c.args.self.now.files c.read_at.new.self _ _ _ _ _ known (c.read_at.ensures.stays is) ((c.read_at.ensures.cause is).later)
-    (ap (λ (f : Folder). f 17) (c.read_at.ensures.seen is)) (ap boot_in (c.read_at.ensures.seen is)) (λ stop h now. (h, (c.read_at.ensures.time is stop).ends h now, refl, refl))
+    known_on _ _ _ _ c.args.self.now.files c.read_at.new.self _ _ _ _ known (c.read_at.ensures.stays is) ((c.read_at.ensures.cause is).later)
+    (ap (λ (f : Folder). f 17) (c.read_at.ensures.seen is)) (λ stop h now. (h, (c.read_at.ensures.time is stop).ends h now, refl))
 
 pub returns-in-Err-clause-time : goal.returns-in-Err-clause-time
-returns-in-Err-clause-time g c = λ known stop. lifted (plan_of c.args.self.now.layout) c.args.self.now.boot stop _ _ _ _ _ _ _ (c.read_at.ensures.time known.files_known stop) (known.booted.left stop) (λ h was. (h, was, refl))
+returns-in-Err-clause-time g c = λ known stop. lifted (plan_of c.args.self.now.layout) _ _ _ _ _ _ _ (c.read_at.ensures.time known.files_known stop) (λ h was. (h, was, refl))
