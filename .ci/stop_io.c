@@ -83,6 +83,23 @@ int ftruncate(int file, off_t at) {
     return ftruncate64(file, at);
 }
 
+ssize_t write(int file, const void *from, size_t bytes) {
+    NEXT(write);
+    off64_t at = file > 2 ? lseek64(file, 0, SEEK_CUR) : -1;
+    if (at < 0) return next(file, from, bytes);
+    if (stops(file, from, bytes, at)) return -1;
+    ssize_t done = next(file, from, bytes);
+    if (done > 0) record(1, file, at, from, done);
+    return done;
+}
+
+// Counts as a write, and isn't recorded.
+int rename(const char *old, const char *new) {
+    NEXT(rename);
+    if (stops(-1, 0, 0, 0)) return -1;
+    return next(old, new);
+}
+
 int fdatasync(int file) {
     NEXT(fdatasync);
     if (stops(file, 0, 0, 0)) return -1;

@@ -1,9 +1,9 @@
-mod Reading
-mod Replaying
-mod Loading
-mod Marking
+pub mod Reading
+pub mod Replaying
+pub mod Loading
+pub mod Marking
 mod Seating
 mod Fading
 mod Rebuilding
-mod Reopening
-mod Outlasting
+pub mod Reopening
+pub mod Outlasting

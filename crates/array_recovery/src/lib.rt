@@ -11,5 +11,7 @@ mod replay;
 mod seat;
 
 pub use fault::RecoveryFault;
+pub use load::load_drives;
+pub use marks::lost_drives;
 pub use open::open_store;
-pub use reopen::recover;
+pub use reopen::{Found, find, recover};

@@ -87,7 +87,7 @@ fn load<V: Vault>(
 }
 
 /// The units of each drive, as the vault has them without its journal. A lost drive's are zeros.
-pub(crate) fn load_drives<V: Vault>(
+pub fn load_drives<V: Vault>(
     alloc: Global,
     vault: &mut V,
     shape: &Shape,

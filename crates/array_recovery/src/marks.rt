@@ -67,7 +67,7 @@ fn is_gone(mark: u8, is_absent: bool) -> bool
 }
 
 /// The drives that are lost: those with a mark, and those that are absent.
-pub(crate) fn lost_drives(marks: &[u8; DRIVES], absent: &[bool; DRIVES]) -> [bool; DRIVES]
+pub fn lost_drives(marks: &[u8; DRIVES], absent: &[bool; DRIVES]) -> [bool; DRIVES]
     ensures gone { AreGone marks.now absent.now result }
     ensures long { length marks.now ≡ 16 }
 {

@@ -31,16 +31,19 @@ use std::alloc::Global;
 use unit_store::Parts;
 use vault::{Batch, Vault};
 
-// The units of each drive after the journal, the marks of the table, and which drives are lost.
+/// What a vault stands for.
 #[derive(Drop)]
-struct Found {
-    caches: Vec<MemDrive>,
-    marks: [u8; DRIVES],
-    lost: [bool; DRIVES],
+pub struct Found {
+    /// The units of each drive after the journal's writes. A lost drive's are zeros.
+    pub caches: Vec<MemDrive>,
+    /// The table's marks.
+    pub marks: [u8; DRIVES],
+    /// Which drives are lost.
+    pub lost: [bool; DRIVES],
 }
 
-// What the vault stands for.
-fn find<V: Vault>(
+/// Finds what a vault stands for. It is only read.
+pub fn find<V: Vault>(
     alloc: Global,
     vault: &mut V,
     shape: &Shape,

@@ -21,6 +21,8 @@ pub(crate) enum Name {
     Journal(Twin),
     /// The file of a drive.
     Drive(u8),
+    /// The file of a drive that is replaced, until it is whole.
+    FreshDrive(u8),
     /// The system's file with another number at each read.
     Random,
 }
@@ -51,6 +53,7 @@ impl<'a> Folder<'a> {
             Name::Journal(Twin::First) => format!(in alloc; "{folder}/journal0"),
             Name::Journal(Twin::Second) => format!(in alloc; "{folder}/journal1"),
             Name::Drive(drive) => format!(in alloc; "{folder}/drive{drive}"),
+            Name::FreshDrive(drive) => format!(in alloc; "{folder}/drive{drive}.new"),
             Name::Random => {
                 let path = name.system_path();
                 format!(in alloc; "{path}")

@@ -1,4 +1,4 @@
-//! A disk on files: made in a folder, served to an NBD client on standard input and output, and described.
+//! A disk on files: made in a folder, served to an NBD client on standard input and output, described, tested and mended.
 #![tactic(auto)]
 
 mod create;
@@ -7,6 +7,8 @@ mod folder;
 mod identity;
 mod journals;
 mod opened;
+mod replace;
+mod scrub;
 mod serve;
 mod size;
 mod status;
@@ -70,7 +72,9 @@ fn run<'w>(rt: &HostRuntime, matches: &ArgMatches<'w>) -> ExitCode {
     let done = match verb {
         "create" => create_from(rt, given, folder),
         "serve" => serve_from(rt, given, folder),
-        _ => status::show(rt, folder),
+        "replace" => replace_from(rt, given, folder),
+        "scrub" => scrub::scrub(rt, folder, given.get_flag("json")),
+        _ => status::show(rt, folder, given.get_flag("json")),
     };
     ended(rt, done, folder)
 }
@@ -98,6 +102,18 @@ fn serve_from<'w>(
     match given.get_str("journal").and_then(size_in) {
         Some(journal) => serve::serve_disk(rt, folder, journal),
         None => Err(Trouble::Size),
+    }
+}
+
+// Replaces the drive that the words name.
+fn replace_from<'w>(
+    rt: &HostRuntime,
+    given: &ArgMatches<'w>,
+    folder: Folder<'_>,
+) -> Result<u8, Trouble> {
+    match given.get_one::<u8>("number") {
+        Some(number) => replace::replace(rt, folder, number),
+        None => Ok(WRONG_WORDS),
     }
 }
 

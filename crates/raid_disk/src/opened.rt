@@ -36,12 +36,12 @@ pub(crate) enum Use {
 /// A disk that is open.
 #[derive(Drop)]
 pub(crate) struct Disk<N: Chronicle> {
-    pub(crate) plan: Plan,
+    pub(crate) table: Table,
     pub(crate) store: JournaledStore<N, DiskVault>,
     /// What was found of the journal's files.
     pub(crate) journals: Journals,
     /// The table's file, which is locked as long as it is open.
-    pub(crate) table: File,
+    pub(crate) file: File,
 }
 
 /// Where units lie in the files of a disk.
@@ -69,7 +69,7 @@ pub(crate) fn file_bytes(layout: &Layout, number: u8) -> u64 {
 }
 
 // Opens the table's file, and locks it.
-fn open_table(rt: &HostRuntime, folder: Folder<'_>, usage: Use) -> Result<File, Trouble> {
+fn lock_table(rt: &HostRuntime, folder: Folder<'_>, usage: Use) -> Result<File, Trouble> {
     let path = folder.path(rt.alloc(), Name::Table)?;
     let opened = OpenOptions::new()
         .read(true)
@@ -242,8 +242,8 @@ fn enter(
     }
 }
 
-// The groups of a plan, and the owners of the extents.
-fn groups_of(alloc: Global, plan: &Plan) -> Result<(GroupTable, ExtentTable), Trouble> {
+/// The groups of a plan, and the owners of the extents.
+pub(crate) fn groups_of(alloc: Global, plan: &Plan) -> Result<(GroupTable, ExtentTable), Trouble> {
     let mut groups = GroupTable::new(alloc, &plan.shape)?;
     let mut extents = ExtentTable::new(alloc, plan.drives, &plan.shape)?;
     if !groups.agrees(&extents) {
@@ -255,8 +255,8 @@ fn groups_of(alloc: Global, plan: &Plan) -> Result<(GroupTable, ExtentTable), Tr
     Ok((groups, extents))
 }
 
-// Why a disk can't be opened.
-fn trouble_of(fault: RecoveryFault) -> Trouble {
+/// Why a disk can't be opened.
+pub(crate) fn trouble_of(fault: RecoveryFault) -> Trouble {
     match fault {
         RecoveryFault::Memory => Trouble::Memory,
         RecoveryFault::Vault(error) => Trouble::Vault(error),
@@ -266,7 +266,96 @@ fn trouble_of(fault: RecoveryFault) -> Trouble {
     }
 }
 
-/// Opens a disk, with all that its journal has, which is settled from so many bytes of units on. A drive without a file is lost.
+/// A disk's files, and nothing more.
+#[derive(Drop)]
+pub(crate) struct OpenFiles {
+    pub(crate) table: Table,
+    pub(crate) vault: DiskVault,
+    /// The drives without a file.
+    pub(crate) absent: [bool; DRIVES],
+    pub(crate) journals: Journals,
+    /// The table's file, which is locked as long as it is open.
+    pub(crate) file: File,
+}
+
+/// Opens a disk's table, and locks it.
+pub(crate) fn open_table(
+    rt: &HostRuntime,
+    folder: Folder<'_>,
+    usage: Use,
+) -> Result<(File, Table), Trouble> {
+    let mut file = lock_table(rt, folder, usage)?;
+    let table = read_table(rt, &mut file)?;
+    Ok((file, table))
+}
+
+/// Opens the other files of a disk. A drive may have none.
+pub(crate) fn open_vault(
+    rt: &HostRuntime,
+    folder: Folder<'_>,
+    usage: Use,
+    file: File,
+    table: Table,
+) -> Result<OpenFiles, Trouble> {
+    let layout = layout_of(&table.plan);
+    let (mut files, absent) = open_files(rt, folder, &table.plan, &layout, usage)?;
+    test_headers(&mut files, &layout, &absent, &table)?;
+    let (twins, journals) = open_journals(rt, folder, files, &layout, &table, usage)?;
+    let vault = match FileVault::open(rt.alloc(), twins, layout) {
+        Ok(vault) => vault,
+        Err((error, _files)) => return Err(Trouble::Vault(error)),
+    };
+    Ok(OpenFiles {
+        table,
+        vault,
+        absent,
+        journals,
+        file,
+    })
+}
+
+/// Opens a disk whose files are open, with all that its journal has, which is settled from so many bytes of units on. A drive without
+/// a file is lost.
+pub(crate) fn open_array<N: Chronicle>(
+    rt: &HostRuntime,
+    files: OpenFiles,
+    journal: u64,
+    opened: Opened<Saved>,
+) -> Result<Disk<N>, Trouble>
+    requires { opened ≡ N.chronicle }
+{
+    let alloc = rt.alloc();
+    let table = files.table;
+    let plan = table.plan;
+    let (groups, extents) = groups_of(alloc, &plan)?;
+    let units = journal
+        .checked_div(plan.shape.unit_bytes() as u64)
+        .unwrap_or(1)
+        .max(1);
+    let store = open_store::<N, DiskVault>(
+        alloc,
+        files.vault,
+        opened,
+        &plan.shape,
+        groups,
+        extents,
+        plan.drives,
+        plan.size,
+        &files.absent,
+        units,
+    );
+    match store {
+        Ok(store) => Ok(Disk {
+            table,
+            store,
+            journals: files.journals,
+            file: files.file,
+        }),
+        Err((fault, _vault)) => Err(trouble_of(fault)),
+    }
+}
+
+/// Opens a disk.
 pub(crate) fn open_disk<N: Chronicle>(
     rt: &HostRuntime,
     folder: Folder<'_>,
@@ -276,42 +365,7 @@ pub(crate) fn open_disk<N: Chronicle>(
 ) -> Result<Disk<N>, Trouble>
     requires { opened ≡ N.chronicle }
 {
-    let alloc = rt.alloc();
-    let mut file = open_table(rt, folder, usage)?;
-    let table = read_table(rt, &mut file)?;
-    let plan = table.plan;
-    let layout = layout_of(&plan);
-    let (groups, extents) = groups_of(alloc, &plan)?;
-    let (mut files, absent) = open_files(rt, folder, &plan, &layout, usage)?;
-    test_headers(&mut files, &layout, &absent, &table)?;
-    let (twins, journals) = open_journals(rt, folder, files, &layout, &table, usage)?;
-    let vault = match FileVault::open(alloc, twins, layout) {
-        Ok(vault) => vault,
-        Err((error, _files)) => return Err(Trouble::Vault(error)),
-    };
-    let units = journal
-        .checked_div(u64::from(layout.unit_bytes))
-        .unwrap_or(1)
-        .max(1);
-    let store = open_store::<N, DiskVault>(
-        alloc,
-        vault,
-        opened,
-        &plan.shape,
-        groups,
-        extents,
-        plan.drives,
-        plan.size,
-        &absent,
-        units,
-    );
-    match store {
-        Ok(store) => Ok(Disk {
-            plan,
-            store,
-            journals,
-            table: file,
-        }),
-        Err((fault, _vault)) => Err(trouble_of(fault)),
-    }
+    let (file, table) = open_table(rt, folder, usage)?;
+    let files = open_vault(rt, folder, usage, file, table)?;
+    open_array::<N>(rt, files, journal, opened)
 }

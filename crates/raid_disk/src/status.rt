@@ -62,17 +62,13 @@ fn missing_in<N: Chronicle>(array: &Array<CachedDrive<N>, Plain>) -> u8 {
 
 fn print<N: Chronicle>(rt: &HostRuntime, disk: &Disk<N>) -> io::Result<()> {
     let array = disk.store.world().array();
-    let plan = &disk.plan;
+    let plan = &disk.table.plan;
     let size = plan.size;
     let block = plan.shape.payload;
     let blocks = plan.shape.blocks;
     println!(rt; "size {size} bytes: {blocks} blocks of {block}")?;
     for drive in 0..array.drive_count() {
-        let state = if array.is_lost(drive) {
-            "missing"
-        } else {
-            "present"
-        };
+        let state = word_of(array, drive);
         println!(rt; "drive{drive} {state}")?;
     }
     for (name, twin) in [("journal0", Twin::First), ("journal1", Twin::Second)] {
@@ -98,16 +94,59 @@ fn print<N: Chronicle>(rt: &HostRuntime, disk: &Disk<N>) -> io::Result<()> {
     }
 }
 
+// The word for a drive's state.
+fn word_of<N: Chronicle>(array: &Array<CachedDrive<N>, Plain>, drive: u8) -> &'static str {
+    if array.is_lost(drive) {
+        "missing"
+    } else {
+        "present"
+    }
+}
+
+fn print_json<N: Chronicle>(rt: &HostRuntime, disk: &Disk<N>) -> io::Result<()> {
+    let array = disk.store.world().array();
+    let plan = &disk.table.plan;
+    let size = plan.size;
+    let block = plan.shape.payload;
+    let blocks = plan.shape.blocks;
+    print!(rt; "{{\"size\":{size},\"block\":{block},\"blocks\":{blocks},\"drives\":[")?;
+    let mut comma = "";
+    for drive in 0..array.drive_count() {
+        let word = word_of(array, drive);
+        print!(rt; "{comma}\"{word}\"")?;
+        comma = ",";
+    }
+    let first = disk.journals.state(Twin::First).word();
+    let second = disk.journals.state(Twin::Second).word();
+    print!(rt; "],\"journals\":[\"{first}\",\"{second}\"]")?;
+    for (name, class) in [("mirrored", Class::Mirrored), ("parity", Class::Parity)] {
+        let Level {
+            groups,
+            slots,
+            used,
+        } = level_of(array, class);
+        print!(rt; ",\"{name}\":{{\"groups\":{groups},\"slots\":{slots},\"used\":{used}}}")?;
+    }
+    let missing = missing_in(array);
+    println!(rt; ",\"missing\":{missing}}}")
+}
+
 // Prints what a disk has.
 fn show_opened<N: Chronicle>(
     rt: &HostRuntime,
     folder: Folder<'_>,
+    json: bool,
     opened: Opened<Saved>,
 ) -> Result<u8, Trouble>
     requires { opened ≡ N.chronicle }
 {
     let disk = open_disk::<N>(rt, folder, Use::Looks, 0, opened)?;
-    match print(rt, &disk) {
+    let printed = if json {
+        print_json(rt, &disk)
+    } else {
+        print(rt, &disk)
+    };
+    match printed {
         Ok(()) => {
             let missing = missing_in(disk.store.world().array());
             let whole = missing == 0 && disk.journals.are_present();
@@ -118,7 +157,7 @@ fn show_opened<N: Chronicle>(
 }
 
 /// Prints a disk's sizes, drives and levels. The status is 1 where a drive or a file of the journal is missing, older or fails.
-pub(crate) fn show(rt: &HostRuntime, folder: Folder<'_>) -> Result<u8, Trouble> {
+pub(crate) fn show(rt: &HostRuntime, folder: Folder<'_>, json: bool) -> Result<u8, Trouble> {
     let opened = Opened::new(rt.alloc())?;
-    show_opened::<Brand>(rt, folder, opened)
+    show_opened::<Brand>(rt, folder, json, opened)
 }

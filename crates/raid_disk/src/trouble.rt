@@ -1,6 +1,8 @@
 //! Why the program ends early.
 use crate::folder::{Folder, Name};
+use crate::opened::trouble_of;
 use disk_shape::ShapeFault;
+use drive_rebuild::RebuildFault;
 use file_vault::{JOURNAL, SECOND, Twin};
 use nbd_serve::End;
 use std::alloc::{AllocError, AllocFailed};
@@ -54,6 +56,14 @@ pub(crate) enum Trouble {
     Stream(End),
     /// Some drive couldn't be synced at the end.
     Sync,
+    /// The disk has no drive of this number.
+    NoDrive(u8),
+    /// The drive that is to be replaced isn't lost.
+    NotLost(u8),
+    /// Another drive is lost than the one that is to be replaced.
+    OtherLost(u8),
+    /// This slot's units contradict one another: the new ones, too, so that the drive stays lost.
+    Contradicts(u16),
 }
 
 impl Trouble {
@@ -62,6 +72,18 @@ impl Trouble {
         match error.kind() {
             io::ErrorKind::OutOfMemory => Trouble::Memory,
             _ => Trouble::Words(error),
+        }
+    }
+
+    /// The trouble of a drive that can't be replaced, or of slots that can't be tested.
+    pub(crate) fn of_rebuild(fault: RebuildFault) -> Trouble {
+        match fault {
+            RebuildFault::Memory => Trouble::Memory,
+            RebuildFault::Vault(error) => Trouble::Vault(error),
+            RebuildFault::Recovery(fault) => trouble_of(fault),
+            RebuildFault::OtherLost(drive) => Trouble::OtherLost(drive),
+            RebuildFault::Unsound(slot) => Trouble::Contradicts(slot),
+            RebuildFault::NotLost | RebuildFault::Misfit => Trouble::Unsound,
         }
     }
 
@@ -181,6 +203,32 @@ impl Trouble {
             Trouble::Vault(_) => {
                 let path = folder.path(rt.alloc(), Name::Folder)?;
                 eprintln!(rt; "raid_disk: {path}: the journal can't be read or written")
+            }
+            _ => self.report_replaced(rt, folder),
+        }
+    }
+
+    // Says why a drive isn't replaced.
+    fn report_replaced(&self, rt: &HostRuntime, folder: Folder<'_>) -> io::Result<()> {
+        let at = folder.name;
+        match self {
+            Trouble::Contradicts(slot) => {
+                let group = slot / 128;
+                let index = slot % 128;
+                eprintln!(rt;
+                    "raid_disk: {at}: the units of slot {index} of group {group} contradict one another: the drive isn't replaced"
+                )
+            }
+            Trouble::NoDrive(drive) => eprintln!(rt; "raid_disk: {at} has no drive {drive}"),
+            Trouble::NotLost(drive) => {
+                let path = folder.path(rt.alloc(), Name::Drive(*drive))?;
+                eprintln!(rt;
+                    "raid_disk: {path} isn't lost: a drive is replaced whose file is missing, or that failed before"
+                )
+            }
+            Trouble::OtherLost(drive) => {
+                let path = folder.path(rt.alloc(), Name::Drive(*drive))?;
+                eprintln!(rt; "raid_disk: {path} is lost too: no other drive can be replaced")
             }
             _ => Ok(()),
         }

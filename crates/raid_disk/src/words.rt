@@ -1,5 +1,5 @@
 //! The command line.
-use clap::{Arg, ArgMatches, Command, Error, value_parser};
+use clap::{Arg, ArgAction, ArgMatches, Command, Error, value_parser};
 use std::alloc::{AllocError, Global};
 
 // The folder that a command names.
@@ -36,6 +36,30 @@ fn create<'a>(alloc: Global) -> Result<Command<'a>, AllocError> {
         .arg(drives)
 }
 
+fn replace<'a>(alloc: Global) -> Result<Command<'a>, AllocError> {
+    let number = Arg::new(alloc, "number")
+        .value_name("NUMBER")
+        .required(true)
+        .value_parser(value_parser!(u8))
+        .help("the lost drive's number, 0 for drive0");
+    Command::new(alloc, "replace")
+        .about("makes the file of a lost drive again, with its units, from the other drives")
+        .arg(folder(alloc))?
+        .arg(number)
+}
+
+// A command that prints what a disk has.
+fn looks<'a>(alloc: Global, name: &'a str, about: &'a str) -> Result<Command<'a>, AllocError> {
+    let json = Arg::new(alloc, "json")
+        .long("json")
+        .action(ArgAction::SetTrue)
+        .help("prints one JSON object");
+    Command::new(alloc, name)
+        .about(about)
+        .arg(folder(alloc))?
+        .arg(json)
+}
+
 /// What the words ask for, as clap reads them.
 pub(crate) fn matches_of<'a>(alloc: Global, words: &'a [String]) -> Result<ArgMatches<'a>, Error> {
     let journal = Arg::new(alloc, "journal")
@@ -47,9 +71,16 @@ pub(crate) fn matches_of<'a>(alloc: Global, words: &'a [String]) -> Result<ArgMa
         .about("serves the disk to one NBD client, on standard input and output")
         .arg(folder(alloc))?
         .arg(journal)?;
-    let status = Command::new(alloc, "status")
-        .about("prints drives, groups, and how full the two levels are")
-        .arg(folder(alloc))?;
+    let scrub = looks(
+        alloc,
+        "scrub",
+        "reads every unit, and compares copies, parity and headers",
+    )?;
+    let status = looks(
+        alloc,
+        "status",
+        "prints drives, groups, and how full the two levels are",
+    )?;
     let program = Command::new(alloc, "raid_disk")
         .about("A disk on files, which reads as before when one of them is lost.")
         .no_binary_name(true)
@@ -57,6 +88,8 @@ pub(crate) fn matches_of<'a>(alloc: Global, words: &'a [String]) -> Result<ArgMa
         .subcommand_required(true)
         .subcommand(create(alloc)?)?
         .subcommand(serve)?
+        .subcommand(replace(alloc)?)?
+        .subcommand(scrub)?
         .subcommand(status)?;
     program.try_get_matches_from(words)
 }

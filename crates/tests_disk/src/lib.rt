@@ -12,6 +12,8 @@ mod model;
 #[cfg(test)]
 mod recovered;
 #[cfg(test)]
+mod replaced;
+#[cfg(test)]
 mod rig;
 #[cfg(test)]
 mod room;

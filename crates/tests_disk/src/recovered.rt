@@ -17,8 +17,8 @@ use std::marker::Brand;
 use std::process::Abort;
 use vault::{MemVault, TABLE, Vault};
 
-// A vault with zeros in all units of the drives, and no lost drive in the table.
-fn formatted(rt: &impl Abort, alloc: Global, plan: &Plan) -> MemVault {
+/// A vault with zeros in all units of the drives, and no lost drive in the table.
+pub(crate) fn formatted(rt: &impl Abort, alloc: Global, plan: &Plan) -> MemVault {
     let mut vault = MemVault::new(alloc);
     let Ok(zeros) = vec![in alloc; 0u8; plan.shape.unit_bytes()] else {
         panic!(rt; "no memory")
@@ -140,14 +140,20 @@ pub(crate) fn opened_in(rt: &impl Abort, alloc: Global) -> Opened<Saved> {
     opened
 }
 
-// The first run of a disk.
-fn begin(rt: &impl Abort, alloc: Global, plan: &Plan, vault: &mut MemVault, model: &mut [u8]) {
+/// The first run of a disk.
+pub(crate) fn begin(
+    rt: &impl Abort,
+    alloc: Global,
+    plan: &Plan,
+    vault: &mut MemVault,
+    model: &mut [u8],
+) {
     let opened = opened_in(rt, alloc);
     run_once::<Brand>(rt, alloc, plan, opened, vault, model);
 }
 
-// Each later run, without the drives that are named.
-fn go_on(
+/// Each later run, without the drives that are named.
+pub(crate) fn go_on(
     rt: &impl Abort,
     alloc: Global,
     plan: &Plan,

@@ -1,0 +1,6 @@
+mod Shown
+mod Restated
+mod Rebuilding
+mod Underway
+mod Verified
+mod Replacing

@@ -1,0 +1,70 @@
+-- When a vault has an array of which no drive is lost.
+use Rattle.std.specs.Prelude.{◌≡◌, ◌⊎◌, ◌<◌, ◌≤◌, ℕ, Bool, false, is_some, Some, List, [], ◌∷◌, length, slice_get}
+use Rattle.extent_groups.specs.declared.place.Place.{Place}
+use Rattle.extent_groups.specs.Planned.{after}
+use Rattle.extent_groups.specs.Groups.{AreGroups, Groups}
+use Rattle.extent_groups.specs.Cells.{Cells, cells, held}
+use Rattle.extent_groups.specs.Stores.{AreDrives, AreSound}
+use Rattle.unit_store.specs.Views.{DriveView, drive_lost, drive_units}
+use Rattle.tiered_array.specs.Views.{TiersView}
+use Rattle.vault.specs.Images.{Image, Matches, SameOn, is_lost, recovered}
+use Rattle.vault.specs.Moments.{AreLogged}
+use Rattle.vault.specs.declared.store.Stop.{Stop}
+use Rattle.journaled_store.specs.Outlasting.{OpensAs}
+use Rattle.journaled_store.specs.Steps.{table_write}
+use Rattle.array_recovery.specs.Found.{IsTable, is_marked}
+use Rattle.array_recovery.specs.Reopened.{EndsAt, IsSoundFor, marked}
+use Rattle.drive_rebuild.specs.Written.{IsOnlyMarked, unmarked}
+
+-- So many drives, each with this many units, lie in a vault, and all slots of the groups are sound: none is lost, copies are equal,
+-- and rows add up to zero.
+pub record AreVerified (groups : Groups) (drives units : ℕ) (c : Cells) : Type 0 where
+  pub views : List DriveView
+  pub many : length views ≡ drives
+  pub few : length views ≤ 16
+  pub alive : (d : ℕ) (v : DriveView) → slice_get views d ≡ Some v → v.lost ≡ false
+  pub long : (d : ℕ) (v : DriveView) → slice_get views d ≡ Some v → length v.units ≡ units
+  pub lies : (d at : ℕ) (v : DriveView) → slice_get views d ≡ Some v → at < length v.units → c d at ≡ slice_get v.units at
+  pub formed : AreGroups groups
+  pub fit : AreDrives drive_units groups views
+  pub sound : AreSound groups (cells drive_units drive_lost views)
+
+-- An image with a drive's new units: the units of before, but for those of lost drives, which are sound with those of the drive, and a
+-- table that doesn't mark it any more.
+pub record IsReplacedIn (groups : Groups) (drives units number : ℕ) (lost : List Bool) (before : Cells) (i : Image) : Type 0 where
+  pub marks : List ℕ
+  pub table : IsTable marks before
+  pub wide : length marks ≡ 16
+  pub only : IsOnlyMarked marks drives number
+  pub ready : Cells
+  pub same : SameOn lost ready before
+  pub there : (x : Place) → x.drive < drives → is_some (held ready x) ≡ is_some (held before x)
+  pub verified : AreVerified groups drives units ready
+  pub matches : Matches (marked (unmarked marks number)) (after ready (table_write (unmarked marks number) ∷ [])) i
+
+-- these are the drives that the table marks
+abbrev pub AreMarked : List Bool → Cells → Type 0
+AreMarked lost c = (marks : List ℕ) → IsTable marks c → (d : ℕ) → is_lost lost d ≡ is_marked marks d
+
+-- what a stop leaves while a drive is replaced: the units of before, but for those of lost drives, or those with the drive's new ones
+abbrev pub IsBeforeOrReplaced : Groups → (drives units number : ℕ) → List Bool → Cells → Image → Type 0
+IsBeforeOrReplaced groups drives units number lost before i = Matches lost before i ⊎ IsReplacedIn groups drives units number lost before i
+
+-- a drive was replaced, and each stop leaves that
+pub record IsReplaced {V : Type 0} (seen : V → Image) (may_leave : V → Stop → Image → Type 0) (groups : Groups) (drives units number : ℕ) (lost : List Bool) (before : Cells) (vault : V) : Type 0 where
+  pub inside : IsReplacedIn groups drives units number lost before (seen vault)
+  pub durable : AreLogged seen may_leave (marked (unmarked inside.marks number)) vault
+
+-- A vault from which an array that shows this is opened now and after each stop, whichever of its drives are absent then. The table
+-- marks none of them.
+pub record IsWhole {V : Type 0} (shows : TiersView → List ℕ → Type 0) (seen : V → Image) (may_leave : V → Stop → Image → Type 0) (what : List ℕ) (groups : Groups) (drives units : ℕ) (vault : V) : Type 0 where
+  pub sound : IsSoundFor shows seen may_leave what groups drives units [] vault
+  pub none_marked : (d : ℕ) → d < drives → is_marked sound.left.kept.marks d ≡ false
+  pub leaves : (stop : Stop) (i : Image) → may_leave vault stop i → OpensAs shows (what ∷ []) groups drives (recovered i)
+
+-- A vault from which an array that shows this is opened. Its table has 16 marks, and it has no unit past the ends of the drives. What
+-- the array shows is given, as for `IsLeftOf`.
+pub record CanBeRebuilt {V : Type 0} (shows : TiersView → List ℕ → Type 0) (seen : V → Image) (may_leave : V → Stop → Image → Type 0) (what : List ℕ) (groups : Groups) (drives units : ℕ) (vault : V) : Type 0 where
+  pub sound : IsSoundFor shows seen may_leave what groups drives units [] vault
+  pub wide : length sound.left.kept.marks ≡ 16
+  pub ends : EndsAt [] drives units (recovered (seen vault))

@@ -1,0 +1,15 @@
+//! A lost drive gets its units again: they are computed from the others', written, read back and tested, and the mark is cleared.
+#![tactic(auto)]
+
+mod compute;
+mod fault;
+mod replace;
+mod scrub;
+mod stages;
+mod verify;
+mod write;
+
+pub use fault::RebuildFault;
+pub use replace::replace_drive;
+pub use scrub::{Findings, NAMED, scrub_parts};
+pub use write::Watch;

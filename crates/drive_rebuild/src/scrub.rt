@@ -1,0 +1,109 @@
+// All slots of an array are tested.
+ghost use Rattle.std.specs.Prelude.{◌≡◌, length, true, IfOk, OnOk};
+ghost use Rattle.extent_groups.specs.Stores.{AreSound, unit_bytes};
+ghost use Rattle.unit_store.specs.Fit.{IsFit};
+ghost use Rattle.unit_store.specs.Slots.{cells_in};
+
+use crate::fault::RebuildFault;
+use consistency_check::{find_unsound, is_sound};
+use extent_groups::{GROUPS, SLOTS};
+use extents::Drive;
+use std::alloc::Global;
+use unit_store::Parts;
+
+/// How many slots that aren't sound are named.
+pub const NAMED: usize = 100;
+
+/// What a test of all slots found.
+#[derive(Drop)]
+pub struct Findings {
+    /// The slots that were tested, whoever holds them.
+    pub slots: u32,
+    /// Those that aren't sound.
+    pub unsound: u32,
+    /// The lowest of them, `NAMED` at most.
+    pub named: Vec<u16>,
+}
+
+// Notes a slot that was tested.
+fn note(findings: &mut Findings, slot: u16, is_sound: bool) -> Result<(), RebuildFault>
+    ensures { OnOk result (findings.new.unsound ≡ 0 → is_sound ≡ true) }
+{
+    findings.slots = findings.slots.saturating_add(1);
+    if is_sound {
+        return Ok(());
+    }
+    findings.unsound = findings.unsound.saturating_add(1);
+    if findings.named.len() < NAMED {
+        findings.named.push(slot)?;
+    }
+    Ok(())
+}
+
+// Tests each slot of a group, with two buffers of a unit's length.
+fn scrub_group<D: Drive>(
+    parts: &mut Parts<D>,
+    group: u16,
+    unit: &mut [u8],
+    other: &mut [u8],
+    findings: &mut Findings,
+) -> Result<(), RebuildFault>
+    requires fit { IsFit D.units parts.old }
+    requires unit { length unit.old ≡ unit_bytes parts.old.groups }
+    requires other { length other.old ≡ unit_bytes parts.old.groups }
+    ensures fit { IsFit D.units parts.new }
+    ensures groups { parts.new.groups ≡ parts.old.groups }
+{
+    for index in 0..parts.groups.slots_of(group) {
+        let slot = SLOTS * group + index;
+        let is_sound = is_sound(parts, slot, unit, other);
+        note(findings, slot, is_sound)?;
+    }
+    Ok(())
+}
+
+// Tests the slots of all groups, with two buffers of a unit's length.
+fn scrub_groups<D: Drive>(
+    parts: &mut Parts<D>,
+    unit: &mut [u8],
+    other: &mut [u8],
+    findings: &mut Findings,
+) -> Result<(), RebuildFault>
+    requires fit { IsFit D.units parts.old }
+    requires unit { length unit.old ≡ unit_bytes parts.old.groups }
+    requires other { length other.old ≡ unit_bytes parts.old.groups }
+    ensures fit { IsFit D.units parts.new }
+    ensures groups { parts.new.groups ≡ parts.old.groups }
+{
+    for group in 0..GROUPS as u16 {
+        scrub_group(parts, group, unit, other, findings)?;
+    }
+    Ok(())
+}
+
+/// Tests all slots of the parts, also those that nobody holds: equal copies, and rows that add up to zero. A slot with a lost drive has
+/// nothing to compare, and is sound.
+pub fn scrub_parts<D: Drive>(alloc: Global, parts: &mut Parts<D>) -> Result<Findings, RebuildFault>
+    // None was found only if all slots are sound.
+    ensures sound { IfOk result (λ f. f.unsound ≡ 0 → AreSound parts.new.groups (cells_in D.units D.lost parts.new)) }
+{
+    if !parts.is_fit() {
+        return Err(RebuildFault::Misfit);
+    }
+    let size = parts.shape.unit_bytes();
+    let mut unit = vec![in alloc; 0u8; size]?;
+    let mut other = vec![in alloc; 0u8; size]?;
+    let mut findings = Findings {
+        slots: 0,
+        unsound: 0,
+        named: Vec::new(alloc),
+    };
+    scrub_groups(parts, &mut unit, &mut other, &mut findings)?;
+    // What the loop has found is counted; that it missed none is tested once more.
+    if let Some(slot) = find_unsound(parts, &mut unit, &mut other) {
+        if findings.unsound == 0 {
+            note(&mut findings, slot, false)?;
+        }
+    }
+    Ok(findings)
+}

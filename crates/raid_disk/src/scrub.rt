@@ -1,0 +1,172 @@
+//! All slots of a disk are tested.
+ghost use Rattle.std.specs.Prelude.{◌≡◌};
+
+use crate::folder::Folder;
+use crate::opened::{OpenFiles, Use, groups_of, open_array, open_table, open_vault, trouble_of};
+use crate::trouble::Trouble;
+use array_recovery::{Found, find};
+use cached_drive::Saved;
+use drive_rebuild::{Findings, scrub_parts};
+use extents::{DRIVES, HotSwap, MemDrive};
+use history::{Chronicle, Opened};
+use std::io;
+use std::marker::Brand;
+use unit_store::Parts;
+
+// What a disk has, as far as it can be tested.
+#[derive(Drop)]
+struct Report {
+    findings: Findings,
+    lost: [bool; DRIVES],
+    drives: u8,
+    /// The units' headers make an array.
+    are_headers_sound: bool,
+}
+
+// Whether a drive is lost.
+fn is_lost(report: &Report, drive: u8) -> bool {
+    drive < report.drives && report.lost[usize::from(drive % 16)]
+}
+
+// How many drives are lost.
+fn lost_count(report: &Report) -> u8 {
+    let mut count = 0u8;
+    for drive in 0..DRIVES as u8 {
+        if is_lost(report, drive) {
+            count = count.saturating_add(1);
+        }
+    }
+    count
+}
+
+// The drives in memory, of which the lost ones say that they are.
+fn without_lost(found: Found) -> Vec<MemDrive> {
+    let mut drives = found.caches;
+    for drive in 0..drives.len() {
+        if drive < DRIVES && found.lost[drive % 16] {
+            drives[drive].lose();
+        }
+    }
+    drives
+}
+
+// Tests the slots of a disk.
+fn test_slots(rt: &HostRuntime, files: &mut OpenFiles) -> Result<Report, Trouble> {
+    let plan = files.table.plan;
+    let (groups, extents) = groups_of(rt.alloc(), &plan)?;
+    let found = match find(
+        rt.alloc(),
+        &mut files.vault,
+        &plan.shape,
+        plan.drives,
+        &files.absent,
+    ) {
+        Ok(found) => found,
+        Err(fault) => return Err(trouble_of(fault)),
+    };
+    let lost = found.lost;
+    let mut parts = Parts {
+        shape: plan.shape,
+        groups,
+        extents,
+        drives: without_lost(found),
+        note: None,
+    };
+    match scrub_parts(rt.alloc(), &mut parts) {
+        Ok(findings) => Ok(Report {
+            findings,
+            lost,
+            drives: plan.drives,
+            are_headers_sound: true,
+        }),
+        Err(fault) => Err(Trouble::of_rebuild(fault)),
+    }
+}
+
+// Tests the slots and then the headers: whether they make an array.
+fn test_disk<N: Chronicle>(
+    rt: &HostRuntime,
+    folder: Folder<'_>,
+    opened: Opened<Saved>,
+) -> Result<Report, Trouble>
+    requires { opened ≡ N.chronicle }
+{
+    let (file, table) = open_table(rt, folder, Use::Looks)?;
+    let mut files = open_vault(rt, folder, Use::Looks, file, table)?;
+    let mut report = test_slots(rt, &mut files)?;
+    match open_array::<N>(rt, files, 0, opened) {
+        Ok(_disk) => {}
+        Err(Trouble::Unsound | Trouble::Gone(_)) => report.are_headers_sound = false,
+        Err(trouble) => return Err(trouble),
+    }
+    Ok(report)
+}
+
+fn print(rt: &HostRuntime, report: &Report) -> io::Result<()> {
+    for slot in report.findings.named.iter() {
+        let group = *slot / 128;
+        let index = *slot % 128;
+        println!(rt; "group {group} slot {index}: its units contradict one another")?;
+    }
+    let unsound = report.findings.unsound;
+    if unsound as usize > report.findings.named.len() {
+        println!(rt; "and others: {unsound} in all")?;
+    }
+    if !report.are_headers_sound {
+        println!(rt; "the headers make no array: blocks can't be found, or units are missing")?;
+    }
+    for drive in 0..report.drives {
+        if is_lost(report, drive) {
+            println!(rt; "drive{drive} is missing: what it shares can't be compared")?;
+        }
+    }
+    let slots = report.findings.slots;
+    if unsound == 0 && report.are_headers_sound {
+        println!(rt; "{slots} slots are sound")
+    } else {
+        println!(rt; "{unsound} of {slots} slots aren't sound")
+    }
+}
+
+fn print_json(rt: &HostRuntime, report: &Report) -> io::Result<()> {
+    let slots = report.findings.slots;
+    let unsound = report.findings.unsound;
+    let headers = report.are_headers_sound;
+    print!(rt; "{{\"slots\":{slots},\"unsound\":{unsound},\"headers\":{headers},\"named\":[")?;
+    let mut comma = "";
+    for slot in report.findings.named.iter() {
+        let group = *slot / 128;
+        let index = *slot % 128;
+        print!(rt; "{comma}{{\"group\":{group},\"slot\":{index}}}")?;
+        comma = ",";
+    }
+    print!(rt; "],\"missing\":[")?;
+    comma = "";
+    for drive in 0..report.drives {
+        if is_lost(report, drive) {
+            print!(rt; "{comma}{drive}")?;
+            comma = ",";
+        }
+    }
+    println!(rt; "]}}")
+}
+
+/// Tests each slot of a disk, and whether the headers make an array. The status is 1 where something is wrong, or a drive is lost.
+pub(crate) fn scrub(rt: &HostRuntime, folder: Folder<'_>, json: bool) -> Result<u8, Trouble> {
+    let opened = Opened::new(rt.alloc())?;
+    let report = test_disk::<Brand>(rt, folder, opened)?;
+    let printed = if json {
+        print_json(rt, &report)
+    } else {
+        print(rt, &report)
+    };
+    if let Err(error) = printed {
+        return Err(Trouble::Output(error));
+    }
+    let is_sound = report.findings.unsound == 0 && report.are_headers_sound;
+    Ok(if is_sound && lost_count(&report) == 0 {
+        0
+    } else {
+        1
+    })
+}
