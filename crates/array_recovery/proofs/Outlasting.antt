@@ -40,12 +40,12 @@ one_of true b back is = refl
 one_of false b back is = back is
 
 -- each stop may leave the same
-one_list : (shows : TiersView → List ℕ → Type 0) (lost : List Bool) (list : List (List ℕ)) (groups : Groups) (count : ℕ) (c : Cells) (stop : Stop) → OpensBut shows lost list groups count c → OpensBut shows lost (allowed stop list list) groups count c
+one_list : {X : Type 0} (shows : TiersView → X → Type 0) (lost : List Bool) (list : List X) (groups : Groups) (count : ℕ) (c : Cells) (stop : Stop) → OpensBut shows lost list groups count c → OpensBut shows lost (allowed stop list list) groups count c
 one_list shows lost list groups count c Killed o = o
 one_list shows lost list groups count c PowerLost o = o
 
-module _ {V : Type 0} (shows : TiersView → List ℕ → Type 0) (seen : V → Image) (may_leave : V → Stop → Image → Type 0) (moment : V → ℕ) (left_since : V → Stop → ℕ → Image → Type 0)
-    (what : List ℕ) (groups : Groups) (drives units : ℕ) (absent : List Bool) (vault : V) (is : IsSoundFor shows seen may_leave what groups drives units absent vault) where
+module _ {V X : Type 0} (shows : TiersView → X → Type 0) (seen : V → Image) (may_leave : V → Stop → Image → Type 0) (moment : V → ℕ) (left_since : V → Stop → ℕ → Image → Type 0)
+    (what : X) (groups : Groups) (drives units : ℕ) (absent : List Bool) (vault : V) (is : IsSoundFor shows seen may_leave what groups drives units absent vault) where
   abbrev marks_were : List ℕ
   marks_were = is.left.kept.marks
 

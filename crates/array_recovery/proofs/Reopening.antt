@@ -17,7 +17,9 @@ use Rattle.cached_drive.specs.Saving.{Units, saved_by}
 use Rattle.journaled_store.specs.Steps.{IsUpToDate, mark_of}
 use Rattle.array_recovery.specs.Found.{AreFormed, AreGone, AreSeated, HaveUnits, IsTable, is_marked}
 use Rattle.array_recovery.proofs.Marking.{index_is}
-use Rattle.journaled_store.specs.Left.{IsLeftOf, IsLostIn}
+use Rattle.byte_store.specs.Lasting.{Shown}
+use Rattle.array_store.specs.Blocks.{Holds}
+use Rattle.journaled_store.specs.Left.{HasBoth, HasKeys, IsLeftOf, IsLostIn}
 use Rattle.journaled_store.specs.Outlasting.{parts_of}
 use Rattle.tiered_array.specs.Views.{TiersView}
 use Rattle.extent_groups.specs.Missing.{is_missing}
@@ -52,7 +54,7 @@ module _ {D : Type 0} (units : D → Units) (gone : D → Bool) (failures : D �
       let in_cache : slice_get m.0.units at ≡ Some unit = subst (λ (u : Units). slice_get u at ≡ Some unit) same is in
       have.each d at m.0 m.1 (sym (seated.gone_are d x e) ∙ not) (slice_get_within m.0.units at unit in_cache) ∙ in_cache
 
-  module _ (shows : TiersView → List ℕ → Type 0) (what : List ℕ) (groups : Groups) (count : ℕ) (is : IsLeftOf shows what groups count absent c) (many : length drives ≡ count) where
+  module _ {X : Type 0} (shows : TiersView → X → Type 0) (what : X) (groups : Groups) (count : ℕ) (is : IsLeftOf shows what groups count absent c) (many : length drives ≡ count) where
     abbrev olds : List DriveView
     olds = is.tiers.world.array.parts.drives
 
@@ -165,3 +167,28 @@ module _ {D : Type 0} (units : D → Units) (gone : D → Bool) (failures : D �
     many = loses.many ∙ ap length drives_are ∙ length-map drives (drive_view units gone failures) ∙ seated.many;
     gone = λ d one. loses.lost d (ap (λ (ds : List DriveView). is_missing drive_lost (slice_get ds d)) drives_are ∙ missing_view d one);
   })
+
+-- an array that showed both had these bytes, and this block map
+pub bytes_left : (what : Shown) (groups : Groups) (count : ℕ) (absent : List Bool) (c : Cells) → IsLeftOf HasBoth what groups count absent c → IsLeftOf Holds what.bytes groups count absent c
+bytes_left what groups count absent c left = record {
+  tiers = left.tiers;
+  shown = left.shown.holds;
+  groups_are = left.groups_are;
+  many = left.many;
+  one = left.one;
+  lost = left.lost;
+  kept = left.kept;
+  excused = left.excused;
+}
+
+pub keys_left : (what : Shown) (groups : Groups) (count : ℕ) (absent : List Bool) (c : Cells) → IsLeftOf HasBoth what groups count absent c → IsLeftOf HasKeys what.keys groups count absent c
+keys_left what groups count absent c left = record {
+  tiers = left.tiers;
+  shown = record { state = left.shown.holds.state; matches = left.shown.holds.matches; keys_are = left.shown.keys_are };
+  groups_are = left.groups_are;
+  many = left.many;
+  one = left.one;
+  lost = left.lost;
+  kept = left.kept;
+  excused = left.excused;
+}

@@ -45,7 +45,7 @@ marked marks = map (λ mark. not (mark == 0)) marks
 
 -- A vault of which a store that shows this is opened, on a shape with this many units a drive, and outlasts the next stop. What a
 -- store shows is given, as for `IsLeftOf`.
-pub record IsSoundFor {V : Type 0} (shows : TiersView → List ℕ → Type 0) (seen : V → Image) (may_leave : V → Stop → Image → Type 0) (what : List ℕ) (groups : Groups) (drives units : ℕ) (absent : List Bool) (vault : V) : Type 0 where
+pub record IsSoundFor {V X : Type 0} (shows : TiersView → X → Type 0) (seen : V → Image) (may_leave : V → Stop → Image → Type 0) (what : X) (groups : Groups) (drives units : ℕ) (absent : List Bool) (vault : V) : Type 0 where
   -- it has all of an array that showed this; a drive of which it may have other units was lost in that array
   pub left : IsLeftOf shows what groups drives [] (recovered (seen vault))
   -- a drive that is absent was lost in that array: the table marks it

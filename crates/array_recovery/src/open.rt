@@ -4,8 +4,9 @@ ghost use Rattle.map_join.specs.Maps.{IsSame};
 ghost use Rattle.extents.specs.Sizes.{extent_units};
 ghost use Rattle.slot_tables.specs.Views.{key_at};
 ghost use Rattle.vault.specs.Images.{recovered};
+ghost use Rattle.byte_store.specs.Lasting.{Shown, Shows};
 ghost use Rattle.array_store.specs.Blocks.{Holds};
-ghost use Rattle.journaled_store.specs.Left.{HasKeys, IsLeftOf};
+ghost use Rattle.journaled_store.specs.Left.{HasBoth, HasKeys, IsLeftOf};
 ghost use Rattle.journaled_store.specs.Outlasting.{Outlasts, point};
 ghost use Rattle.array_recovery.specs.Found.{OnlyRead};
 ghost use Rattle.array_recovery.specs.Reopened.{IsOpenedWith, IsSoundFor};
@@ -48,17 +49,25 @@ pub fn open_store<N: Chronicle, V: Vault + Drop>(
     // And with the same block map: of each block the newest record of before.
     ensures map { V.known vault → (keys : List ℕ) → IsLeftOf HasKeys keys groups drives absent.now (recovered (V.seen vault))
         → IfOk result (λ s. IsSame (key_at s.store.tiers.world.array) (slice_index keys)) }
+
+    // One that showed both shows both: they are of one state.
+    ensures both { V.known vault → (what : Shown) → length what.bytes ≡ size → IsLeftOf HasBoth what groups drives absent.now (recovered (V.seen vault))
+        → IfOk result (λ s. Shows (⟦<JournaledStore<N, V> as ByteStore>⟧.keys s) (record { bytes = what.bytes; unsynced = false }) what
+        × ⟦<JournaledStore<N, V> as ByteStore>⟧.represents s (record { bytes = what.bytes; unsynced = false })) }
     ensures size { IfOk result (λ s. s.store.size ≡ size) }
     ensures works { IfOk result (λ s. s.failed ≡ false) }
     ensures same { IfOk result (λ s. IsOpenedWith groups drives s.changes.noted absent.now s.store.tiers) }
 
-    // A stop leaves a vault of which a store with the same bytes is opened again, and one with the same block map.
+    // A stop leaves a vault of which a store with the same bytes is opened again, one with the same block map, and one with both.
     ensures lasts { V.known vault → (bytes : List ℕ) → length bytes ≡ size
         → IsSoundFor Holds V.seen V.may_leave bytes groups drives (shape.now.extents * extent_units shape.now.segments) absent.now vault
         → IfOk result (λ s. Outlasts Holds V.known V.seen V.may_leave (point s) (bytes ∷ []) (bytes ∷ [])) }
     ensures map_lasts { V.known vault → (keys : List ℕ)
         → IsSoundFor HasKeys V.seen V.may_leave keys groups drives (shape.now.extents * extent_units shape.now.segments) absent.now vault
         → IfOk result (λ s. Outlasts HasKeys V.known V.seen V.may_leave (point s) (keys ∷ []) (keys ∷ [])) }
+    ensures both_last { V.known vault → (what : Shown)
+        → IsSoundFor HasBoth V.seen V.may_leave what groups drives (shape.now.extents * extent_units shape.now.segments) absent.now vault
+        → IfOk result (λ s. ⟦<JournaledStore<N, V> as ByteStore>⟧.outlasts s (what ∷ []) (what ∷ [])) }
 {
     let mut vault = vault;
     match recover::<N, V>(

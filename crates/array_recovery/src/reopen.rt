@@ -9,10 +9,11 @@ ghost use Rattle.extent_groups.specs.Cells.{Cells};
 ghost use Rattle.slot_tables.specs.Views.{key_at};
 ghost use Rattle.vault.specs.Images.{recovered};
 ghost use Rattle.journaled_store.specs.Steps.{IsUpToDate};
+ghost use Rattle.byte_store.specs.Lasting.{Shown};
 ghost use Rattle.array_store.specs.Blocks.{Holds};
 ghost use Rattle.array_store.specs.Stores.{IsStoreOf};
 ghost use Rattle.array_recovery.specs.Found.{AreFormed, AreGone, IsFoundInCells, IsTable, OnlyRead};
-ghost use Rattle.journaled_store.specs.Left.{HasKeys, IsLeftOf};
+ghost use Rattle.journaled_store.specs.Left.{HasBoth, HasKeys, IsLeftOf};
 ghost use Rattle.array_recovery.specs.Reopened.{CoversGone, EndsAt, IsOpenedWith};
 
 use crate::fault::RecoveryFault;
@@ -140,6 +141,10 @@ pub fn recover<N: Chronicle, V: Vault>(
     // And with the same block map: of each block the newest record of before.
     ensures map { V.known vault.old → (keys : List ℕ) → IsLeftOf HasKeys keys groups drives absent.now (recovered (V.seen vault.old))
         → IfOk result (λ r. IsSame (key_at r.0.tiers.world.array) (slice_index keys)) }
+
+    // One that had both has both: they are of one state.
+    ensures both { V.known vault.old → (what : Shown) → length what.bytes ≡ size → IsLeftOf HasBoth what groups drives absent.now (recovered (V.seen vault.old))
+        → IfOk result (λ r. HasBoth r.0.tiers what) }
     ensures size { IfOk result (λ r. r.0.size ≡ size) }
 
     // It has the groups and as many drives as are given, and each drive that is marked or absent is lost in it.

@@ -1,6 +1,6 @@
 -- What a call of the array makes of the disk's bytes, and what it leaves as it is.
 use Rattle.std.specs.Prelude.{IfOk, OnOk, OnErr}
-use Rattle.std.proofs.Common.{◌≡◌, ℕ, List, replicate, Option, Some, None, Result, Ok, Err, refl, sym, ap, ◌∙◌, subst}
+use Rattle.std.proofs.Common.{◌≡◌, ℕ, List, ◌++◌, append_assoc, replicate, Option, Some, None, Result, Ok, Err, refl, sym, ap, ◌∙◌, subst}
 use Rattle.map_join.specs.declared.records.Record.{Record}
 use Rattle.map_join.specs.Maps.{IsMapOf, IsSame}
 use Rattle.slot_tables.specs.Views.{key_at}
@@ -16,12 +16,12 @@ use Rattle.tiered_array.specs.Tiered.{Tiered}
 use Rattle.tiered_array.specs.Views.{TiersView}
 use Rattle.tiered_array.specs.declared.outcome.Outcome.{Outcome}
 use Rattle.array_store.specs.Blocks.{block_bytes, Holds, IsBlockOf, IsPut}
-use Rattle.array_store.specs.Stores.{Follows}
+use Rattle.array_store.specs.Stores.{Follows, IsAfter}
 use Rattle.array_store.proofs.Reading.{found_bytes, nothing_bytes, read_keeps}
 use Rattle.array_store.proofs.Showing.{adds_shows, keeps_shows, block_read}
 use Rattle.flat_machine.specs.Cases.{Leaves}
 use Rattle.flat_machine.specs.Shortened.{IsShortened}
-use Rattle.array_store.proofs.Writing.{KeepsDrives, Keeps, Adds, Wrote, keeps_left, keeps_same, keeps_shortened, wrote_drives, always_wrote, always_stops_keep, spare_keeps, spare_stops_keep}
+use Rattle.array_store.proofs.Writing.{KeepsDrives, Keeps, Adds, Wrote, kept_after, onward_more, wrote_state, keeps_left, keeps_same, keeps_shortened, wrote_drives, always_wrote, always_stops_keep, spare_keeps, spare_stops_keep}
 
 -- the state's payloads are as long as the array's
 pub payload_is : (t : TiersView) (T : Tiered) → RepresentsTiers t T → T.flat.groups.payload ≡ t.world.array.parts.groups.payload
@@ -32,18 +32,42 @@ abbrev pub Makes : TiersView → TiersView → (Flat → Flat → Type 0) → Ty
 Makes t u Turns = (T : Tiered) → RepresentsTiers t T → (U : Tiered) × Turns T.flat U.flat × RepresentsTiers u U
 
 -- an array has the groups and drives of the states that it represents
-follows_of : (t u : TiersView) (T U : Tiered) → RepresentsTiers t T → RepresentsTiers u U → KeepsDrives T.flat U.flat → Follows t u
-follows_of t u T U old new keeps =
+follows_of : (t u : TiersView) (T U : Tiered) → RepresentsTiers t T → RepresentsTiers u U → KeepsDrives T.flat U.flat → Makes t u IsAfter → Follows t u
+follows_of t u T U old new keeps makes =
     let was = old.world.array.tables in
     let is = new.world.array.tables in
     record {
       groups = sym is.groups ∙ (keeps.groups ∙ was.groups);
       many = sym is.drives ∙ (keeps.many ∙ was.drives);
       lost = λ d before. ap (λ f. f d) (sym is.lost) ∙ keeps.lost d (ap (λ f. f d) was.lost ∙ before);
+      after = λ S matches. let done = makes S matches in (done.0, done.2, done.1);
     }
 
+pub follows_same : (t : TiersView) → Follows t t
+follows_same t = record {
+  groups = refl;
+  many = refl;
+  lost = λ d is. is;
+  after = λ T matches. (T, matches, kept_after T.flat T.flat (keeps_same T.flat T.flat refl));
+}
+
+-- states one after another
+after_more : (F G H : Flat) → IsAfter F G → IsAfter G H → IsAfter F H
+after_more F G H a b = record {
+  more = a.more ++ b.more;
+  writes = b.writes ∙ ap (λ ws. ws ++ b.more) a.writes ∙ append_assoc F.writes a.more b.more;
+  records = onward_more F.emitted G.emitted H.emitted a.records b.records;
+}
+
 pub follows_more : (t u v : TiersView) → Follows t u → Follows u v → Follows t v
-follows_more t u v a b = record { groups = b.groups ∙ a.groups; many = b.many ∙ a.many; lost = λ d before. b.lost d (a.lost d before) }
+follows_more t u v a b = record {
+  groups = b.groups ∙ a.groups;
+  many = b.many ∙ a.many;
+  lost = λ d before. b.lost d (a.lost d before);
+  after = λ T matches.
+      let first = a.after T matches in
+      let second = b.after first.0 first.1 in (second.0, second.1, after_more T.flat first.0.flat second.0.flat first.2 second.2);
+}
 
 -- a call without a write leaves the bytes, the groups and the drives
 pub kept_holds : (t u : TiersView) → Makes t u Keeps → (bytes : List ℕ) → Holds t bytes → Holds u bytes
@@ -55,7 +79,7 @@ kept_holds t u makes bytes holds =
 pub kept_follows : (t u : TiersView) → Makes t u Keeps → (bytes : List ℕ) → Holds t bytes → Follows t u
 kept_follows t u makes bytes holds =
     let done = makes holds.state holds.matches in
-    follows_of t u holds.state done.0 holds.matches done.2 done.1.drives
+    follows_of t u holds.state done.0 holds.matches done.2 done.1.drives (λ T matches. let next = makes T matches in (next.0, kept_after T.flat next.0.flat next.1, next.2))
 
 -- what a write does for any worker
 abbrev pub DoesWrite : TiersView → TiersView → ℕ → Content → Outcome → Type 0
@@ -83,6 +107,7 @@ wrote_follows t u b x o does bytes holds =
     let T = holds.state in
     let done = wrote_makes t u b x o does T holds.matches in
     follows_of t u T done.0 holds.matches done.2 (wrote_drives o T.flat done.0.flat b x done.1)
+    (λ S matches. let next = wrote_makes t u b x o does S matches in (next.0, wrote_state o S.flat next.0.flat b x next.1, next.2))
 
 -- one that ran out of memory is none
 pub stopped_makes : (t u : TiersView) (b : ℕ) (x : Content) → ((w : ℕ) (T : Tiered) → RepresentsTiers t T → (U : Tiered) × AlwaysStops T w b x U × RepresentsTiers u U) → Makes t u Keeps
@@ -141,5 +166,5 @@ spared_makes t u (Err e) does stops T matches = let done = stops 0 T matches in 
 -- nor a shorter log
 pub shortened_makes : {E : Type 0} (t u : TiersView) (r : Result (Unit {0}) E)
     → OnOk r ((T : Tiered) → RepresentsTiers t T → (G : Flat) × IsShortened T.flat G × RepresentsTiers u (record T { flat = G })) → OnErr r (u ≡ t) → Makes t u Keeps
-shortened_makes t u (Ok _) does same T matches = let done = does T matches in (record T { flat = done.0 }, keeps_shortened T.flat done.0 done.1, done.2)
+shortened_makes t u (Ok _) does same T matches = let done = does T matches in (record T { flat = done.0 }, keeps_shortened T.flat done.0 (key_at t.world.array) matches.world.array.history done.1, done.2)
 shortened_makes t u (Err e) does same T matches = (T, keeps_same T.flat T.flat refl, subst (λ (v : TiersView). RepresentsTiers v T) (sym same) matches)

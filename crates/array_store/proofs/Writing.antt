@@ -1,5 +1,5 @@
 -- What a placing makes of the last writes: a fresh content is one write more, and a copy is none.
-use Rattle.std.proofs.Common.{◌≡◌, ◌≢◌, inl, inr, ℕ, true, List, [], ◌∷◌, ◌++◌, refl, sym, ap, ◌∙◌, subst, Option, Some, None}
+use Rattle.std.proofs.Common.{◌≡◌, ◌≢◌, ◌<◌, inl, inr, ℕ, true, List, [], ◌∷◌, ◌++◌, append-nil, refl, sym, ap, ◌∙◌, subst, arith, Option, Some, None}
 use Rattle.flat_machine.specs.declared.refusal.Refusal.{Refusal}
 use Rattle.map_join.specs.declared.records.Record.{Record}
 use Rattle.flat_machine.specs.Flat.{Flat, Write, Content, Waiting}
@@ -8,6 +8,12 @@ use Rattle.flat_machine.specs.Steps.{FlatStep, Refused, Released}
 use Rattle.flat_machine.specs.Steps as step
 use Rattle.flat_machine.specs.Cases.{Case, Leaves, Runs, CommitWith}
 use Rattle.flat_machine.specs.Shortened.{IsShortened}
+use Rattle.flat_machine.specs.History.{IsHistory}
+use Rattle.map_join.specs.Maps.{IsMapOf}
+use Rattle.flat_machine.proofs.Newest.{same_map}
+use Rattle.flat_machine.proofs.Shortening.{shortened_history}
+use Rattle.array_store.specs.Stores.{IsAfter, IsOnward}
+use Rattle.std.proofs.lemmas.List.Elements.{Contains-append_left}
 use Rattle.flat_machine.proofs.Pairs.{put_here}
 use Rattle.step_core.proofs.Worlds.{refused_leaves}
 use Rattle.tiered_array.specs.Placing.{Put, Fresh, Again, PlaceCase, PlaceStops, put_step, put_answer, back_steps, back_answers}
@@ -27,18 +33,41 @@ pub record KeepsDrives (F G : Flat) : Type 0 where
 pub record Keeps (F G : Flat) : Type 0 where
   pub drives : KeepsDrives F G
   pub writes : G.writes ≡ F.writes
+  pub records : IsOnward F.emitted G.emitted
 
 -- the second state has one write more
 pub record Adds (F G : Flat) (b : ℕ) (x : Content) : Type 0 where
   pub drives : KeepsDrives F G
   pub version : ℕ
   pub writes : G.writes ≡ F.writes ++ record { block = b; version = version; content = x } ∷ []
+  pub records : IsOnward F.emitted G.emitted
+
+-- logs one after another, and with one record more
+pub onward_same : (log : List Record) → IsOnward log log
+onward_same log r has = (r, has, refl, omega arith)
+
+pub onward_more : (one two three : List Record) → IsOnward one two → IsOnward two three → IsOnward one three
+onward_more one two three a b r has =
+    let q = a r has in
+    let p = b q.0 q.1 in
+    let first = q.3 in
+    let second = p.3 in (p.0, p.1, p.2 ∙ q.2, omega (arith, first, second))
+
+onward_push : (log : List Record) (r : Record) → IsOnward log (log ++ r ∷ [])
+onward_push log r q has = (q, Contains-append_left log (r ∷ []) q has, refl, omega arith)
+
+onward_to : (log one two : List Record) → two ≡ one → IsOnward log one → IsOnward log two
+onward_to log one two same a = subst (IsOnward log) (sym same) a
 
 drives_more : (F M G : Flat) → KeepsDrives F M → KeepsDrives M G → KeepsDrives F G
 drives_more F M G a b = record { groups = b.groups ∙ a.groups; many = b.many ∙ a.many; lost = λ d was. b.lost d (a.lost d was) }
 
 keeps_more : (F M G : Flat) → Keeps F M → Keeps M G → Keeps F G
-keeps_more F M G a b = record { drives = drives_more F M G a.drives b.drives; writes = b.writes ∙ a.writes }
+keeps_more F M G a b = record {
+  drives = drives_more F M G a.drives b.drives;
+  writes = b.writes ∙ a.writes;
+  records = onward_more F.emitted M.emitted G.emitted a.records b.records;
+}
 
 -- M has the groups and drives of F, and G is M but for drives that failed
 drives_left : (F M G : Flat) → Leaves M G → M.groups ≡ F.groups → M.drives ≡ F.drives → M.lost ≡ F.lost → KeepsDrives F G
@@ -48,37 +77,51 @@ drives_left F M G leaves groups many lost = record {
   lost = λ d was. (leaves.drives d).stays (ap (λ f. f d) lost ∙ was);
 }
 
-keeps_from : (F M G : Flat) → Leaves M G → M.groups ≡ F.groups → M.drives ≡ F.drives → M.lost ≡ F.lost → M.writes ≡ F.writes → Keeps F G
-keeps_from F M G leaves groups many lost writes = record {
+keeps_from : (F M G : Flat) → Leaves M G → M.groups ≡ F.groups → M.drives ≡ F.drives → M.lost ≡ F.lost → M.writes ≡ F.writes → IsOnward F.emitted M.emitted → Keeps F G
+keeps_from F M G leaves groups many lost writes records = record {
   drives = drives_left F M G leaves groups many lost;
   writes = ap (λ (x : Flat). x.writes) leaves.same ∙ writes;
+  records = onward_to F.emitted M.emitted G.emitted (ap (λ (x : Flat). x.emitted) leaves.same) records;
 }
 
 pub keeps_left : (F G : Flat) → Leaves F G → Keeps F G
-keeps_left F G leaves = keeps_from F F G leaves refl refl refl refl
+keeps_left F G leaves = keeps_from F F G leaves refl refl refl refl (onward_same F.emitted)
 
 -- a state with another log
-keeps_logged : (F : Flat) (log : List Record) → Keeps F (record F { emitted = log })
-keeps_logged F log = record { drives = record { groups = refl; many = refl; lost = λ d was. was }; writes = refl }
+keeps_logged : (F : Flat) (log : List Record) → IsOnward F.emitted log → Keeps F (record F { emitted = log })
+keeps_logged F log records = record { drives = record { groups = refl; many = refl; lost = λ d was. was }; writes = refl; records = records }
 
-pub keeps_shortened : (F G : Flat) → IsShortened F G → Keeps F G
-keeps_shortened F G short = subst (Keeps F) (sym short.is) (keeps_logged F G.emitted)
+-- one that has of each block the newest record alone
+shortened_map : (F G : Flat) (keys : ℕ → ℕ) → IsHistory F keys → (short : IsShortened F G) → IsMapOf G.emitted short.keys
+shortened_map F G keys is short =
+    (shortened_history F short.keys G.emitted (subst (IsHistory F) (same_map F.emitted keys short.keys is.map short.map_of) is) short.log).map
+
+shortened_onward : (F G : Flat) (keys : ℕ → ℕ) → IsHistory F keys → IsShortened F G → IsOnward F.emitted G.emitted
+shortened_onward F G keys is short r has =
+    let most = short.map_of.most r has in
+    let written = (is.records r has).written in
+    let some : 0 < short.keys r.block = omega (arith, most, written) in
+    let q = (shortened_map F G keys is short).reported r.block some in
+    let same = q.3 in (q.0, q.1, q.2, omega (arith, most, same))
+
+pub keeps_shortened : (F G : Flat) (keys : ℕ → ℕ) → IsHistory F keys → IsShortened F G → Keeps F G
+keeps_shortened F G keys is short = subst (Keeps F) (sym short.is) (keeps_logged F G.emitted (shortened_onward F G keys is short))
 
 pub keeps_same : (F G : Flat) → G ≡ F → Keeps F G
-keeps_same F G same = subst (Keeps F) (sym same) (keeps_logged F F.emitted)
+keeps_same F G same = subst (Keeps F) (sym same) (keeps_logged F F.emitted (onward_same F.emitted))
 
 keeps_claimed : (F G : Flat) (w s t : ℕ) → Case F (step.Claim w s) (step.Claimed t) G → Keeps F G
-keeps_claimed F G w s t case = keeps_from F _ G case.2 refl refl refl refl
+keeps_claimed F G w s t case = keeps_from F _ G case.2 refl refl refl refl (onward_same F.emitted)
 
 keeps_released : (F G : Flat) (w s t : ℕ) → Case F (step.Release w s) (Released t) G → Keeps F G
-keeps_released F G w s t case = keeps_from F _ G case.2 refl refl refl refl
+keeps_released F G w s t case = keeps_from F _ G case.2 refl refl refl refl (onward_same F.emitted)
 
 keeps_discarded : (F G : Flat) (w s t : ℕ) → Case F (step.Discard w s) (step.Discarded t) G → Keeps F G
-keeps_discarded F G w s t case = keeps_from F _ G case.2 refl refl refl refl
+keeps_discarded F G w s t case = keeps_from F _ G case.2 refl refl refl refl (onward_same F.emitted)
 
 keeps_put : (F G : Flat) (what : Put) (w s b : ℕ) → Case F (put_step what w s b) (put_answer what s) G → Keeps F G
-keeps_put F G (Fresh x) w s b case = keeps_from F _ G case.3 refl refl refl refl
-keeps_put F G Again w s b case = keeps_from F _ G case.1.6 refl refl refl refl
+keeps_put F G (Fresh x) w s b case = keeps_from F _ G case.3 refl refl refl refl (onward_same F.emitted)
+keeps_put F G Again w s b case = keeps_from F _ G case.1.6 refl refl refl refl (onward_same F.emitted)
 
 keeps_refused : (F G : Flat) (taken : FlatStep) (k : Refusal) → Case F taken (Refused k) G → Keeps F G
 keeps_refused F G taken k case = keeps_left F G (refused_leaves F G taken k case)
@@ -94,14 +137,19 @@ keeps_back F G w (Some old) run = keeps_given F G w old.place run
 commit_adds : (F G : Flat) (w s b : ℕ) (r : Record) (x : Content) → F.tickets s ≡ Some (waiting.Fresh x) → Case F (step.Commit w s b) (step.Committed r) G → Adds F G b x
 commit_adds F G w s b r x at case =
     let with = subst (λ c. CommitWith F w s b case.2.0 c (step.Committed r) G) at case.2.2 in
-    record { drives = drives_left F _ G with.4 refl refl refl; version = _; writes = ap (λ (x : Flat). x.writes) with.4.same }
+    record {
+      drives = drives_left F _ G with.4 refl refl refl;
+      version = _;
+      writes = ap (λ (x : Flat). x.writes) with.4.same;
+      records = onward_to F.emitted (F.emitted ++ r ∷ []) G.emitted (ap (λ (x : Flat). x.emitted) with.4.same) (onward_push F.emitted r);
+    }
 
 -- a commit of a copy is none
 commit_keeps : (F G : Flat) (w s b : ℕ) (r : Record) (c v h : ℕ) (x : Content) → F.tickets s ≡ Some (waiting.Moved c v h x) → Case F (step.Commit w s b) (step.Committed r) G
     → Keeps F G
 commit_keeps F G w s b r c v h x at case =
     let with = subst (λ o. CommitWith F w s b case.2.0 o (step.Committed r) G) at case.2.2 in
-    keeps_from F _ G with.4 refl refl refl refl
+    keeps_from F _ G with.4 refl refl refl refl (onward_push F.emitted r)
 
 -- what waits at a slot after a fill, and after a copy
 fill_waits : (F G : Flat) (w s : ℕ) (x : Content) → Case F (step.Fill w s x) (step.Filled s) G → G.tickets s ≡ Some (waiting.Fresh x)
@@ -141,6 +189,7 @@ adds_between F H I G b x before is after = record {
   drives = drives_more F I G (drives_more F H I before.drives is.drives) after.drives;
   version = is.version;
   writes = after.writes ∙ is.writes ∙ ap (λ ws. ws ++ record { block = b; version = is.version; content = x } ∷ []) before.writes;
+  records = onward_more F.emitted I.emitted G.emitted (onward_more F.emitted H.emitted I.emitted before.records is.records) after.records;
 }
 
 -- a fresh content that is placed is a write
@@ -179,6 +228,16 @@ wrote_drives (outcome.Placed r) F G b x is = is.drives
 wrote_drives (outcome.Refused k) F G b x is = is.drives
 wrote_drives outcome.NoRoom F G b x is = is.drives
 wrote_drives outcome.Nothing F G b x is = is.drives
+
+-- the state after it
+pub kept_after : (F G : Flat) → Keeps F G → IsAfter F G
+kept_after F G is = record { more = []; writes = is.writes ∙ sym (append-nil F.writes); records = is.records }
+
+pub wrote_state : (o : Outcome) (F G : Flat) (b : ℕ) (x : Content) → Wrote o F G b x → IsAfter F G
+wrote_state (outcome.Placed r) F G b x is = let w : Write = record { block = b; version = is.version; content = x } in record { more = w ∷ []; writes = is.writes; records = is.records }
+wrote_state (outcome.Refused k) F G b x is = kept_after F G is
+wrote_state outcome.NoRoom F G b x is = kept_after F G is
+wrote_state outcome.Nothing F G b x is = kept_after F G is
 
 wrote_after : (o : Outcome) (F M G : Flat) (b : ℕ) (x : Content) → Keeps F M → Wrote o M G b x → Wrote o F G b x
 wrote_after (outcome.Placed r) F M G b x before is = adds_between F M G G b x before is (keeps_same G G refl)

@@ -83,6 +83,7 @@ pub(crate) fn make_spare<D: Drive>(alloc: Global, tiers: &mut Tiers<D>)
 }
 
 /// Shortens a log of more than four records for each block, and of some thousands at least.
+#[tactic(auto, using(crate::proofs::Holding::follows_same))]
 pub(crate) fn shorten_log<D: Drive>(alloc: Global, tiers: &mut Tiers<D>)
     ensures kept { (bytes : List ℕ) → Holds tiers.old bytes → Holds tiers.new bytes }
     ensures room { SameSizes tiers.old.world.array tiers.new.world.array }

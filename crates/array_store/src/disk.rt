@@ -86,6 +86,8 @@ impl<D: Drive> ByteStore for Disk<D> {
 
     ghost stays = { λ s t. Follows s.tiers t.tiers };
 
+    ghost keys = { λ s. s.tiers.world.array.keys };
+
     fn size(&self) -> u64 {
         self.size
     }
@@ -94,6 +96,7 @@ impl<D: Drive> ByteStore for Disk<D> {
         self.tiers.world().array().shape().payload
     }
 
+    #[tactic(auto, using(crate::proofs::Holding::follows_same))]
     fn read(&mut self, offset: u64, out: &mut [u8]) -> Result<(), StoreFault> {
         let shape = self.tiers.world().array().shape();
         let size = shape.payload as usize;
@@ -108,6 +111,7 @@ impl<D: Drive> ByteStore for Disk<D> {
         Ok(())
     }
 
+    #[tactic(auto, using(crate::proofs::Holding::follows_same))]
     fn write(&mut self, alloc: Global, offset: u64, bytes: &[u8]) -> Result<(), StoreFault> {
         let shape = self.tiers.world().array().shape();
         let size = shape.payload as usize;
@@ -123,6 +127,7 @@ impl<D: Drive> ByteStore for Disk<D> {
         Ok(())
     }
 
+    #[tactic(auto, using(crate::proofs::Holding::follows_same))]
     fn zero(&mut self, alloc: Global, offset: u64, length: u32) -> Result<(), StoreFault> {
         let shape = self.tiers.world().array().shape();
         let size = shape.payload as usize;

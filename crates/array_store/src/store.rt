@@ -80,6 +80,8 @@ impl<D: Drive> ByteStore for ArrayStore<D> {
 
     ghost stays = { λ s t. Follows s.tiers t.tiers };
 
+    ghost keys = { λ s. s.tiers.world.array.keys };
+
     fn size(&self) -> u64 {
         self.disk.size()
     }

@@ -1,8 +1,8 @@
 // What a store of bytes promises.
-ghost use Rattle.std.specs.Prelude.{◌≡◌, ℕ, ◌+◌, ◌≤◌, List, length, replicate, slice_range, OnOk, IfErr, ⊤};
+ghost use Rattle.std.specs.Prelude.{◌≡◌, ℕ, ◌+◌, ◌≤◌, List, [], length, replicate, slice_range, OnOk, IfErr, ⊤};
 ghost use Rattle.byte_store.specs.Flat.{StoreState, Sizes};
 ghost use Rattle.byte_store.specs.Changes.{IsChanged, IsFlushed};
-ghost use Rattle.byte_store.specs.Lasting.{Acknowledges, Flushes, Lasts};
+ghost use Rattle.byte_store.specs.Lasting.{Acknowledges, Flushes, Lasts, SameKeys, Shown, Shows};
 ghost use Rattle.byte_store.specs.declared.fault.StoreFault.{StoreFault};
 
 use crate::StoreFault;
@@ -22,15 +22,19 @@ pub trait ByteStore {
     /// What each call leaves as it is, beside the sizes.
     ghost stays: { Self → Self → Type 0 } = { λ old new. ⊤ };
 
-    /// What a stop at this moment leaves: opened again, the store has bytes of the first list if the process was killed, and of the
+    /// What is found again beside the bytes, as the keys of an array's block map; by default nothing. What a store shows are the bytes
+    /// of a flat store and these keys, both of one moment.
+    ghost keys: { Self → List ℕ } = { λ store. [] };
+
+    /// What a stop at this moment leaves: opened again, the store shows one of the first list if the process was killed, and of the
     /// second if the machine lost power. Where nothing is known of it, as by default, the clauses of it say nothing.
-    ghost outlasts: { Self → List (List ℕ) → List (List ℕ) → Type 0 } = { λ store killed cut. ⊥ };
+    ghost outlasts: { Self → List Shown → List Shown → Type 0 } = { λ store killed cut. ⊥ };
 
     /// The moment, as a number that doesn't fall.
     ghost moment: { Self → ℕ } = { λ store. 0 };
 
     /// What a stop at some moment from that one on leaves, during a call or between two.
-    ghost outlasts_since: { Self → ℕ → List (List ℕ) → List (List ℕ) → Type 0 } = { λ store t killed cut. ⊥ };
+    ghost outlasts_since: { Self → ℕ → List Shown → List Shown → Type 0 } = { λ store t killed cut. ⊥ };
 
     /// Bytes of the store.
     fn size(&self) -> u64
@@ -50,7 +54,8 @@ pub trait ByteStore {
         ensures cause { IfErr result may_refuse }
         ensures sizes { sizes self.new ≡ sizes self.old }
         ensures stays { (F : StoreState) → represents self.old F → stays self.old self.new }
-        ensures lasts { (F : StoreState) → represents self.old F → Lasts outlasts moment outlasts_since F.bytes F.bytes self.old self.new };
+        ensures lasts { (F : StoreState) (a : Shown) → represents self.old F → Shows (keys self.old) F a
+            → Lasts outlasts moment outlasts_since a a self.old self.new };
 
     /// Writes bytes from an offset on. A refused write may have stopped in its middle.
     fn write(&mut self, alloc: Global, offset: u64, bytes: &[u8]) -> Result<(), StoreFault>
@@ -60,10 +65,10 @@ pub trait ByteStore {
         ensures cause { IfErr result may_refuse }
         ensures sizes { sizes self.new ≡ sizes self.old }
         ensures stays { (F : StoreState) → represents self.old F → stays self.old self.new }
-        ensures lasts { (F G : StoreState) → represents self.old F → represents self.new G
-            → Lasts outlasts moment outlasts_since F.bytes G.bytes self.old self.new }
-        ensures acknowledged { (F G : StoreState) → represents self.old F → represents self.new G
-            → OnOk result (Acknowledges outlasts F.bytes G.bytes self.old self.new) };
+        ensures lasts { (F G : StoreState) (a b : Shown) → represents self.old F → represents self.new G
+            → Shows (keys self.old) F a → Shows (keys self.new) G b → Lasts outlasts moment outlasts_since a b self.old self.new }
+        ensures acknowledged { (F G : StoreState) (a b : Shown) → represents self.old F → represents self.new G
+            → Shows (keys self.old) F a → Shows (keys self.new) G b → OnOk result (Acknowledges outlasts a b self.old self.new) };
 
     /// Makes the bytes from an offset on zero. A refusal may have come in its middle.
     fn zero(&mut self, alloc: Global, offset: u64, length: u32) -> Result<(), StoreFault>
@@ -73,10 +78,10 @@ pub trait ByteStore {
         ensures cause { IfErr result may_refuse }
         ensures sizes { sizes self.new ≡ sizes self.old }
         ensures stays { (F : StoreState) → represents self.old F → stays self.old self.new }
-        ensures lasts { (F G : StoreState) → represents self.old F → represents self.new G
-            → Lasts outlasts moment outlasts_since F.bytes G.bytes self.old self.new }
-        ensures acknowledged { (F G : StoreState) → represents self.old F → represents self.new G
-            → OnOk result (Acknowledges outlasts F.bytes G.bytes self.old self.new) };
+        ensures lasts { (F G : StoreState) (a b : Shown) → represents self.old F → represents self.new G
+            → Shows (keys self.old) F a → Shows (keys self.new) G b → Lasts outlasts moment outlasts_since a b self.old self.new }
+        ensures acknowledged { (F G : StoreState) (a b : Shown) → represents self.old F → represents self.new G
+            → Shows (keys self.old) F a → Shows (keys self.new) G b → OnOk result (Acknowledges outlasts a b self.old self.new) };
 
     /// Makes all bytes durable.
     fn flush(&mut self) -> Result<(), StoreFault>
@@ -85,8 +90,11 @@ pub trait ByteStore {
         ensures cause { IfErr result may_refuse }
         ensures sizes { sizes self.new ≡ sizes self.old }
         ensures stays { (F : StoreState) → represents self.old F → stays self.old self.new }
-        ensures lasts { (F : StoreState) → represents self.old F → Lasts outlasts moment outlasts_since F.bytes F.bytes self.old self.new }
-        ensures flushed { (F : StoreState) → represents self.old F → OnOk result (Flushes outlasts F.bytes self.old self.new) };
+        ensures keys { (F : StoreState) → represents self.old F → SameKeys (keys self.new) (keys self.old) }
+        ensures lasts { (F : StoreState) (a : Shown) → represents self.old F → Shows (keys self.old) F a
+            → Lasts outlasts moment outlasts_since a a self.old self.new }
+        ensures flushed { (F : StoreState) (a : Shown) → represents self.old F → Shows (keys self.old) F a
+            → OnOk result (Flushes outlasts a self.old self.new) };
 
     /// Called while nobody waits for the store, so that it can do ahead what later requests would wait for. The bytes stay. A
     /// store that has nothing to do ahead leaves it as it is.
@@ -94,5 +102,6 @@ pub trait ByteStore {
         ensures kept { (F : StoreState) → represents self.old F → represents self.new F }
         ensures sizes { sizes self.new ≡ sizes self.old }
         ensures stays { (F : StoreState) → represents self.old F → stays self.old self.new }
-        ensures lasts { (F : StoreState) → represents self.old F → Lasts outlasts moment outlasts_since F.bytes F.bytes self.old self.new };
+        ensures lasts { (F : StoreState) (b : Shown) → represents self.old F → Shows (keys self.new) F b
+            → Lasts outlasts moment outlasts_since b b self.old self.new };
 }

@@ -28,28 +28,25 @@ pub either : (b : Bool) → (b ≡ true) ⊎ (b ≡ false)
 either true = inl refl
 either false = inr refl
 
-pub allowed_within : (stop : Stop) (killed cut more_killed more_cut : List (List ℕ)) → Within killed more_killed → Within cut more_cut → Within (allowed stop killed cut) (allowed stop more_killed more_cut)
+pub allowed_within : {X : Type 0} (stop : Stop) (killed cut more_killed more_cut : List X) → Within killed more_killed → Within cut more_cut → Within (allowed stop killed cut) (allowed stop more_killed more_cut)
 allowed_within Killed killed cut more_killed more_cut k c = k
 allowed_within PowerLost killed cut more_killed more_cut k c = c
 
-pub allowed_has : (stop : Stop) (killed cut : List (List ℕ)) (b : List ℕ) → Contains killed b → Contains cut b → Contains (allowed stop killed cut) b
+pub allowed_has : {X : Type 0} (stop : Stop) (killed cut : List X) (b : X) → Contains killed b → Contains cut b → Contains (allowed stop killed cut) b
 allowed_has Killed killed cut b k c = k
 allowed_has PowerLost killed cut b k c = c
 
 -- a list with what is shown before and after a call has each of the two
-pub only_before : (more some : List (List ℕ)) (before now : List ℕ) → Covers more some before now → Covers more some before before
+pub only_before : {X : Type 0} (more some : List X) (before now : X) → Covers more some before now → Covers more some before before
 only_before more some before now c = record { each = c.each; has_before = c.has_before; has_now = c.has_before }
 
-pub only_now : (more some : List (List ℕ)) (before now : List ℕ) → Covers more some before now → Covers more some now now
+pub only_now : {X : Type 0} (more some : List X) (before now : X) → Covers more some before now → Covers more some now now
 only_now more some before now c = record { each = c.each; has_before = c.has_now; has_now = c.has_now }
 
 -- how many batches a stop leaves at least, where a kill leaves all
 abbrev least : ℕ → ℕ → Stop → ℕ
 least all cut Killed = all
 least all cut PowerLost = cut
-
-pub follows_same : (t : TiersView) → Follows t t
-follows_same t = record { groups = refl; many = refl; lost = λ d is. is }
 
 -- a call by whether its journal failed
 pub unless_sync : (r : Result (Unit {0}) StoreFault) (P : Type 0) → UnlessSync r P → is_sync r ≡ false → P
@@ -76,8 +73,8 @@ on_ok_by (Ok x) p = p refl
 on_ok_by (Err e) p = tt
 
 -- said of what has a place in a store
-pub lasts_at : {S P : Type 0} (at : S → P) (outlasts : P → List (List ℕ) → List (List ℕ) → Type 0) (moment : P → ℕ) (outlasts_since : P → ℕ → List (List ℕ) → List (List ℕ) → Type 0)
-    (before now : List ℕ) (old new : S) → Lasts outlasts moment outlasts_since before now (at old) (at new)
+pub lasts_at : {S P X : Type 0} (at : S → P) (outlasts : P → List X → List X → Type 0) (moment : P → ℕ) (outlasts_since : P → ℕ → List X → List X → Type 0)
+    (before now : X) (old new : S) → Lasts outlasts moment outlasts_since before now (at old) (at new)
     → Lasts (λ s. outlasts (at s)) (λ s. moment (at s)) (λ s. outlasts_since (at s)) before now old new
 lasts_at at outlasts moment outlasts_since before now old new lasts = record { later = lasts.later; following = lasts.following; during = lasts.during; earlier = lasts.earlier }
 
@@ -99,29 +96,29 @@ pub record Published {V : Type 0} (known : V → Type 0) (seen : V → Image) (m
       → (stop : Stop) (low : ℕ) → IsLogged seen may_leave lost stop p.vault low
       → LeavesOnly moment left_since stop p.vault q.vault (IsBeforeOrNow lost (seen p.vault) low (parts_of p.tiers).drives)
 
-module _ {V : Type 0} (shows : TiersView → List ℕ → Type 0) (known : V → Type 0) (seen : V → Image) (may_leave : V → Stop → Image → Type 0) (moment : V → ℕ) (left_since : V → Stop → ℕ → Image → Type 0)
+module _ {V X : Type 0} (shows : TiersView → X → Type 0) (known : V → Type 0) (seen : V → Image) (may_leave : V → Stop → Image → Type 0) (moment : V → ℕ) (left_since : V → Stop → ℕ → Image → Type 0)
     (counts_now : (vault : V) → known vault → (stop : Stop) (t : ℕ) (i : Image) → t ≤ moment vault → may_leave vault stop i → left_since vault stop t i)
     (only_now : (vault : V) → known vault → (stop : Stop) (i : Image) → left_since vault stop (moment vault) i → may_leave vault stop i) where
-  pub table : (p : Point V) (killed cut : List (List ℕ)) (w : Works shows seen may_leave p killed cut) → is_lost w.lost 16 ≡ false
+  pub table : (p : Point V) (killed cut : List X) (w : Works shows seen may_leave p killed cut) → is_lost w.lost 16 ≡ false
   table p killed cut w = w.few 16 (omega arith)
 
   -- the vault is as it was
   module _ (p q : Point V) (vault : q.vault ≡ p.vault) (follows : Follows p.tiers q.tiers) (works : q.failed ≡ false → p.failed ≡ false)
       (step : (lost : List Bool) (c : Cells) → IsUpToDate lost p.keeper p.noted p.batch c → IsUpToDate lost q.keeper q.noted q.batch c) where
-    as_then : (list more : List (List ℕ)) (c : Cells) → Within list more → OpensAs shows list (parts_of p.tiers).groups (length (parts_of p.tiers).drives) c
+    as_then : (list more : List X) (c : Cells) → Within list more → OpensAs shows list (parts_of p.tiers).groups (length (parts_of p.tiers).drives) c
         → OpensAs shows more (parts_of q.tiers).groups (length (parts_of q.tiers).drives) c
     as_then list more c within o =
         subst (λ n. OpensAs shows more (parts_of q.tiers).groups n c) (sym follows.many)
         (subst (λ g. OpensAs shows more g (length (parts_of p.tiers).drives) c) (sym follows.groups) (record { what = o.what; listed = within o.what o.listed; left = λ absent d there same. o.left absent d there same }))
 
-    but_then : (lost : List Bool) → is_lost lost 16 ≡ false → (list more : List (List ℕ)) (c : Cells) → Within list more
+    but_then : (lost : List Bool) → is_lost lost 16 ≡ false → (list more : List X) (c : Cells) → Within list more
         → OpensBut shows lost list (parts_of p.tiers).groups (length (parts_of p.tiers).drives) c → OpensBut shows lost more (parts_of q.tiers).groups (length (parts_of q.tiers).drives) c
     but_then lost there list more c within o =
         subst (λ n. OpensBut shows lost more (parts_of q.tiers).groups n c) (sym follows.many)
         (subst (λ g. OpensBut shows lost more g (length (parts_of p.tiers).drives) c) (sym follows.groups)
         (opens_more shows lost there (parts_of p.tiers).groups (length (parts_of p.tiers).drives) list more c within o))
 
-    module _ (killed cut more_killed more_cut : List (List ℕ)) (out : Outlasts shows known seen may_leave p killed cut) (k : Within killed more_killed) (c : Within cut more_cut) where
+    module _ (killed cut more_killed more_cut : List X) (out : Outlasts shows known seen may_leave p killed cut) (k : Within killed more_killed) (c : Within cut more_cut) where
       with_vault : (v : V) → v ≡ p.vault → Outlasts shows known seen may_leave (record { keeper = q.keeper; noted = q.noted; batch = q.batch; failed = q.failed; tiers = q.tiers; vault = v }) more_killed more_cut
       with_vault v same = subst (λ u. Outlasts shows known seen may_leave (record { keeper = q.keeper; noted = q.noted; batch = q.batch; failed = q.failed; tiers = q.tiers; vault = u }) more_killed more_cut)
           (sym same) (record {
@@ -142,13 +139,13 @@ module _ {V : Type 0} (shows : TiersView → List ℕ → Type 0) (known : V →
       pub moved : Outlasts shows known seen may_leave q more_killed more_cut
       moved = with_vault q.vault vault
 
-    moved_since : (t : ℕ) (since_killed since_cut more_killed more_cut : List (List ℕ)) → Within since_killed more_killed → Within since_cut more_cut
+    moved_since : (t : ℕ) (since_killed since_cut more_killed more_cut : List X) → Within since_killed more_killed → Within since_cut more_cut
         → OutlastsSince shows left_since p t since_killed since_cut → OutlastsSince shows left_since q t more_killed more_cut
     moved_since t since_killed since_cut more_killed more_cut k c since stop i left =
         as_then (allowed stop since_killed since_cut) (allowed stop more_killed more_cut) (recovered i) (allowed_within stop since_killed since_cut more_killed more_cut k c)
         (since stop i (subst (λ v. left_since v stop t i) vault left))
 
-    pub moved_lasts : (before now : List ℕ) → Lasts (Outlasts shows known seen may_leave) (λ (r : Point V). moment r.vault) (OutlastsSince shows left_since) before now p q
+    pub moved_lasts : (before now : X) → Lasts (Outlasts shows known seen may_leave) (λ (r : Point V). moment r.vault) (OutlastsSince shows left_since) before now p q
     moved_lasts before now = record {
       later = λ killed cut out. subst (λ v. moment p.vault ≤ moment v) (sym vault) (omega arith);
       following = λ killed cut more_killed more_cut out k c. moved killed cut more_killed more_cut out k.each c.each;
@@ -158,7 +155,7 @@ module _ {V : Type 0} (shows : TiersView → List ℕ → Type 0) (known : V →
     }
 
   -- what a store that works leaves
-  pub begun : (p : Point V) (killed cut : List (List ℕ)) → known p.vault → Works shows seen may_leave p killed cut → Outlasts shows known seen may_leave p killed cut
+  pub begun : (p : Point V) (killed cut : List X) → known p.vault → Works shows seen may_leave p killed cut → Outlasts shows known seen may_leave p killed cut
   begun p killed cut is_known w = record {
     is_known = is_known;
     leaves = λ stop i may. opens_as shows w.lost (table p killed cut w) (parts_of p.tiers).groups (length (parts_of p.tiers).drives) (allowed stop killed cut) (recovered i)
@@ -171,26 +168,26 @@ module _ {V : Type 0} (shows : TiersView → List ℕ → Type 0) (known : V →
   abbrev pub with_tiers : Point V → TiersView → Point V
   with_tiers p t = record { keeper = p.keeper; noted = p.noted; batch = p.batch; failed = p.failed; tiers = t; vault = p.vault }
 
-  pub array_lasts : (p : Point V) (t : TiersView) (q : Point V) (before now : List ℕ) → Follows p.tiers t
+  pub array_lasts : (p : Point V) (t : TiersView) (q : Point V) (before now : X) → Follows p.tiers t
       → Lasts (Outlasts shows known seen may_leave) (λ (r : Point V). moment r.vault) (OutlastsSince shows left_since) now now (with_tiers p t) q
       → Lasts (Outlasts shows known seen may_leave) (λ (r : Point V). moment r.vault) (OutlastsSince shows left_since) before now p q
   array_lasts p t q before now follows lasts =
       lasts_ahead (Outlasts shows known seen may_leave) (λ (r : Point V). moment r.vault) (OutlastsSince shows left_since) before now p (with_tiers p t) q
       (moved_lasts p (with_tiers p t) refl follows (λ on. on) (λ lost cells live. live) before now) lasts
 
-  pub array_acknowledges : (p : Point V) (t : TiersView) (q : Point V) (before now : List ℕ) → Follows p.tiers t
+  pub array_acknowledges : (p : Point V) (t : TiersView) (q : Point V) (before now : X) → Follows p.tiers t
       → Acknowledges (Outlasts shows known seen may_leave) now now (with_tiers p t) q → Acknowledges (Outlasts shows known seen may_leave) before now p q
   array_acknowledges p t q before now follows acknowledges killed cut more_cut out c =
       acknowledges killed cut more_cut (moved p (with_tiers p t) refl follows (λ on. on) (λ lost cells live. live) killed cut killed cut out (λ b has. has) (λ b has. has))
       (record { each = c.each; has_before = c.has_now; has_now = c.has_now })
 
-  pub array_flushes : (p : Point V) (t : TiersView) (q : Point V) (now : List ℕ) → Follows p.tiers t
+  pub array_flushes : (p : Point V) (t : TiersView) (q : Point V) (now : X) → Follows p.tiers t
       → Flushes (Outlasts shows known seen may_leave) now (with_tiers p t) q → Flushes (Outlasts shows known seen may_leave) now p q
   array_flushes p t q now follows flushes killed cut out =
       flushes killed cut (moved p (with_tiers p t) refl follows (λ on. on) (λ lost cells live. live) killed cut killed cut out (λ b has. has) (λ b has. has))
 
   -- a store that has all that its drives hold
-  module _ (q : Point V) (now : List ℕ) (shown : shows q.tiers now) (one : MissesOne (parts_of q.tiers).drives) (killed cut : List (List ℕ)) (is_known : known q.vault) (w : Works shows seen may_leave q killed cut)
+  module _ (q : Point V) (now : X) (shown : shows q.tiers now) (one : MissesOne (parts_of q.tiers).drives) (killed cut : List X) (is_known : known q.vault) (w : Works shows seen may_leave q killed cut)
       (kept : IsPersisted w.lost (parts_of q.tiers).drives (recovered (seen q.vault))) where
     abbrev groups_now : Groups
     groups_now = (parts_of q.tiers).groups
@@ -227,11 +224,11 @@ module _ {V : Type 0} (shows : TiersView → List ℕ → Type 0) (known : V →
         works_now = record { lost = w.lost; few = w.few; gone = w.gone; live = w.live; low = w.low; logged = w.logged; all = w.all; opens = opens_then }
 
   -- one batch more
-  module _ (p q : Point V) (now : List ℕ) (shown : shows p.tiers now) (one : MissesOne (parts_of p.tiers).drives) (f : Published known seen may_leave moment left_since p q) where
-    as_new : (list : List (List ℕ)) (c : Cells) → OpensAs shows list (parts_of p.tiers).groups (length (parts_of p.tiers).drives) c → OpensAs shows list (parts_of q.tiers).groups (length (parts_of q.tiers).drives) c
+  module _ (p q : Point V) (now : X) (shown : shows p.tiers now) (one : MissesOne (parts_of p.tiers).drives) (f : Published known seen may_leave moment left_since p q) where
+    as_new : (list : List X) (c : Cells) → OpensAs shows list (parts_of p.tiers).groups (length (parts_of p.tiers).drives) c → OpensAs shows list (parts_of q.tiers).groups (length (parts_of q.tiers).drives) c
     as_new list c o = subst (λ (t : TiersView). OpensAs shows list (parts_of t).groups (length (parts_of t).drives) c) (sym f.tiers) o
 
-    module _ (killed cut more_killed more_cut : List (List ℕ)) (out : Outlasts shows known seen may_leave p killed cut)
+    module _ (killed cut more_killed more_cut : List X) (out : Outlasts shows known seen may_leave p killed cut)
         (kc : Covers more_killed killed now now) (cc : Covers more_cut cut now now) where
       in_more : (stop : Stop) → Within (allowed stop killed cut) (allowed stop more_killed more_cut)
       in_more stop = allowed_within stop killed cut more_killed more_cut kc.each cc.each
@@ -343,7 +340,7 @@ module _ {V : Type 0} (shows : TiersView → List ℕ → Type 0) (known : V →
         ];
       }
 
-      pub earlier_by : (t : ℕ) (since_killed since_cut : List (List ℕ)) → t ≤ moment p.vault → OutlastsSince shows left_since p t since_killed since_cut
+      pub earlier_by : (t : ℕ) (since_killed since_cut : List X) → t ≤ moment p.vault → OutlastsSince shows left_since p t since_killed since_cut
           → Within since_killed more_killed → Within since_cut more_cut → OutlastsSince shows left_since q t more_killed more_cut
       earlier_by t since_killed since_cut le since k c stop i left = left_at t le stop i left (λ was. let o = since stop i was in
           as_new (allowed stop more_killed more_cut) (recovered i)
@@ -360,7 +357,7 @@ module _ {V : Type 0} (shows : TiersView → List ℕ → Type 0) (known : V →
       one_now : MissesOne (parts_of q.tiers).drives
       one_now = subst (λ (t : TiersView). MissesOne (parts_of t).drives) (sym f.tiers) one
 
-      pub published_acknowledges : (killed cut more_cut : List (List ℕ)) → Outlasts shows known seen may_leave p killed cut → Covers more_cut cut now now
+      pub published_acknowledges : (killed cut more_cut : List X) → Outlasts shows known seen may_leave p killed cut → Covers more_cut cut now now
           → Outlasts shows known seen may_leave q (now ∷ []) more_cut
       unfolding works_on
       published_acknowledges killed cut more_cut out c =
@@ -407,7 +404,7 @@ module _ {V : Type 0} (shows : TiersView → List ℕ → Type 0) (known : V →
           (IsBeforeOrNow lost (seen m.vault) low (parts_of m.tiers).drives) (any_moment is lost stop low logged) (λ i some. inl some);
     }
 
-    pub synced_outlasts : q.failed ≡ false → (killed cut : List (List ℕ)) → Outlasts shows known seen may_leave m killed cut → Outlasts shows known seen may_leave q killed killed
+    pub synced_outlasts : q.failed ≡ false → (killed cut : List X) → Outlasts shows known seen may_leave m killed cut → Outlasts shows known seen may_leave q killed killed
     synced_outlasts ok killed cut out = record {
       is_known = stays out.is_known;
       leaves = λ stop i may. one_list stop i (all_left stop i may);

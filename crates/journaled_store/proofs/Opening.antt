@@ -19,11 +19,11 @@ use Rattle.journaled_store.specs.Outlasting.{OpensAs, OpensBut, parts_of}
 use Rattle.journaled_store.proofs.Settled.{kept_on}
 
 -- a list of one has that one alone
-pub alone : (b : List ℕ) → Contains (b ∷ []) b
+pub alone : {X : Type 0} (b : X) → Contains (b ∷ []) b
 alone b = (0, omega arith, refl)
 
-pub one_of : (b : List ℕ) (more : List (List ℕ)) → Contains more b → Within (b ∷ []) more
-one_of b more has x (zero, low, is) = subst (λ (y : List ℕ). Contains more y) is has
+pub one_of : {X : Type 0} (b : X) (more : List X) → Contains more b → Within (b ∷ []) more
+one_of b more has x (zero, low, is) = subst (Contains more) is has
 one_of b more has x (suc k, low, is) = absurd (omega (arith, low))
 
 -- a drive of that number that is lost
@@ -65,9 +65,9 @@ none_of : (a b : Bool) → a ≡ false → b ≡ false → (a || b) ≡ false
 none_of true b e f = e
 none_of false b e f = f
 
-module _ (shows : TiersView → List ℕ → Type 0) (lost : List Bool) (table : is_lost lost 16 ≡ false) (groups : Groups) (count : ℕ) where
+module _ {X : Type 0} (shows : TiersView → X → Type 0) (lost : List Bool) (table : is_lost lost 16 ≡ false) (groups : Groups) (count : ℕ) where
   -- with more in the list
-  pub opens_more : (some more : List (List ℕ)) (c : Cells) → Within some more → OpensBut shows lost some groups count c → OpensBut shows lost more groups count c
+  pub opens_more : (some more : List X) (c : Cells) → Within some more → OpensBut shows lost some groups count c → OpensBut shows lost more groups count c
   opens_more some more c within o = record {
     what = o.what;
     listed = within o.what o.listed;
@@ -81,7 +81,7 @@ module _ (shows : TiersView → List ℕ → Type 0) (lost : List Bool) (table :
   }
 
   -- of the same units, but for lost drives
-  pub opens_on : (list : List (List ℕ)) (c d : Cells) → SameOn lost d c → OpensBut shows lost list groups count c → OpensBut shows lost list groups count d
+  pub opens_on : (list : List X) (c d : Cells) → SameOn lost d c → OpensBut shows lost list groups count c → OpensBut shows lost list groups count d
   opens_on list c d same o = record {
     what = o.what;
     listed = o.listed;
@@ -94,7 +94,7 @@ module _ (shows : TiersView → List ℕ → Type 0) (lost : List Bool) (table :
     gone = o.gone;
   }
 
-  pub opens_as : (list : List (List ℕ)) (c : Cells) → OpensBut shows lost list groups count c → OpensAs shows list groups count c
+  pub opens_as : (list : List X) (c : Cells) → OpensBut shows lost list groups count c → OpensAs shows list groups count c
   opens_as list c o = record { what = o.what; listed = o.listed; left = λ absent d there same. left absent d there same }
     where
       left : (absent : List Bool) (d : Cells) → is_lost absent 16 ≡ false → SameOn absent d c → IsLeftOf shows o.what groups count absent d
@@ -112,7 +112,7 @@ module _ (shows : TiersView → List ℕ → Type 0) (lost : List Bool) (table :
       }
 
   -- of the units that the drives hold now
-  pub opens_now : (list : List (List ℕ)) (t : TiersView) (now : List ℕ) (c : Cells) → (parts_of t).groups ≡ groups → length (parts_of t).drives ≡ count
+  pub opens_now : (list : List X) (t : TiersView) (now : X) (c : Cells) → (parts_of t).groups ≡ groups → length (parts_of t).drives ≡ count
       → ((d : ℕ) → is_lost lost d ≡ true → lost_of (parts_of t) d ≡ true) → MissesOne (parts_of t).drives → shows t now → Contains list now → IsPersisted lost (parts_of t).drives c → OpensBut shows lost list groups count c
   opens_now list t now c groups_are many gone one shown listed kept = record {
     what = now;
@@ -127,13 +127,13 @@ module _ (shows : TiersView → List ℕ → Type 0) (lost : List Bool) (table :
   }
 
   -- of an image that stands for some of a journal's batches, or for what the drives hold now
-  pub opens_some : (list : List (List ℕ)) (cells : Cells) (journal : List (List Intended)) (low : ℕ) (i : Image)
+  pub opens_some : (list : List X) (cells : Cells) (journal : List (List Intended)) (low : ℕ) (i : Image)
       → ((n : ℕ) → low ≤ n → n ≤ length journal → OpensBut shows lost list groups count (after cells (flat (take n journal))))
       → RepresentsSome lost cells low journal i → OpensBut shows lost list groups count (recovered i)
   opens_some list cells journal low i old some =
       opens_on list (after cells (flat (take some.count journal))) (recovered i) some.matches (old some.count some.least some.most)
 
-  pub opens_either : (list : List (List ℕ)) (base : Image) (low : ℕ) (drives : List DriveView) (i : Image)
+  pub opens_either : (list : List X) (base : Image) (low : ℕ) (drives : List DriveView) (i : Image)
       → ((n : ℕ) → low ≤ n → n ≤ length base.journal → OpensBut shows lost list groups count (after base.cells (flat (take n base.journal))))
       → ((c : Cells) → IsPersisted lost drives c → OpensBut shows lost list groups count c)
       → IsBeforeOrNow lost base low drives i → OpensBut shows lost list groups count (recovered i)
@@ -141,7 +141,7 @@ module _ (shows : TiersView → List ℕ → Type 0) (lost : List Bool) (table :
   opens_either list base low drives i old now (inr (c, matches, kept)) = opens_on list c (recovered i) matches (now c kept)
 
   -- of what a stop leaves
-  pub opens_left : {V : Type 0} (seen : V → Image) (may_leave : V → Stop → Image → Type 0) (list : List (List ℕ)) (stop : Stop) (vault : V) (low : ℕ) (i : Image)
+  pub opens_left : {V : Type 0} (seen : V → Image) (may_leave : V → Stop → Image → Type 0) (list : List X) (stop : Stop) (vault : V) (low : ℕ) (i : Image)
       → IsLogged seen may_leave lost stop vault low → may_leave vault stop i
       → ((n : ℕ) → low ≤ n → n ≤ length (seen vault).journal → OpensBut shows lost list groups count (after (seen vault).cells (flat (take n (seen vault).journal))))
       → OpensBut shows lost list groups count (recovered i)

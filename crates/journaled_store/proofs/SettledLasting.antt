@@ -68,10 +68,10 @@ module _ (marks : List Bool) (long : length marks ≡ 16) (gone : ℕ → Bool) 
     ])
   ]
 
-module _ {V : Type 0} (shows : TiersView → List ℕ → Type 0) (known : V → Type 0) (seen : V → Image) (may_leave : V → Stop → Image → Type 0) (moment : V → ℕ) (left_since : V → Stop → ℕ → Image → Type 0)
+module _ {V X : Type 0} (shows : TiersView → X → Type 0) (known : V → Type 0) (seen : V → Image) (may_leave : V → Stop → Image → Type 0) (moment : V → ℕ) (left_since : V → Stop → ℕ → Image → Type 0)
     (counts_now : (vault : V) → known vault → (stop : Stop) (t : ℕ) (i : Image) → t ≤ moment vault → may_leave vault stop i → left_since vault stop t i)
     (only_now : (vault : V) → known vault → (stop : Stop) (i : Image) → left_since vault stop (moment vault) i → may_leave vault stop i)
-    (p m : Point V) (now : List ℕ) (shown : shows p.tiers now) (f : Published known seen may_leave moment left_since p m) (on : m.failed ≡ false)
+    (p m : Point V) (now : X) (shown : shows p.tiers now) (f : Published known seen may_leave moment left_since p m) (on : m.failed ≡ false)
     (one : MissesOne (parts_of m.tiers).drives)
     (kept : known p.vault → (lost : List Bool) → UnlessFailed p.failed (IsUpToDate lost p.keeper p.noted p.batch (recovered (seen p.vault))) → IsPersisted lost (parts_of m.tiers).drives (recovered (seen m.vault)))
     (durable : known p.vault → (lost : List Bool) (stop : Stop) (low : ℕ) → UnlessFailed p.failed (IsLogged seen may_leave lost stop p.vault low)
@@ -90,7 +90,7 @@ module _ {V : Type 0} (shows : TiersView → List ℕ → Type 0) (known : V →
   abbrev many_now : ℕ
   many_now = length (parts_of m.tiers).drives
 
-  module _ (killed cut more_killed more_cut : List (List ℕ)) (out : Outlasts shows known seen may_leave p killed cut)
+  module _ (killed cut more_killed more_cut : List X) (out : Outlasts shows known seen may_leave p killed cut)
       (kc : Covers more_killed killed now now) (cc : Covers more_cut cut now now) where
     one_was : MissesOne (parts_of p.tiers).drives
     one_was = subst (λ (t : TiersView). MissesOne (parts_of t).drives) f.tiers one
@@ -166,7 +166,7 @@ module _ {V : Type 0} (shows : TiersView → List ℕ → Type 0) (known : V →
       };
     }
 
-    earlier_by : (t : ℕ) (since_killed since_cut : List (List ℕ)) → t ≤ moment p.vault → OutlastsSince shows left_since p t since_killed since_cut
+    earlier_by : (t : ℕ) (since_killed since_cut : List X) → t ≤ moment p.vault → OutlastsSince shows left_since p t since_killed since_cut
         → Within since_killed more_killed → Within since_cut more_cut → OutlastsSince shows left_since q t more_killed more_cut
     earlier_by t since_killed since_cut le since k c stop i left = left_at t le stop i left (λ was. let o = since stop i was in
         subst (λ (t : TiersView). OpensAs shows (allowed stop more_killed more_cut) (parts_of t).groups (length (parts_of t).drives) (recovered i)) (sym f.tiers)
@@ -181,10 +181,10 @@ module _ {V : Type 0} (shows : TiersView → List ℕ → Type 0) (known : V →
   }
 
 -- a store whose journal is empty, and whose vault has all that the drives hold but for lost ones
-pub settled_begins : {V : Type 0} (shows : TiersView → List ℕ → Type 0) (known : V → Type 0) (seen : V → Image) (may_leave : V → Stop → Image → Type 0) (moment : V → ℕ) (left_since : V → Stop → ℕ → Image → Type 0)
+pub settled_begins : {V X : Type 0} (shows : TiersView → X → Type 0) (known : V → Type 0) (seen : V → Image) (may_leave : V → Stop → Image → Type 0) (moment : V → ℕ) (left_since : V → Stop → ℕ → Image → Type 0)
     → ((vault : V) → known vault → (stop : Stop) (t : ℕ) (i : Image) → t ≤ moment vault → may_leave vault stop i → left_since vault stop t i)
     → ((vault : V) → known vault → (stop : Stop) (i : Image) → left_since vault stop (moment vault) i → may_leave vault stop i)
-    → (q : Point V) (now : List ℕ) → shows q.tiers now → MissesOne (parts_of q.tiers).drives
+    → (q : Point V) (now : X) → shows q.tiers now → MissesOne (parts_of q.tiers).drives
     → (marks : List Bool) → length marks ≡ 16 → ((d : ℕ) → d < 16 → slice_index_or marks d true ≡ lost_of (parts_of q.tiers) d)
     → known q.vault → IsUpToDate marks q.keeper q.noted q.batch (recovered (seen q.vault)) → AreLogged seen may_leave marks q.vault
     → IsPersisted marks (parts_of q.tiers).drives (recovered (seen q.vault)) → Outlasts shows known seen may_leave q (now ∷ []) (now ∷ [])

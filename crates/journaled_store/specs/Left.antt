@@ -7,6 +7,8 @@ use Rattle.slot_tables.specs.Views.{key_at}
 use Rattle.tiered_array.specs.Matches.{RepresentsTiers}
 use Rattle.tiered_array.specs.Tiered.{Tiered}
 use Rattle.tiered_array.specs.Views.{TiersView}
+use Rattle.byte_store.specs.Lasting.{Shown}
+use Rattle.array_store.specs.Blocks.{Holds}
 use Rattle.vault.specs.Images.{is_lost}
 use Rattle.journaled_store.specs.Steps.{IsPersisted}
 
@@ -28,10 +30,15 @@ pub record HasKeys (tiers : TiersView) (keys : List ℕ) : Type 0 where
   pub matches : RepresentsTiers tiers state
   pub keys_are : (block : ℕ) → slice_index keys block ≡ key_at tiers.world.array block
 
+-- an array that represents a flat state with these bytes has this block map: so both are of one state
+pub record HasBoth (tiers : TiersView) (what : Shown) : Type 0 where
+  pub holds : Holds tiers what.bytes
+  pub keys_are : (block : ℕ) → slice_index what.keys block ≡ key_at tiers.world.array block
+
 -- The units of a vault are those of an array that showed this, with these groups and as many drives. What an array shows is given:
--- its bytes (`Holds`), or its block map (`HasKeys`). Of some drives the vault may have other units, and each of these is absent
+-- its bytes (`Holds`), its block map (`HasKeys`), or both (`HasBoth`). Of some drives the vault may have other units, and each of these is absent
 -- now or was lost. No two drives of the array were.
-pub record IsLeftOf (shows : TiersView → List ℕ → Type 0) (what : List ℕ) (groups : Groups) (count : ℕ) (absent : List Bool) (c : Cells) : Type 0 where
+pub record IsLeftOf {X : Type 0} (shows : TiersView → X → Type 0) (what : X) (groups : Groups) (count : ℕ) (absent : List Bool) (c : Cells) : Type 0 where
   pub tiers : TiersView
   pub shown : shows tiers what
   pub groups_are : tiers.world.array.parts.groups ≡ groups

@@ -1,4 +1,4 @@
--- What stops leave of a journaled store, as what it shows when it is opened again: its bytes (`Holds`), or its block map (`HasKeys`).
+-- What stops leave of a journaled store, as what it shows when it is opened again: its bytes and its block map, of one state (`HasBoth`).
 use Rattle.std.specs.Prelude.{◌≡◌, ◌<◌, ◌≤◌, ℕ, Bool, true, false, List, length, take, Contains}
 use Rattle.extent_groups.specs.Groups.{Groups}
 use Rattle.extent_groups.specs.Cells.{Cells}
@@ -19,19 +19,19 @@ use Rattle.journaled_store.specs.Left.{IsLeftOf, IsLostIn, MissesOne}
 use Rattle.journaled_store.specs.declared.store.JournaledStore.{JournaledStore}
 
 -- what may be there after a stop of a kind
-abbrev pub allowed : Stop → List (List ℕ) → List (List ℕ) → List (List ℕ)
+abbrev pub allowed : {X : Type 0} → Stop → List X → List X → List X
 allowed Killed killed cut = killed
 allowed PowerLost killed cut = cut
 
 -- Units of which an array is opened that shows one of a list, whichever of its drives are absent then: with other units of these, too.
-pub record OpensAs (shows : TiersView → List ℕ → Type 0) (list : List (List ℕ)) (groups : Groups) (count : ℕ) (c : Cells) : Type 0 where
-  pub what : List ℕ
+pub record OpensAs {X : Type 0} (shows : TiersView → X → Type 0) (list : List X) (groups : Groups) (count : ℕ) (c : Cells) : Type 0 where
+  pub what : X
   pub listed : Contains list what
   pub left : (absent : List Bool) (d : Cells) → is_lost absent 16 ≡ false → SameOn absent d c → IsLeftOf shows what groups count absent d
 
 -- the same, and the drives of which the vault may have other units are these
-pub record OpensBut (shows : TiersView → List ℕ → Type 0) (lost : List Bool) (list : List (List ℕ)) (groups : Groups) (count : ℕ) (c : Cells) : Type 0 where
-  pub what : List ℕ
+pub record OpensBut {X : Type 0} (shows : TiersView → X → Type 0) (lost : List Bool) (list : List X) (groups : Groups) (count : ℕ) (c : Cells) : Type 0 where
+  pub what : X
   pub listed : Contains list what
   pub tiers : TiersView
   pub shown : shows tiers what
@@ -65,7 +65,7 @@ parts_of t = t.world.array.parts
 
 -- A store whose journal works. A stop leaves the first batches of the journal, and of each number of them that it may leave an array
 -- that shows one of the list is opened. Drives of which the vault may have other units are lost.
-pub record Works {V : Type 0} (shows : TiersView → List ℕ → Type 0) (seen : V → Image) (may_leave : V → Stop → Image → Type 0) (p : Point V) (killed cut : List (List ℕ)) : Type 0 where
+pub record Works {V X : Type 0} (shows : TiersView → X → Type 0) (seen : V → Image) (may_leave : V → Stop → Image → Type 0) (p : Point V) (killed cut : List X) : Type 0 where
   pub lost : List Bool
   pub few : (d : ℕ) → 16 ≤ d → is_lost lost d ≡ false
   pub gone : (d : ℕ) → is_lost lost d ≡ true → lost_of (parts_of p.tiers) d ≡ true
@@ -78,13 +78,13 @@ pub record Works {V : Type 0} (shows : TiersView → List ℕ → Type 0) (seen 
       → OpensBut shows lost (allowed stop killed cut) (parts_of p.tiers).groups (length (parts_of p.tiers).drives) (after (seen p.vault).cells (flat (take count (seen p.vault).journal)))
 
 -- what a stop now leaves: opened again, the store shows one of the first list after a kill, and of the second after a loss of power
-pub record Outlasts {V : Type 0} (shows : TiersView → List ℕ → Type 0) (known : V → Type 0) (seen : V → Image) (may_leave : V → Stop → Image → Type 0) (p : Point V) (killed cut : List (List ℕ)) : Type 0 where
+pub record Outlasts {V X : Type 0} (shows : TiersView → X → Type 0) (known : V → Type 0) (seen : V → Image) (may_leave : V → Stop → Image → Type 0) (p : Point V) (killed cut : List X) : Type 0 where
   pub is_known : known p.vault
   pub leaves : (stop : Stop) (i : Image) → may_leave p.vault stop i
       → OpensAs shows (allowed stop killed cut) (parts_of p.tiers).groups (length (parts_of p.tiers).drives) (recovered i)
   pub works : p.failed ≡ false → Works shows seen may_leave p killed cut
 
 -- what a stop at some moment since that one leaves
-abbrev pub OutlastsSince : {V : Type 0} → (TiersView → List ℕ → Type 0) → (V → Stop → ℕ → Image → Type 0) → Point V → ℕ → List (List ℕ) → List (List ℕ) → Type 0
+abbrev pub OutlastsSince : {V X : Type 0} → (TiersView → X → Type 0) → (V → Stop → ℕ → Image → Type 0) → Point V → ℕ → List X → List X → Type 0
 OutlastsSince shows left_since p t killed cut = (stop : Stop) (i : Image) → left_since p.vault stop t i
     → OpensAs shows (allowed stop killed cut) (parts_of p.tiers).groups (length (parts_of p.tiers).drives) (recovered i)

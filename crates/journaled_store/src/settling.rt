@@ -4,14 +4,13 @@ ghost use Rattle.unit_store.specs.Views.{lost_of};
 ghost use Rattle.slot_tables.specs.Views.{key_at};
 ghost use Rattle.extent_groups.specs.Cells.{Cells};
 ghost use Rattle.byte_store.specs.Flat.{StoreState};
-ghost use Rattle.byte_store.specs.Lasting.{Lasts};
-ghost use Rattle.array_store.specs.Blocks.{Holds};
+ghost use Rattle.byte_store.specs.Lasting.{Lasts, Shown};
 ghost use Rattle.array_store.specs.Stores.{Follows, IsStoreOf};
 ghost use Rattle.vault.specs.Images.{Image, SameOn, Matches, recovered};
 ghost use Rattle.vault.specs.Moments.{AreLogged, LeavesOnly, IsLogged};
 ghost use Rattle.vault.specs.declared.store.Stop.{Stop};
 ghost use Rattle.journaled_store.specs.Steps.{IsBeforeOrNow, IsEmptied, IsPersisted, IsUpToDate, UnlessFailed, UnlessJournal};
-ghost use Rattle.journaled_store.specs.Left.{HasKeys};
+ghost use Rattle.journaled_store.specs.Left.{HasBoth};
 ghost use Rattle.journaled_store.specs.Outlasting.{Outlasts, OutlastsSince, point};
 
 use crate::publishing::{collect, fault_of};
@@ -91,32 +90,22 @@ impl<N: Chronicle, V: Vault + Drop> JournaledStore<N, V> {
             → (stop : Stop) → LeavesOnly V.moment V.left_since stop self.old.vault self.new.vault
             (IsBeforeOrNow self.new.changes.lost (V.seen self.old.vault) (low stop) self.old.store.tiers.world.array.parts.drives) }
 
-        // After Ok any stop leaves the bytes, also where drives that were absent when the array was opened are lost only since.
-        ensures begins { V.known self.old.vault → (F : StoreState) → IsStoreOf self.old.store.tiers self.old.store.size self.old.unsynced F
+        // After Ok any stop leaves what the store shows, also where drives that were absent when the array was opened are lost only
+        // since.
+        ensures begins { V.known self.old.vault → (what : Shown) → HasBoth self.old.store.tiers what
             → UnlessFailed self.old.failed
             (IsUpToDate self.new.changes.lost self.old.changes.keeper self.old.changes.noted self.old.changes.batch (recovered (V.seen self.old.vault)))
             → (low : Stop → ℕ) → ((stop : Stop) → UnlessFailed self.old.failed
             (IsLogged V.seen V.may_leave self.new.changes.lost stop self.old.vault (low stop)))
-            → OnOk result (Outlasts Holds V.known V.seen V.may_leave (point self.new) (F.bytes ∷ []) (F.bytes ∷ [])) }
-        ensures map_begins { V.known self.old.vault → (keys : List ℕ) → HasKeys self.old.store.tiers keys
-            → UnlessFailed self.old.failed
-            (IsUpToDate self.new.changes.lost self.old.changes.keeper self.old.changes.noted self.old.changes.batch (recovered (V.seen self.old.vault)))
-            → (low : Stop → ℕ) → ((stop : Stop) → UnlessFailed self.old.failed
-            (IsLogged V.seen V.may_leave self.new.changes.lost stop self.old.vault (low stop)))
-            → OnOk result (Outlasts HasKeys V.known V.seen V.may_leave (point self.new) (keys ∷ []) (keys ∷ [])) }
+            → OnOk result (Outlasts HasBoth V.known V.seen V.may_leave (point self.new) (what ∷ []) (what ∷ [])) }
 
-        // A stop leaves the bytes, with all groups and drives.
+        // A stop leaves what one before would have left, or what the store shows, with all groups and drives.
         ensures follows { (F : StoreState) → IsStoreOf self.old.store.tiers self.old.store.size self.old.unsynced F
             → Follows self.old.store.tiers self.new.store.tiers }
-        ensures lasts { (F : StoreState) → IsStoreOf self.old.store.tiers self.old.store.size self.old.unsynced F
-            → Lasts (Outlasts Holds V.known V.seen V.may_leave) (λ p. V.moment p.vault)
-            (OutlastsSince Holds V.left_since) F.bytes F.bytes (point self.old) (point self.new) }
-
-        // Opened again, the array has the block map that a stop before would have left, or that of the call.
-        ensures map { (F : StoreState) (keys : List ℕ) → IsStoreOf self.old.store.tiers self.old.store.size self.old.unsynced F
-            → HasKeys self.old.store.tiers keys
-            → Lasts (Outlasts HasKeys V.known V.seen V.may_leave) (λ p. V.moment p.vault) (OutlastsSince HasKeys V.left_since)
-            keys keys (point self.old) (point self.new) }
+        ensures lasts { (F : StoreState) (what : Shown) → IsStoreOf self.old.store.tiers self.old.store.size self.old.unsynced F
+            → HasBoth self.old.store.tiers what
+            → Lasts (Outlasts HasBoth V.known V.seen V.may_leave) (λ p. V.moment p.vault) (OutlastsSince HasBoth V.left_since)
+            what what (point self.old) (point self.new) }
     {
         let lost = self.store.world().array().lost();
         let published = self.publish_durably();
@@ -135,6 +124,7 @@ impl<N: Chronicle, V: Vault + Drop> JournaledStore<N, V> {
     }
 
     // What is done where the vault isn't settled: the journal has failed, or a drive is lost.
+    #[tactic(auto, using(crate::proofs::Storing::follows_self))]
     fn give_up(&mut self, error: VaultError)
         ensures bytes { (F : StoreState) → IsStoreOf self.old.store.tiers self.old.store.size self.old.unsynced F
             → IsStoreOf self.new.store.tiers self.new.store.size self.new.unsynced F }
@@ -182,6 +172,7 @@ impl<N: Chronicle, V: Vault + Drop> JournaledStore<N, V> {
     }
 
     /// Settles where the journal has grown to four times the units from which `rest` settles.
+    #[tactic(auto, using(crate::proofs::Storing::follows_self))]
     pub fn make_room(&mut self)
         ensures bytes { (F : StoreState) → IsStoreOf self.old.store.tiers self.old.store.size self.old.unsynced F
             → IsStoreOf self.new.store.tiers self.new.store.size self.new.unsynced F }
@@ -190,18 +181,13 @@ impl<N: Chronicle, V: Vault + Drop> JournaledStore<N, V> {
         ensures sizes { (self.new.store.size ≡ self.old.store.size)
             × (self.new.store.tiers.world.array.parts.groups.payload ≡ self.old.store.tiers.world.array.parts.groups.payload) }
 
-        // A stop leaves the bytes, with all groups and drives.
+        // A stop leaves what one before would have left, or what the store shows, with all groups and drives.
         ensures follows { (F : StoreState) → IsStoreOf self.old.store.tiers self.old.store.size self.old.unsynced F
             → Follows self.old.store.tiers self.new.store.tiers }
-        ensures lasts { (F : StoreState) → IsStoreOf self.old.store.tiers self.old.store.size self.old.unsynced F
-            → Lasts (Outlasts Holds V.known V.seen V.may_leave) (λ p. V.moment p.vault)
-            (OutlastsSince Holds V.left_since) F.bytes F.bytes (point self.old) (point self.new) }
-
-        // Opened again, the array has the block map that a stop before would have left, or that of the call.
-        ensures map { (F : StoreState) (keys : List ℕ) → IsStoreOf self.old.store.tiers self.old.store.size self.old.unsynced F
-            → HasKeys self.old.store.tiers keys
-            → Lasts (Outlasts HasKeys V.known V.seen V.may_leave) (λ p. V.moment p.vault) (OutlastsSince HasKeys V.left_since)
-            keys keys (point self.old) (point self.new) }
+        ensures lasts { (F : StoreState) (what : Shown) → IsStoreOf self.old.store.tiers self.old.store.size self.old.unsynced F
+            → HasBoth self.old.store.tiers what
+            → Lasts (Outlasts HasBoth V.known V.seen V.may_leave) (λ p. V.moment p.vault) (OutlastsSince HasBoth V.left_since)
+            what what (point self.old) (point self.new) }
     {
         if self.changes.appended >= self.settle_at.saturating_mul(4) {
             let _ = self.settle();

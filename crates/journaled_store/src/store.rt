@@ -2,7 +2,8 @@
 ghost use Rattle.std.specs.Prelude.{◌≡◌, ◌+◌, ◌≤◌, ℕ, List, Bool, length, replicate, slice_index_or, false, true, OnOk};
 ghost use Rattle.byte_store.specs.Flat.{StoreState};
 ghost use Rattle.byte_store.specs.Changes.{IsChanged, IsFlushed};
-ghost use Rattle.byte_store.specs.Lasting.{Acknowledges, Flushes, Lasts};
+ghost use Rattle.byte_store.specs.Lasting.{Acknowledges, Flushes, Lasts, Shown};
+ghost use Rattle.slot_tables.specs.Views.{key_at};
 ghost use Rattle.array_store.specs.Blocks.{Holds};
 ghost use Rattle.array_store.specs.Stores.{Follows, IsStoreOf};
 ghost use Rattle.vault.specs.Images.{Image, recovered};
@@ -10,7 +11,7 @@ ghost use Rattle.vault.specs.Moments.{LeavesOnly, IsLogged, RepresentsSome};
 ghost use Rattle.vault.specs.declared.store.Stop.{Stop};
 ghost use Rattle.vault.specs.declared.store.Stop.TheVariants.{Killed};
 ghost use Rattle.journaled_store.specs.Steps.{IsBeforeOrNow, IsPersisted, IsUpToDate, UnlessFailed, is_sync};
-ghost use Rattle.journaled_store.specs.Left.{HasKeys, IsOneLost, MissesOne};
+ghost use Rattle.journaled_store.specs.Left.{HasBoth, HasKeys, IsOneLost, MissesOne};
 ghost use Rattle.journaled_store.specs.Outlasting.{Outlasts, OutlastsSince, Works, point};
 
 use crate::changes::Changes;
@@ -97,6 +98,8 @@ impl<N: Chronicle, V: Vault + Drop> JournaledStore<N, V> {
             → Outlasts Holds V.known V.seen V.may_leave (point result) killed cut }
         ensures map { V.known vault → (killed cut : List (List ℕ)) → Works HasKeys V.seen V.may_leave (point result) killed cut
             → Outlasts HasKeys V.known V.seen V.may_leave (point result) killed cut }
+        ensures both { V.known vault → (killed cut : List Shown) → Works HasBoth V.seen V.may_leave (point result) killed cut
+            → Outlasts HasBoth V.known V.seen V.may_leave (point result) killed cut }
     {
         JournaledStore {
             store,
@@ -163,18 +166,12 @@ impl<N: Chronicle, V: Vault + Drop> JournaledStore<N, V> {
             → LeavesOnly V.moment V.left_since stop self.old.vault self.new.vault
             (IsBeforeOrNow lost (V.seen self.old.vault) low self.new.store.tiers.world.array.parts.drives) }
 
-        // Opened again, the store has the bytes that a stop before would have left, or those of now.
-        ensures lasts { (F : StoreState) → IsStoreOf self.old.store.tiers self.old.store.size self.old.unsynced F
-            → Lasts (Outlasts Holds V.known V.seen V.may_leave) (λ p. V.moment p.vault)
-            (OutlastsSince Holds V.left_since) F.bytes F.bytes (point self.old) (point self.new) }
-        ensures acknowledged { (F : StoreState) → IsStoreOf self.old.store.tiers self.old.store.size self.old.unsynced F
-            → OnOk result (Acknowledges (Outlasts Holds V.known V.seen V.may_leave) F.bytes F.bytes (point self.old) (point self.new)) }
-
-        // And the block map that a stop before would have left, or that of now; a kill after Ok leaves that of now.
-        ensures map { (keys : List ℕ) → HasKeys self.old.store.tiers keys
-            → Lasts (Outlasts HasKeys V.known V.seen V.may_leave) (λ p. V.moment p.vault) (OutlastsSince HasKeys V.left_since)
-            keys keys (point self.old) (point self.new)
-            × OnOk result (Acknowledges (Outlasts HasKeys V.known V.seen V.may_leave) keys keys (point self.old) (point self.new)) }
+        // Opened again, the store shows what a stop before would have left, or what it shows now: bytes and block map of one state. A
+        // kill after Ok leaves that of now.
+        ensures lasts { (what : Shown) → HasBoth self.old.store.tiers what
+            → Lasts (Outlasts HasBoth V.known V.seen V.may_leave) (λ p. V.moment p.vault) (OutlastsSince HasBoth V.left_since)
+            what what (point self.old) (point self.new)
+            × OnOk result (Acknowledges (Outlasts HasBoth V.known V.seen V.may_leave) what what (point self.old) (point self.new)) }
     {
         if self.failed {
             return Err(StoreFault::Sync);
@@ -228,16 +225,11 @@ impl<N: Chronicle, V: Vault + Drop> JournaledStore<N, V> {
             → LeavesOnly V.moment V.left_since stop self.old.vault self.new.vault
             (IsBeforeOrNow lost (V.seen self.old.vault) low self.new.store.tiers.world.array.parts.drives) }
 
-        // Opened again, the store has the bytes that a stop before would have left, or those of now; after Ok those of now.
-        ensures lasts { (F : StoreState) → IsStoreOf self.old.store.tiers self.old.store.size self.old.unsynced F
-            → Lasts (Outlasts Holds V.known V.seen V.may_leave) (λ p. V.moment p.vault) (OutlastsSince Holds V.left_since) F.bytes F.bytes (point self.old) (point self.new)
-            × OnOk result (Flushes (Outlasts Holds V.known V.seen V.may_leave) F.bytes (point self.old) (point self.new)) }
-
-        // And the block map that a stop before would have left, or that of now; each stop after Ok leaves that of now.
-        ensures map { (keys : List ℕ) → HasKeys self.old.store.tiers keys
-            → Lasts (Outlasts HasKeys V.known V.seen V.may_leave) (λ p. V.moment p.vault) (OutlastsSince HasKeys V.left_since)
-            keys keys (point self.old) (point self.new)
-            × OnOk result (Flushes (Outlasts HasKeys V.known V.seen V.may_leave) keys (point self.old) (point self.new)) }
+        // Opened again, the store shows what a stop before would have left, or what it shows now; after Ok that of now.
+        ensures lasts { (what : Shown) → HasBoth self.old.store.tiers what
+            → Lasts (Outlasts HasBoth V.known V.seen V.may_leave) (λ p. V.moment p.vault) (OutlastsSince HasBoth V.left_since)
+            what what (point self.old) (point self.new)
+            × OnOk result (Flushes (Outlasts HasBoth V.known V.seen V.may_leave) what (point self.old) (point self.new)) }
     {
         self.publish()?;
         let synced = sync(&mut self.vault);
@@ -280,23 +272,15 @@ impl<N: Chronicle, V: Vault + Drop> JournaledStore<N, V> {
             → LeavesOnly V.moment V.left_since stop self.old.vault self.new.vault
             (IsBeforeOrNow lost (V.seen self.old.vault) low self.new.store.tiers.world.array.parts.drives) }
 
-        // A stop leaves the bytes of before or of now, with all groups and drives.
+        // A stop leaves what one before would have left, or what the store shows now, with all groups and drives; a kill after Ok
+        // leaves that of now.
         ensures follows { (F : StoreState) → IsStoreOf self.old.store.tiers self.old.store.size self.old.unsynced F
             → Follows self.old.store.tiers self.new.store.tiers }
-        ensures lasts { (F G : StoreState) → IsStoreOf self.old.store.tiers self.old.store.size self.old.unsynced F
-            → IsStoreOf self.new.store.tiers self.new.store.size self.new.unsynced G
-            → Lasts (Outlasts Holds V.known V.seen V.may_leave) (λ p. V.moment p.vault)
-            (OutlastsSince Holds V.left_since) F.bytes G.bytes (point self.old) (point self.new) }
-        ensures acknowledged { (F G : StoreState) → IsStoreOf self.old.store.tiers self.old.store.size self.old.unsynced F
-            → IsStoreOf self.new.store.tiers self.new.store.size self.new.unsynced G
-            → OnOk result (Acknowledges (Outlasts Holds V.known V.seen V.may_leave) F.bytes G.bytes (point self.old) (point self.new)) }
-
-        // Opened again, the array has the block map that a stop before would have left, or that of now; a kill after Ok leaves that of now.
-        ensures map { (F : StoreState) (keys : List ℕ) → IsStoreOf self.old.store.tiers self.old.store.size self.old.unsynced F
-            → HasKeys self.new.store.tiers keys
-            → Lasts (Outlasts HasKeys V.known V.seen V.may_leave) (λ p. V.moment p.vault) (OutlastsSince HasKeys V.left_since)
-            keys keys (point self.old) (point self.new)
-            × OnOk result (Acknowledges (Outlasts HasKeys V.known V.seen V.may_leave) keys keys (point self.old) (point self.new)) }
+        ensures lasts { (F : StoreState) (what : Shown) → IsStoreOf self.old.store.tiers self.old.store.size self.old.unsynced F
+            → HasBoth self.new.store.tiers what
+            → Lasts (Outlasts HasBoth V.known V.seen V.may_leave) (λ p. V.moment p.vault) (OutlastsSince HasBoth V.left_since)
+            what what (point self.old) (point self.new)
+            × OnOk result (Acknowledges (Outlasts HasBoth V.known V.seen V.may_leave) what what (point self.old) (point self.new)) }
     {
         self.unsynced = true;
         let written = self.store.write(alloc, offset, bytes);
@@ -339,23 +323,15 @@ impl<N: Chronicle, V: Vault + Drop> JournaledStore<N, V> {
             → LeavesOnly V.moment V.left_since stop self.old.vault self.new.vault
             (IsBeforeOrNow lost (V.seen self.old.vault) low self.new.store.tiers.world.array.parts.drives) }
 
-        // A stop leaves the bytes of before or of now, with all groups and drives.
+        // A stop leaves what one before would have left, or what the store shows now, with all groups and drives; a kill after Ok
+        // leaves that of now.
         ensures follows { (F : StoreState) → IsStoreOf self.old.store.tiers self.old.store.size self.old.unsynced F
             → Follows self.old.store.tiers self.new.store.tiers }
-        ensures lasts { (F G : StoreState) → IsStoreOf self.old.store.tiers self.old.store.size self.old.unsynced F
-            → IsStoreOf self.new.store.tiers self.new.store.size self.new.unsynced G
-            → Lasts (Outlasts Holds V.known V.seen V.may_leave) (λ p. V.moment p.vault)
-            (OutlastsSince Holds V.left_since) F.bytes G.bytes (point self.old) (point self.new) }
-        ensures acknowledged { (F G : StoreState) → IsStoreOf self.old.store.tiers self.old.store.size self.old.unsynced F
-            → IsStoreOf self.new.store.tiers self.new.store.size self.new.unsynced G
-            → OnOk result (Acknowledges (Outlasts Holds V.known V.seen V.may_leave) F.bytes G.bytes (point self.old) (point self.new)) }
-
-        // Opened again, the array has the block map that a stop before would have left, or that of now; a kill after Ok leaves that of now.
-        ensures map { (F : StoreState) (keys : List ℕ) → IsStoreOf self.old.store.tiers self.old.store.size self.old.unsynced F
-            → HasKeys self.new.store.tiers keys
-            → Lasts (Outlasts HasKeys V.known V.seen V.may_leave) (λ p. V.moment p.vault) (OutlastsSince HasKeys V.left_since)
-            keys keys (point self.old) (point self.new)
-            × OnOk result (Acknowledges (Outlasts HasKeys V.known V.seen V.may_leave) keys keys (point self.old) (point self.new)) }
+        ensures lasts { (F : StoreState) (what : Shown) → IsStoreOf self.old.store.tiers self.old.store.size self.old.unsynced F
+            → HasBoth self.new.store.tiers what
+            → Lasts (Outlasts HasBoth V.known V.seen V.may_leave) (λ p. V.moment p.vault) (OutlastsSince HasBoth V.left_since)
+            what what (point self.old) (point self.new)
+            × OnOk result (Acknowledges (Outlasts HasBoth V.known V.seen V.may_leave) what what (point self.old) (point self.new)) }
     {
         self.unsynced = true;
         let zeroed = self.store.zero(alloc, offset, count);
@@ -396,21 +372,17 @@ impl<N: Chronicle, V: Vault + Drop> JournaledStore<N, V> {
             → LeavesOnly V.moment V.left_since stop self.old.vault self.new.vault
             (IsBeforeOrNow lost (V.seen self.old.vault) low self.new.store.tiers.world.array.parts.drives) }
 
-        // A stop leaves the bytes, with all groups and drives.
+        // The block map stays. A stop leaves what one before would have left, or what the store shows, with all groups and drives; each
+        // stop after Ok leaves that.
+        ensures keys { (F : StoreState) → IsStoreOf self.old.store.tiers self.old.store.size self.old.unsynced F
+            → (block : ℕ) → key_at self.new.store.tiers.world.array block ≡ key_at self.old.store.tiers.world.array block }
         ensures follows { (F : StoreState) → IsStoreOf self.old.store.tiers self.old.store.size self.old.unsynced F
             → Follows self.old.store.tiers self.new.store.tiers }
-        ensures lasts { (F : StoreState) → IsStoreOf self.old.store.tiers self.old.store.size self.old.unsynced F
-            → Lasts (Outlasts Holds V.known V.seen V.may_leave) (λ p. V.moment p.vault)
-            (OutlastsSince Holds V.left_since) F.bytes F.bytes (point self.old) (point self.new) }
-        ensures durable { (F : StoreState) → IsStoreOf self.old.store.tiers self.old.store.size self.old.unsynced F
-            → OnOk result (Flushes (Outlasts Holds V.known V.seen V.may_leave) F.bytes (point self.old) (point self.new)) }
-
-        // Opened again, the array has the block map that a stop before would have left, or that of now; each stop after Ok leaves that of now.
-        ensures map { (F : StoreState) (keys : List ℕ) → IsStoreOf self.old.store.tiers self.old.store.size self.old.unsynced F
-            → HasKeys self.new.store.tiers keys
-            → Lasts (Outlasts HasKeys V.known V.seen V.may_leave) (λ p. V.moment p.vault) (OutlastsSince HasKeys V.left_since)
-            keys keys (point self.old) (point self.new)
-            × OnOk result (Flushes (Outlasts HasKeys V.known V.seen V.may_leave) keys (point self.old) (point self.new)) }
+        ensures lasts { (F : StoreState) (what : Shown) → IsStoreOf self.old.store.tiers self.old.store.size self.old.unsynced F
+            → HasBoth self.new.store.tiers what
+            → Lasts (Outlasts HasBoth V.known V.seen V.may_leave) (λ p. V.moment p.vault) (OutlastsSince HasBoth V.left_since)
+            what what (point self.old) (point self.new)
+            × OnOk result (Flushes (Outlasts HasBoth V.known V.seen V.may_leave) what (point self.old) (point self.new)) }
     {
         let flushed = self.store.flush();
         self.publish_durably()?;

@@ -1,10 +1,9 @@
 -- What stops leave behind a request, by the reply to it.
-use Rattle.std.proofs.Common.{◌≡◌, ℕ, List, get_or, Bool, true, false, Option, Some, None, Result, Ok, Err, inl, inr, refl, sym, ap, subst, ◌∙◌, arith}
-use Rattle.std.specs.Prelude.{IsOk, IsTrue, OnOk}
+use Rattle.std.proofs.Common.{◌≡◌, ℕ, List, get_or, Bool, true, false, Option, Some, None, Result, Ok, Err, inl, refl, sym, ap, ◌∙◌, arith}
+use Rattle.std.specs.Prelude.{IsOk, IsTrue}
 use Rattle.std.proofs.lemmas.Bool.{false≢true}
 use Rattle.byte_store.specs.Flat.{StoreState}
-use Rattle.byte_store.specs.Changes.{IsFlushed}
-use Rattle.byte_store.specs.Lasting.{Flushes, Lasts}
+use Rattle.byte_store.specs.Lasting.{Shown}
 use Rattle.byte_store.specs.declared.fault.StoreFault.{StoreFault}
 use Rattle.byte_store.specs.declared.fault.StoreFault.TheVariants as fault
 use Rattle.nbd_wire.specs.declared.reply.Errno.{Errno}
@@ -15,7 +14,8 @@ use Rattle.nbd_wire.specs.declared.request.Request.{Request}
 use Rattle.nbd_wire.specs.Requests.{is_forced}
 use Rattle.nbd_wire.specs.Replies.{reply_bytes}
 use Rattle.nbd_serve.specs.Refusals.{error_of}
-use Rattle.nbd_serve.specs.Stopping.{LeavesStore, LeavesBy, Outlasting, OutlastingSince, Survives, is_change, secures}
+use Rattle.nbd_serve.specs.Stopping.{IsAt, LeavesBy, LeavesShown, LeavesStore, StoreType, is_change, secures}
+use Rattle.nbd_serve.proofs.Stopping.{came_none}
 
 -- the lowest byte of an error's number
 error_byte : (error other : Option Errno) (cookie : ℕ) → reply_bytes error cookie ≡ reply_bytes other cookie → get_or (reply_bytes error cookie) 7 0 ≡ get_or (reply_bytes other cookie) 7 0
@@ -55,12 +55,13 @@ secures_change command.Disconnect forced is = absurd (false≢true is)
 secures_change command.Other forced is = absurd (false≢true is)
 
 -- a request that changed bytes
-pub change_says : {S : Type 0} (represents : S → StoreState → Type 0) (outlasts : Outlasting S) (moment : S → ℕ) (outlasts_since : OutlastingSince S) (F : StoreState) (old new : S) (r : Request)
+pub change_says : {S : Type 0} (type : StoreType S) (before : Shown) (old new : S) (r : Request)
     (outcome : Result (Unit {0}) StoreFault) (error : Option Errno) (reply : List ℕ) → is_change r.command ≡ true → error ≡ error_of outcome → reply ≡ reply_bytes error r.cookie
-    → (G : StoreState) → LeavesStore represents outlasts moment outlasts_since (IsOk outcome) (IsOk outcome × IsTrue (is_forced r)) F old new G
-    → LeavesBy represents outlasts moment outlasts_since F old new r reply G
-change_says represents outlasts moment outlasts_since F old new r outcome error reply is error_is written G left = record {
-  represented = left.represented;
+    → (G : StoreState) → LeavesStore type (IsOk outcome) (IsOk outcome × IsTrue (is_forced r)) before old new G → LeavesBy type before old new r reply G
+change_says type before old new r outcome error reply is error_is written G left = record {
+  came = left.came;
+  now = left.now;
+  is = left.is;
   survives = left.survives;
   acknowledged = λ says. left.acknowledged (ok_by_reply outcome error r.cookie reply error_is written says.1);
   flushed = λ says.
@@ -68,45 +69,37 @@ change_says represents outlasts moment outlasts_since F old new r outcome error 
 }
 
 -- a flush
-on_ok : (outcome : Result (Unit {0}) StoreFault) (P : Type 0) → OnOk outcome P → IsOk outcome → P
-on_ok (Ok u) P holds ok = holds
-on_ok (Err reason) P holds ok = absurd (false≢true ok)
-
-flushed_bytes : (outcome : Result (Unit {0}) StoreFault) (F G : StoreState) → IsFlushed outcome F G → G.bytes ≡ F.bytes
-flushed_bytes (Ok u) F G flushed = flushed.0
-flushed_bytes (Err reason) F G flushed = ap (λ (H : StoreState). H.bytes) flushed
-
-pub flush_says : {S : Type 0} (represents : S → StoreState → Type 0) (outlasts : Outlasting S) (moment : S → ℕ) (outlasts_since : OutlastingSince S) (F : StoreState) (old new : S) (r : Request)
+pub flush_says : {S : Type 0} (type : StoreType S) (what : Shown) (old new : S) (r : Request)
     (outcome : Result (Unit {0}) StoreFault) (error : Option Errno) (reply : List ℕ) → r.command ≡ command.Flush → error ≡ error_of outcome → reply ≡ reply_bytes error r.cookie
-    → Lasts outlasts moment outlasts_since F.bytes F.bytes old new → OnOk outcome (Flushes outlasts F.bytes old new)
-    → (G : StoreState) → represents new G → IsFlushed outcome F G → LeavesBy represents outlasts moment outlasts_since F old new r reply G
-flush_says represents outlasts moment outlasts_since F old new r outcome error reply is error_is written lasts flushes G represented flushed =
-    let same = sym (flushed_bytes outcome F G flushed) in
-    let P : List ℕ → Type 0 = λ b. Lasts outlasts moment outlasts_since F.bytes b old new in
-    let Q : List ℕ → Type 0 = λ b. Flushes outlasts b old new in record {
-      represented = represented;
-      survives = inr (subst P same lasts);
-      acknowledged = λ says. absurd (false≢true (sym (ap is_change is) ∙ says.0));
-      flushed = λ says. subst Q same (on_ok outcome (Flushes outlasts F.bytes old new) flushes (ok_by_reply outcome error r.cookie reply error_is written says.1));
-    }
+    → (G : StoreState) → LeavesShown type (IsOk outcome) what old new G → LeavesBy type what old new r reply G
+flush_says type what old new r outcome error reply is error_is written G left = record {
+  came = left.came;
+  now = what;
+  is = left.is;
+  survives = left.survives;
+  acknowledged = λ says. absurd (false≢true (sym (ap is_change is) ∙ says.0));
+  flushed = λ says. left.flushed (ok_by_reply outcome error r.cookie reply error_is written says.1);
+}
 
 -- a request of which nothing was said
-pub quiet_says : {S : Type 0} (represents : S → StoreState → Type 0) (outlasts : Outlasting S) (moment : S → ℕ) (outlasts_since : OutlastingSince S) (F : StoreState) (old new : S) (r : Request)
-    (reply : List ℕ) → (is_change r.command ≡ false) → ((forced : Bool) → secures r.command forced ≡ false) → represents new F
-    → Survives outlasts moment outlasts_since F.bytes F.bytes old new → LeavesBy represents outlasts moment outlasts_since F old new r reply F
-quiet_says represents outlasts moment outlasts_since F old new r reply none never represented survives = record {
-  represented = represented;
-  survives = survives;
+pub quiet_says : {S : Type 0} (type : StoreType S) (before : Shown) (old new : S) (r : Request) (reply : List ℕ) (G : StoreState)
+    → (is_change r.command ≡ false) → ((forced : Bool) → secures r.command forced ≡ false) → LeavesStore type ⊥ ⊥ before old new G → LeavesBy type before old new r reply G
+quiet_says type before old new r reply G none never left = record {
+  came = left.came;
+  now = left.now;
+  is = left.is;
+  survives = left.survives;
   acknowledged = λ says. absurd (false≢true (sym none ∙ says.0));
   flushed = λ says. absurd (false≢true (sym (never (is_forced r)) ∙ says.0));
 }
 
 -- a request that was refused
-pub refusal_says : {S : Type 0} (represents : S → StoreState → Type 0) (outlasts : Outlasting S) (moment : S → ℕ) (outlasts_since : OutlastingSince S) (F : StoreState) (store : S) (r : Request)
-    (error : Errno) (reply : List ℕ) → reply ≡ reply_bytes (Some error) r.cookie → represents store F
-    → LeavesBy represents outlasts moment outlasts_since F store store r reply F
-refusal_says represents outlasts moment outlasts_since F store r error reply written represented = record {
-  represented = represented;
+pub refusal_says : {S : Type 0} (type : StoreType S) (F : StoreState) (what : Shown) (store : S) (r : Request) (error : Errno) (reply : List ℕ)
+    → reply ≡ reply_bytes (Some error) r.cookie → IsAt type store F what → LeavesBy type what store store r reply F
+refusal_says type F what store r error reply written is = record {
+  came = came_none type.stays store store refl;
+  now = what;
+  is = is;
   survives = inl (refl, refl);
   acknowledged = λ says. absurd (has_error error r.cookie (sym written ∙ says.1));
   flushed = λ says. absurd (has_error error r.cookie (sym written ∙ says.1));

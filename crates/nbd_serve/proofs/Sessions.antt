@@ -1,14 +1,15 @@
 -- How exchanges follow one another.
-use Rattle.std.proofs.Common.{◌≡◌, ◌≢◌, ℕ, ◌+◌, List, [], ◌∷◌, ◌++◌, length, inl, inr, Option, refl, sym, ap, subst, ◌∙◌, append_assoc, append-nil}
+use Rattle.std.proofs.Common.{◌≡◌, ◌≢◌, ℕ, ◌+◌, List, [], ◌∷◌, ◌++◌, length, inr, Option, refl, sym, ap, subst, ◌∙◌, append_assoc, append-nil}
 use Rattle.std.proofs.lemmas.List.{length_push}
 use Rattle.std.specs.List.{flat_map}
 use Rattle.std.specs.Io.KnownBytes.{Appends, Consumes}
 use Rattle.std.proofs.KnownBytes.{Appends-nil, Appends-trans, Consumes-nil, Consumes-trans}
 use Rattle.byte_store.specs.declared.fault.StoreFault.{StoreFault}
 use Rattle.byte_store.specs.Flat.{StoreState}
-use Rattle.byte_store.specs.Lasting.{Lasts}
+use Rattle.byte_store.specs.Lasting.{Lasts, Shown, Shows}
+use Rattle.byte_store.proofs.Lasts.{lasts_as_now}
 use Rattle.nbd_serve.specs.Exchanges.{Exchange, RunsSession, asked_by, replied_by}
-use Rattle.nbd_serve.specs.Serving.{Breaks, IsCutOff, Serves, Stops}
+use Rattle.nbd_serve.specs.Serving.{Breaks, IsCutOff, Serves, Stops, most_requests}
 use Rattle.nbd_serve.specs.Streams.{IsPartWritten, IsShort, end_by}
 use Rattle.nbd_serve.specs.Answering.{IsAnswered}
 use Rattle.nbd_serve.specs.declared.calls.Short.{Short}
@@ -17,37 +18,36 @@ use Rattle.nbd_wire.specs.declared.request.Command.TheVariants as command
 use Rattle.nbd_wire.specs.declared.request.Request.{Request}
 use Rattle.nbd_wire.specs.Requests.{SpellsRequest, carried_len}
 use Rattle.nbd_serve.specs.Stepping.{IsCompleted, IsStop}
-use Rattle.nbd_serve.specs.Stopping.{LeavesStore, LeavesBy, Outlasting, OutlastingSince}
+use Rattle.nbd_serve.specs.Stopping.{IsAt, LeavesBy, LeavesStore, StoreType}
+use Rattle.nbd_serve.proofs.Stopping.{at_own, came_one}
 use Rattle.nbd_serve.specs.Enduring.{Endures}
-use Rattle.nbd_serve.proofs.Enduring.{endures_last, endures_more, endures_none, runs_more}
+use Rattle.nbd_serve.proofs.Enduring.{AtLast, endures_last, endures_more, endures_none, runs_more, shown_last}
 use Rattle.nbd_serve.specs.declared.end.End.{End}
 use Rattle.nbd_serve.specs.declared.end.End.TheVariants as end
 
 -- n exchanges were made, and the store rested after each
-pub record IsAlong {S : Type 0} (represents : S → StoreState → Type 0) (outlasts : Outlasting S) (moment : S → ℕ) (outlasts_since : OutlastingSince S)
-    (may : StoreFault → Type 0) (size n : ℕ) (F : StoreState) (old new : S) (before after held now : Option (List ℕ)) : Type 0 where
+pub record IsAlong {S : Type 0} (type : StoreType S) (may : StoreFault → Type 0) (size n : ℕ) (F : StoreState) (first : Shown) (old new : S) (before after held now : Option (List ℕ)) : Type 0 where
   pub exchanges : List Exchange
   pub count : length exchanges ≡ n
   pub state : StoreState
   pub runs : RunsSession may size F exchanges state
-  pub represented : represents new state
   pub read : Consumes before after (flat_map asked_by exchanges)
   pub wrote : Appends held now (flat_map replied_by exchanges)
-  pub endures : Endures outlasts moment outlasts_since may size F exchanges state runs state.bytes old new
+  pub endures : Endures type may size F exchanges state runs state first old new
+  pub at : AtLast type may size F exchanges state runs first old new endures
 
 -- none was made
-pub along_none : {S : Type 0} (represents : S → StoreState → Type 0) (outlasts : Outlasting S) (moment : S → ℕ) (outlasts_since : OutlastingSince S)
-    (may : StoreFault → Type 0) (size : ℕ) (F : StoreState) (store : S) (before held : Option (List ℕ)) → represents store F
-    → IsAlong represents outlasts moment outlasts_since may size 0 F store store before before held held
-along_none represents outlasts moment outlasts_since may size F store before held represented = record {
+pub along_none : {S : Type 0} (type : StoreType S) (may : StoreFault → Type 0) (size : ℕ) (F : StoreState) (first : Shown) (store : S) (before held : Option (List ℕ)) → IsAt type store F first
+    → IsAlong type may size 0 F first store store before before held held
+along_none type may size F first store before held is = record {
   exchanges = [];
   count = refl;
   state = F;
   runs = refl;
-  represented = represented;
   read = Consumes-nil before;
   wrote = Appends-nil held;
-  endures = endures_none outlasts moment outlasts_since may size F store;
+  endures = (endures_none type may size F first store is).0;
+  at = (endures_none type may size F first store is).1;
 }
 
 -- the bytes of one more
@@ -56,27 +56,32 @@ bytes_more f [] x = append-nil (f x)
 bytes_more f (y ∷ xs) x = ap (λ bytes. f y ++ bytes) (bytes_more f xs x) ∙ sym (append_assoc (f y) (flat_map f xs) (f x))
 
 -- one exchange after n, after which the store rested
-pub along_more : {S : Type 0} (represents : S → StoreState → Type 0) (outlasts : Outlasting S) (moment : S → ℕ) (outlasts_since : OutlastingSince S)
-    (may : StoreFault → Type 0) (size n : ℕ) (F : StoreState) (old store rests new : S) (before mid after held written now : Option (List ℕ))
-    → IsAlong represents outlasts moment outlasts_since may size n F old store before mid held written
-    → ((G : StoreState) → represents store G → IsCompleted (LeavesBy represents outlasts moment outlasts_since G store rests) may size G mid after written now)
-    → ((G : StoreState) → represents rests G → represents new G) → ((G : StoreState) → represents rests G → Lasts outlasts moment outlasts_since G.bytes G.bytes rests new)
-    → IsAlong represents outlasts moment outlasts_since may size (n + 1) F old new before after held now
-along_more represents outlasts moment outlasts_since may size n F old store rests new before mid after held written now along step kept lasts =
-    let done = step along.state along.represented in
+pub along_more : {S : Type 0} (type : StoreType S) (may : StoreFault → Type 0) (size n : ℕ) (F : StoreState) (first : Shown) (old store rests new : S) (before mid after held written now : Option (List ℕ))
+    → IsAlong type may size n F first old store before mid held written
+    → ((G : StoreState) (b : Shown) → IsAt type store G b → IsCompleted (LeavesBy type b store rests) may size G mid after written now)
+    → ((G : StoreState) → type.represents rests G → type.represents new G) → ((G : StoreState) → type.represents rests G → type.stays rests new)
+    → ((G : StoreState) (b : Shown) → type.represents rests G → Shows (type.keys new) G b → Lasts type.outlasts type.moment type.outlasts_since b b rests new)
+    → IsAlong type may size (n + 1) F first old new before after held now
+along_more type may size n F first old store rests new before mid after held written now along step kept stays lasts =
+    let e = along.endures in
+    let done = step along.state (shown_last first e.rounds) (subst (λ (b : Shown). IsAt type store along.state b) along.at e.is) in
     let asked = bytes_more asked_by along.exchanges done.exchange in
     let replied = bytes_more replied_by along.exchanges done.exchange in
+    let left = done.next_is in
+    let there = at_own type new done.next (kept done.next left.is.represented) in
+    let next = endures_more type may size F along.exchanges along.state done.exchange done.next along.runs done.is first
+    old store rests new e along.at left _ (came_one type.stays rests new (stays done.next left.is.represented)) there
+    (lasts_as_now type.outlasts type.moment type.outlasts_since left.now _ rests new (lasts done.next _ left.is.represented there.shown)) in
     let P : List ℕ → Type 0 = λ xs. Consumes before after xs in
     let Q : List ℕ → Type 0 = λ xs. Appends held now xs in record {
       exchanges = along.exchanges ++ done.exchange ∷ [];
       count = length_push along.exchanges done.exchange ∙ ap (λ k. k + 1) along.count;
       state = done.next;
       runs = runs_more may size F along.exchanges along.state done.exchange done.next along.runs done.is;
-      represented = kept done.next done.next_is.represented;
       read = subst P (sym asked) (Consumes-trans before mid after _ _ along.read done.read);
       wrote = subst Q (sym replied) (Appends-trans held written now _ _ along.wrote done.wrote);
-      endures = endures_more outlasts moment outlasts_since represents may size F along.exchanges along.state done.exchange done.next along.runs done.is
-          old store rests new along.endures done.next_is (lasts done.next done.next_is.represented);
+      endures = next.0;
+      at = next.1;
     }
 
 -- a stop at a request
@@ -92,13 +97,13 @@ stop_at end.Aborted n may size F before after held now G stops = absurd stops
 stop_at end.Memory n may size F before after held now G stops = absurd stops
 
 -- exchanges, and a stop
-pub served : {S : Type 0} (represents : S → StoreState → Type 0) (outlasts : Outlasting S) (moment : S → ℕ) (outlasts_since : OutlastingSince S) (last : End)
-    (may : StoreFault → Type 0) (size n : ℕ) (F : StoreState) (old store new : S) (before mid after held written now : Option (List ℕ))
-    → IsAlong represents outlasts moment outlasts_since may size n F old store before mid held written
-    → ((G : StoreState) → represents store G → IsStop (LeavesStore represents outlasts moment outlasts_since ⊥ ⊥ G store new) last may size G mid after written now)
-    → Serves represents outlasts moment outlasts_since may size F old new last before after held now
-served represents outlasts moment outlasts_since last may size n F old store new before mid after held written now along step =
-    let stop = step along.state along.represented in record {
+pub served : {S : Type 0} (type : StoreType S) (last : End) (may : StoreFault → Type 0) (size n : ℕ) (F : StoreState) (first : Shown) (old store new : S) (before mid after held written now : Option (List ℕ))
+    → IsAlong type may size n F first old store before mid held written
+    → ((G : StoreState) (b : Shown) → IsAt type store G b → IsStop (LeavesStore type ⊥ ⊥ b store new) last may size G mid after written now)
+    → Serves type may size F first old new last before after held now
+served type last may size n F first old store new before mid after held written now along step =
+    let e = along.endures in
+    let stop = step along.state (shown_last first e.rounds) (subst (λ (b : Shown). IsAt type store along.state b) along.at e.is) in record {
       exchanges = along.exchanges;
       state = along.state;
       runs = along.runs;
@@ -107,17 +112,32 @@ served represents outlasts moment outlasts_since last may size n F old store new
       written = written;
       wrote = along.wrote;
       final = stop.final;
-      represented = stop.final_is.represented;
+      represented = stop.final_is.is.represented;
       stops = stop_at last (length along.exchanges) may size along.state mid after written now stop.final stop.stops;
-      endures = endures_last outlasts moment outlasts_since may size F along.exchanges along.state along.runs stop.final.bytes old store new along.endures
-          stop.final_is.survives;
+      endures = endures_last type may size F along.exchanges along.state along.runs stop.final first old store new e along.at stop.final_is;
     }
 
+-- as many exchanges as a session may have
+pub served_most : {S : Type 0} (type : StoreType S) (may : StoreFault → Type 0) (size n : ℕ) (F : StoreState) (first : Shown) (old new : S) (before after held now : Option (List ℕ))
+    → IsAlong type may size n F first old new before after held now → n ≡ most_requests → Serves type may size F first old new end.Limit before after held now
+served_most type may size n F first old new before after held now along most = record {
+  exchanges = along.exchanges;
+  state = along.state;
+  runs = along.runs;
+  left = after;
+  read = along.read;
+  written = now;
+  wrote = along.wrote;
+  final = along.state;
+  represented = along.endures.is.represented;
+  stops = (along.count ∙ most, refl, record { held_is = refl; same = refl });
+  endures = along.endures;
+}
+
 -- no exchange, where there is no memory
-pub served_none : {S : Type 0} (represents : S → StoreState → Type 0) (outlasts : Outlasting S) (moment : S → ℕ) (outlasts_since : OutlastingSince S)
-    (may : StoreFault → Type 0) (size : ℕ) (F : StoreState) (store : S) (before held : Option (List ℕ)) → represents store F
-    → Serves represents outlasts moment outlasts_since may size F store store end.Memory before before held held
-served_none represents outlasts moment outlasts_since may size F store before held represented = record {
+pub served_none : {S : Type 0} (type : StoreType S) (may : StoreFault → Type 0) (size : ℕ) (F : StoreState) (first : Shown) (store : S) (before held : Option (List ℕ)) → IsAt type store F first
+    → Serves type may size F first store store end.Memory before before held held
+served_none type may size F first store before held is = record {
   exchanges = [];
   state = F;
   runs = refl;
@@ -126,9 +146,9 @@ served_none represents outlasts moment outlasts_since may size F store before he
   written = held;
   wrote = Appends-nil held;
   final = F;
-  represented = represented;
+  represented = is.represented;
   stops = (refl, refl, record { held_is = refl; same = refl });
-  endures = endures_none outlasts moment outlasts_since may size F store;
+  endures = (endures_none type may size F first store is).0;
 }
 
 -- a stop where a request is cut off
@@ -150,28 +170,6 @@ cut_by : (ends : StoreState → Type 0) (reason : Short) (last : End) (may : Sto
 cut_by ends reason last may size F before after held cut last_is represented =
     let P : End → Type 0 = λ e. IsStop ends e may size F before after held held in
     subst P (sym last_is) (cut_of ends reason may size F before after held cut represented)
-
--- the store is the one before
-pub untouched : {S : Type 0} (represents : S → StoreState → Type 0) (outlasts : Outlasting S) (moment : S → ℕ) (outlasts_since : OutlastingSince S) (F : StoreState) (old new : S)
-    → new ≡ old → represents old F → LeavesStore represents outlasts moment outlasts_since ⊥ ⊥ F old new F
-untouched {S} represents outlasts moment outlasts_since F old new same represented =
-    let P : S → Type 0 = λ s. represents s F in record {
-      represented = subst P (sym same) represented;
-      survives = inl (same, refl);
-      acknowledged = λ never. absurd never;
-      flushed = λ never. absurd never;
-    }
-
--- a reply that wasn't whole says nothing
-pub unsaid : {S : Type 0} (represents : S → StoreState → Type 0) (outlasts : Outlasting S) (moment : S → ℕ) (outlasts_since : OutlastingSince S) (F : StoreState) (old new : S)
-    (r : Request) (reply : List ℕ) (G : StoreState) → LeavesBy represents outlasts moment outlasts_since F old new r reply G
-    → LeavesStore represents outlasts moment outlasts_since ⊥ ⊥ F old new G
-unsaid represents outlasts moment outlasts_since F old new r reply G left = record {
-  represented = left.represented;
-  survives = left.survives;
-  acknowledged = λ never. absurd never;
-  flushed = λ never. absurd never;
-}
 
 -- a reply that is whole
 pub exchange_done : (leaves : Request → List ℕ → StoreState → Type 0) (may : StoreFault → Type 0) (size : ℕ) (F : StoreState) (head : List ℕ) (r : Request) (before mid after held now : Option (List ℕ))

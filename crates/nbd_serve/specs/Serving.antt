@@ -5,12 +5,13 @@ use Rattle.std.specs.Io.KnownBytes.{Appends, Consumes}
 use Rattle.byteorder.specs.Endian.{big_number}
 use Rattle.byte_store.specs.declared.fault.StoreFault.{StoreFault}
 use Rattle.byte_store.specs.Flat.{StoreState}
+use Rattle.byte_store.specs.Lasting.{Shown}
 use Rattle.nbd_wire.specs.declared.request.Command.TheVariants as command
 use Rattle.nbd_wire.specs.declared.request.Request.{Request}
 use Rattle.nbd_wire.specs.Requests.{SpellsRequest, carried_len, request_magic}
 use Rattle.nbd_serve.specs.Streams.{IsPartWritten, LeavesNone}
 use Rattle.nbd_serve.specs.Exchanges.{Exchange, IsExchange, RunsSession, asked_by, replied_by}
-use Rattle.nbd_serve.specs.Stopping.{Outlasting, OutlastingSince}
+use Rattle.nbd_serve.specs.Stopping.{StoreType}
 use Rattle.nbd_serve.specs.Enduring.{Endures}
 use Rattle.nbd_serve.specs.declared.end.End.{End}
 use Rattle.nbd_serve.specs.declared.end.End.TheVariants as end
@@ -82,8 +83,7 @@ Stops end.Memory n may size F before after held now G = (n ≡ 0) × (after ≡ 
 Stops last n may size F before after held now G = Breaks last may size F before after held now G
 
 -- from state F on: whole exchanges, and then what the session stops at. The store represents the state at the end
-pub record Serves {S : Type 0} (represents : S → StoreState → Type 0) (outlasts : Outlasting S) (moment : S → ℕ) (outlasts_since : OutlastingSince S)
-    (may : StoreFault → Type 0) (size : ℕ) (F : StoreState) (old new : S) (last : End) (before after held now : Option (List ℕ)) : Type 0 where
+pub record Serves {S : Type 0} (type : StoreType S) (may : StoreFault → Type 0) (size : ℕ) (F : StoreState) (first : Shown) (old new : S) (last : End) (before after held now : Option (List ℕ)) : Type 0 where
   pub exchanges : List Exchange
   pub state : StoreState
   pub runs : RunsSession may size F exchanges state
@@ -92,6 +92,6 @@ pub record Serves {S : Type 0} (represents : S → StoreState → Type 0) (outla
   pub written : Option (List ℕ)
   pub wrote : Appends held written (flat_map replied_by exchanges)
   pub final : StoreState
-  pub represented : represents new final
+  pub represented : type.represents new final
   pub stops : Stops last (length exchanges) may size state left after written now final
-  pub endures : Endures outlasts moment outlasts_since may size F exchanges state runs final.bytes old new
+  pub endures : Endures type may size F exchanges state runs final first old new

@@ -1,13 +1,14 @@
 // The answer to one request.
 ghost use Rattle.std.specs.Prelude.{◌≡◌, ◌≤◌, ◌+◌, ◌++◌, length, take, IfOk, IfErr, OnOk, IsOk, IsTrue, Some, None};
 ghost use Rattle.byte_store.specs.Flat.{StoreState};
+ghost use Rattle.byte_store.specs.Lasting.{Shown};
 ghost use Rattle.nbd_wire.specs.Requests.{carried_len, is_forced};
 ghost use Rattle.nbd_wire.specs.Replies.{reply_bytes};
 ghost use Rattle.nbd_serve.specs.Streams.{IsShort, Skips, end_by};
 ghost use Rattle.nbd_serve.specs.Refusals.{error_of, refusal_of};
 ghost use Rattle.nbd_serve.specs.Answers.{Stores, bytes_read};
 ghost use Rattle.nbd_serve.specs.Answering.{IsAnswered, IsReadReply, IsWriteServed};
-ghost use Rattle.nbd_serve.specs.Stopping.{LeavesStore, LeavesBy, Survives};
+ghost use Rattle.nbd_serve.specs.Stopping.{IsAt, LeavesStore, LeavesBy, store_type};
 
 use crate::calls::{Short, fill, skip};
 use crate::refusal::{error_of, refusal_of};
@@ -32,10 +33,9 @@ fn answer_read<S: ByteStore>(store: &mut S, request: &Request, out: &mut [u8]) -
     requires room { 16 ≤ length out.old }
     requires within { request.now.offset + request.now.length ≤ (S.sizes store.old).bytes }
     ensures count { result ≤ length out.new }
-    ensures kept { (F : StoreState) → S.represents store.old F → S.represents store.new F }
     ensures written { (F : StoreState) → S.represents store.old F → IsReadReply S.may_refuse F request.now (take result out.new) }
-    ensures survives { (F : StoreState) → S.represents store.old F →
-        Survives S.outlasts S.moment S.outlasts_since F.bytes F.bytes store.old store.new }
+    ensures leaves { let type = store_type S.represents S.keys S.stays S.outlasts S.moment S.outlasts_since in
+        (F : StoreState) (a : Shown) → IsAt type store.old F a → LeavesStore type ⊥ ⊥ a store.old store.new F }
     ensures sizes { S.sizes store.new ≡ S.sizes store.old }
 {
     let end = REPLY_LEN + request.length as usize;
@@ -60,9 +60,10 @@ fn take_write<R: Read, S: ByteStore>(
     data: &mut [u8],
 ) -> Result<Result<(), StoreFault>, Short>
     requires within { request.now.offset + request.now.length ≤ (S.sizes store.old).bytes }
-    ensures ok { IfOk result (λ outcome. (F : StoreState) → S.represents store.old F →
-        IsWriteServed S.may_refuse (LeavesStore S.represents S.outlasts S.moment S.outlasts_since (IsOk outcome) (IsOk outcome × IsTrue (is_forced request.now))
-        F store.old store.new) outcome F request.now (R.remaining reader.old) (R.remaining reader.new)) }
+    ensures ok { let type = store_type S.represents S.keys S.stays S.outlasts S.moment S.outlasts_since in
+        IfOk result (λ outcome. (F : StoreState) (a : Shown) → IsAt type store.old F a →
+        IsWriteServed S.may_refuse (LeavesStore type (IsOk outcome) (IsOk outcome × IsTrue (is_forced request.now))
+        a store.old store.new) outcome F request.now (R.remaining reader.old) (R.remaining reader.new)) }
     ensures err { IfErr result (λ short. (store.new ≡ store.old) ×
         IsShort (end_by short) (R.remaining reader.old) (R.remaining reader.new) request.now.length) }
     ensures sizes { S.sizes store.new ≡ S.sizes store.old }
@@ -111,8 +112,9 @@ pub(crate) fn answer<R: Read, S: ByteStore>(
 ) -> Result<usize, Short>
     requires room { 16 ≤ length out.old }
     ensures count { IfOk result (λ count. count ≤ length out.new) }
-    ensures ok { IfOk result (λ count. (F : StoreState) → S.represents store.old F →
-        IsAnswered (LeavesBy S.represents S.outlasts S.moment S.outlasts_since F store.old store.new) S.may_refuse (S.sizes store.old).bytes F request.now
+    ensures ok { let type = store_type S.represents S.keys S.stays S.outlasts S.moment S.outlasts_since in
+        IfOk result (λ count. (F : StoreState) (a : Shown) → IsAt type store.old F a →
+        IsAnswered (LeavesBy type a store.old store.new) S.may_refuse (S.sizes store.old).bytes F request.now
         (R.remaining reader.old) (R.remaining reader.new) (take count out.new)) }
     ensures err { IfErr result (λ short. (store.new ≡ store.old) ×
         IsShort (end_by short) (R.remaining reader.old) (R.remaining reader.new) (carried_len request.now)) }

@@ -1,6 +1,8 @@
 // A whole session.
 ghost use Rattle.byte_store.specs.Flat.{StoreState};
+ghost use Rattle.byte_store.specs.Lasting.{Shown};
 ghost use Rattle.nbd_serve.specs.Sessions.{Session};
+ghost use Rattle.nbd_serve.specs.Stopping.{IsAt, store_type};
 
 use crate::end::End;
 use crate::handshake::agree;
@@ -18,8 +20,9 @@ pub fn serve<R: Read, W: Write, S: ByteStore>(
     writer: &mut W,
     store: &mut S,
 ) -> End
-    ensures { (F : StoreState) → S.represents store.old F →
-        Session S.represents S.outlasts S.moment S.outlasts_since S.may_refuse (S.sizes store.old) F store.old store.new result
+    ensures { let type = store_type S.represents S.keys S.stays S.outlasts S.moment S.outlasts_since in
+        (F : StoreState) (a : Shown) → IsAt type store.old F a →
+        Session type S.may_refuse (S.sizes store.old) F a store.old store.new result
         (R.remaining reader.old) (R.remaining reader.new) (W.contents writer.old) (W.contents writer.new) }
 {
     let export = Export {

@@ -1,9 +1,10 @@
 // Requests and replies, until the client goes.
 ghost use Rattle.std.specs.Prelude.{◌≡◌, ◌≤◌, ◌+◌, length, IfOk};
 ghost use Rattle.byte_store.specs.Flat.{StoreState};
+ghost use Rattle.byte_store.specs.Lasting.{Shown};
 ghost use Rattle.nbd_serve.specs.Serving.{Serves};
 ghost use Rattle.nbd_serve.specs.Stepping.{IsDoneOrStop};
-ghost use Rattle.nbd_serve.specs.Stopping.{LeavesStore, LeavesBy};
+ghost use Rattle.nbd_serve.specs.Stopping.{IsAt, LeavesStore, LeavesBy, store_type};
 
 use crate::answer::answer;
 use crate::calls::{fill, write_out};
@@ -56,9 +57,9 @@ fn exchange<R: Read, W: Write, S: ByteStore>(
 ) -> Option<Halt>
     requires room { 16 ≤ length out.old.items }
     ensures room { 16 ≤ length out.new.items }
-    ensures step { (F : StoreState) → S.represents store.old F →
-        IsDoneOrStop (LeavesBy S.represents S.outlasts S.moment S.outlasts_since F store.old store.new)
-        (LeavesStore S.represents S.outlasts S.moment S.outlasts_since ⊥ ⊥ F store.old store.new) result S.may_refuse (S.sizes store.old).bytes F
+    ensures step { let type = store_type S.represents S.keys S.stays S.outlasts S.moment S.outlasts_since in
+        (F : StoreState) (a : Shown) → IsAt type store.old F a →
+        IsDoneOrStop (LeavesBy type a store.old store.new) (LeavesStore type ⊥ ⊥ a store.old store.new) result S.may_refuse (S.sizes store.old).bytes F
         (R.remaining reader.old) (R.remaining reader.new) (W.contents writer.old) (W.contents writer.new) }
     ensures sizes { S.sizes store.new ≡ S.sizes store.old }
 {
@@ -90,8 +91,9 @@ pub fn transmit<R: Read, W: Write, S: ByteStore>(
     writer: &mut W,
     store: &mut S,
 ) -> End
-    ensures { (F : StoreState) → S.represents store.old F →
-        Serves S.represents S.outlasts S.moment S.outlasts_since S.may_refuse (S.sizes store.old).bytes F store.old store.new result
+    ensures { let type = store_type S.represents S.keys S.stays S.outlasts S.moment S.outlasts_since in
+        (F : StoreState) (a : Shown) → IsAt type store.old F a →
+        Serves type S.may_refuse (S.sizes store.old).bytes F a store.old store.new result
         (R.remaining reader.old) (R.remaining reader.new) (W.contents writer.old) (W.contents writer.new) }
 {
     let Ok(mut out) = reply_buffer(alloc) else {

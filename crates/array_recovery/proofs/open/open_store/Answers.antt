@@ -1,9 +1,9 @@
-use Rattle.std.proofs.Common.{◌*◌, ◌≡◌, ◌∙◌, [], ◌∷◌, sym, ap, subst}
+use Rattle.std.proofs.Common.{◌*◌, ◌≡◌, ◌∙◌, [], ◌∷◌, refl, sym, ap, subst}
 use Rattle.extents.specs.Sizes.{extent_units}
 use Rattle.slot_tables.specs.Views.{key_at}
 use Rattle.array_store.specs.Blocks.{Holds}
 use Rattle.array_store.specs.Stores.{StoreView}
-use Rattle.journaled_store.specs.Left.{HasKeys}
+use Rattle.journaled_store.specs.Left.{HasBoth, HasKeys}
 use Rattle.journaled_store.specs.Outlasting.{Point, Works, point}
 use Rattle.array_recovery.proofs.Outlasting.{works}
 use Rattle.array_recovery.proofs.open.open_store.Goals as goal
@@ -40,6 +40,34 @@ returns-in-Ok-clause-map_lasts g c = λ known keys is.
     (works HasKeys g.V.Vault.seen g.V.Vault.may_leave g.V.Vault.moment g.V.Vault.left_since keys c.args.groups c.args.drives (c.args.shape.now.extents * extent_units c.args.shape.now.segments)
     c.args.absent.now c.args.vault is made (reported.read known) reported.long (reported.marks known) reported.same (reported.live known)))
 
+pub returns-in-Ok-clause-both_last : goal.returns-in-Ok-clause-both_last
+returns-in-Ok-clause-both_last g c = λ known what is.
+    let reported = c.in-Ok.ensures in
+    let s = c.new.result in
+    let changes = c.in-Ok.changes in
+    let now = c.recover.new.vault in
+    let made : Point g.row.V.Denot = record { keeper = changes.keeper; noted = changes.noted; batch = changes.batch; failed = s.failed; tiers = c.in-Ok.store.tiers; vault = now } in
+    let same : point s ≡ made =
+    ap (λ d. record { keeper = d.keeper; noted = d.noted; batch = d.batch; failed = s.failed; tiers = s.store.tiers; vault = s.vault }) c.new.ensures.parts.1
+    ∙ ap (λ d. record { keeper = changes.keeper; noted = changes.noted; batch = changes.batch; failed = s.failed; tiers = d.tiers; vault = s.vault }) c.new.ensures.parts.0
+    ∙ ap (λ d. record { keeper = changes.keeper; noted = changes.noted; batch = changes.batch; failed = s.failed; tiers = c.in-Ok.store.tiers; vault = d }) c.new.ensures.parts.2 in
+    c.new.ensures.both (reported.stays known) (what ∷ []) (what ∷ [])
+    (subst (λ p. Works HasBoth g.V.Vault.seen g.V.Vault.may_leave p (what ∷ []) (what ∷ [])) (sym same)
+    (works HasBoth g.V.Vault.seen g.V.Vault.may_leave g.V.Vault.moment g.V.Vault.left_since what c.args.groups c.args.drives (c.args.shape.now.extents * extent_units c.args.shape.now.segments)
+    c.args.absent.now c.args.vault is made (reported.read known) reported.long (reported.marks known) reported.same (reported.live known)))
+
 pub returns-in-Ok-clause-map : goal.returns-in-Ok-clause-map
 returns-in-Ok-clause-map g c = λ known keys left block.
     ap (λ (s : StoreView). key_at s.tiers.world.array block) c.new.ensures.parts.0 ∙ c.in-Ok.ensures.map known keys left block
+
+pub returns-in-Ok-clause-both : goal.returns-in-Ok-clause-both
+returns-in-Ok-clause-both g c = λ known what long left.
+    let parts = c.new.ensures.parts.0 in
+    let there = subst (λ (s : StoreView). HasBoth s.tiers what) (sym parts) (c.in-Ok.ensures.both known what long left) in (
+      record { bytes_are = refl; keys_are = there.keys_are },
+      record {
+        holds = there.holds;
+        long = long ∙ sym (ap (λ (s : StoreView). s.size) parts ∙ c.in-Ok.ensures.size);
+        noted = sym c.new.ensures.flags.0;
+      },
+    )

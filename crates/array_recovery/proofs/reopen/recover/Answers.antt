@@ -1,11 +1,13 @@
-use Rattle.std.proofs.Common.{◌*◌, ◌∙◌, ℕ, List, length, sym, ap, subst}
+use Rattle.std.proofs.Common.{◌*◌, ◌∙◌, ℕ, List, length, sym, ap, subst, Result, Ok, Err}
+use Rattle.std.specs.Prelude.{IfOk}
 use Rattle.extents.specs.Sizes.{extent_units}
 use Rattle.std.proofs.lemmas.Result.{IfOk-weaker}
 use Rattle.vault.specs.Images.{recovered}
 use Rattle.array_store.specs.Blocks.{Holds}
-use Rattle.journaled_store.specs.Left.{HasKeys, IsLeftOf}
+use Rattle.journaled_store.specs.Left.{HasBoth, HasKeys, IsLeftOf}
 use Rattle.array_recovery.specs.Reopened.{CoversGone, EndsAt, IsOpenedWith}
 use Rattle.array_recovery.specs.Found.{IsTable}
+use Rattle.array_recovery.proofs.Reopening.{bytes_left, keys_left}
 use Rattle.array_recovery.proofs.reopen.recover.Goals as goal
 
 pub returns-clause-reopened : goal.returns-clause-reopened
@@ -21,6 +23,21 @@ returns-clause-map g c = λ known keys left.
     let reported = c.in_ok-found.ensures in
     IfOk-weaker c.open_found.result _ _
     (λ r h. h cells c.args.absent.now keys (reported.found known) (subst (λ n. IsLeftOf HasKeys keys c.args.groups n c.args.absent.now cells) (sym reported.many) left)) c.open_found.ensures.map
+
+-- two facts of one outcome
+of_both : {X E : Type 0} (result : Result X E) (P Q R : X → Type 0) → IfOk result P → IfOk result Q → ((x : X) → P x → Q x → R x) → IfOk result R
+of_both (Ok x) P Q R one two both = both x one two
+of_both (Err e) P Q R one two both = tt
+
+pub returns-clause-both : goal.returns-clause-both
+returns-clause-both g c = λ known what long left.
+    let cells = recovered (g.V.Vault.seen c.args.vault.now) in
+    let reported = c.in_ok-found.ensures in
+    let here = subst (λ n. IsLeftOf HasBoth what c.args.groups n c.args.absent.now cells) (sym reported.many) left in
+    of_both c.open_found.result _ _ _ c.open_found.ensures.reopened c.open_found.ensures.map (λ r bytes map. record {
+      holds = (bytes cells c.args.absent.now what.bytes (reported.found known) long (bytes_left what _ _ c.args.absent.now cells here)).holds;
+      keys_are = λ block. sym (map cells c.args.absent.now what.keys (reported.found known) (keys_left what _ _ c.args.absent.now cells here) block);
+    })
 
 pub returns-clause-live : goal.returns-clause-live
 returns-clause-live g c = λ known lost.

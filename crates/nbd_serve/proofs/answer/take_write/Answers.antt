@@ -6,11 +6,11 @@ use Rattle.nbd_serve.proofs.Outcomes.{write_cause}
 use Rattle.nbd_serve.proofs.answer.take_write.Goals as goal
 
 pub returns-in-Ok-fill-clause-ok : goal.returns-in-Ok-fill-clause-ok
-returns-in-Ok-fill-clause-ok g c = λ F represented.
+returns-in-Ok-fill-clause-ok g c = λ F a is.
     let r = c.args.request.now in
     let bytes = c.fill.new.buffer in
     let size : length bytes ≡ r.length = c.fill.auto.buffer ∙ length-take-le r.length c.args.data.now c.if-data-length.false in
-    let written = c.write.ensures.change F represented in
+    let written = c.write.ensures.change F a is in
     let P : List ℕ → Type 0 = λ xs. Stores c.write.result (is_forced r) F r.offset xs written.0 in record {
       carried = bytes;
       size = size;

@@ -14,9 +14,9 @@ of_sizes size block sizes before after held now size_is block_is shaken =
     subst Q block_is (subst P size_is shaken)
 
 pub returns-in-Ok : goal.returns-in-Ok
-returns-in-Ok g c = λ F represented. inr (record {
+returns-in-Ok g c = λ F a is. inr (record {
   left = _;
   written = _;
   handshakes = of_sizes c.size.result c.block_bytes.result (g.S.ByteStore.sizes c.args.store.now) _ _ _ _ c.size.ensures.size c.block_bytes.ensures.size c.in-Ok.ensures;
-  serves = c.transmit.ensures F represented;
+  serves = c.transmit.ensures F a is;
 })

@@ -1,6 +1,8 @@
 use Rattle.std.proofs.Common.{length, take, ap, ◌∙◌, arith}
 use Rattle.nbd_serve.proofs.Streaming.{kept_room, written_back}
-use Rattle.nbd_serve.proofs.Sessions.{exchange_broken, exchange_cut, exchange_done, unsaid, untouched}
+use Rattle.nbd_serve.proofs.Sessions.{exchange_broken, exchange_cut, exchange_done}
+use Rattle.nbd_serve.specs.Stopping.{store_type}
+use Rattle.nbd_serve.proofs.Stopping.{unsaid, untouched}
 use Rattle.nbd_serve.specs.Halts.{end_of}
 use Rattle.nbd_serve.proofs.transmission.exchange.Goals as goal
 
@@ -10,9 +12,9 @@ returns-in-Ok-write_out g c =
     let kept = c.answer.auto.out ∙ ap length c.deref_mut.ensures.value in
     let back = written_back c.make_room.new.out.len c.make_room.new.out.items c.answer.new.out c.make_room.new.out.ok.0 kept in record {
       room = kept_room c.make_room.new.out.len c.make_room.new.out.items c.answer.new.out c.make_room.new.out.ok.0 kept (omega (arith, c.requires.room, c.make_room.ensures));
-      step = λ F represented.
+      step = λ F a is.
           exchange_done _ _ _ F c.fill.new.buffer c.in-Some.request (remaining c.args.reader.now) _ _ _ _ (take c.in-Ok.count c.answer.new.out) _
-          c.fill.auto.buffer c.in-Some.ensures.some c.in_default-command.not-Disconnect c.in_default.ensures.whole (c.in-Ok.ensures.ok F represented)
+          c.fill.auto.buffer c.in-Some.ensures.some c.in_default-command.not-Disconnect c.in_default.ensures.whole (c.in-Ok.ensures.ok F a is)
           (ap (take c.in-Ok.count) (c.deref.ensures.value ∙ back)) c.in-Ok-write_out.ensures.whole;
       sizes = c.answer.ensures.sizes;
     }
@@ -21,14 +23,15 @@ pub returns-in-Err-write_out : goal.returns-in-Err-write_out
 returns-in-Err-write_out g c =
     let remaining = g.R.Read.remaining in
     let store = g.S.ByteStore in
+    let type = store_type store.represents store.keys store.stays store.outlasts store.moment store.outlasts_since in
     let kept = c.answer.auto.out ∙ ap length c.deref_mut.ensures.value in
     let back = written_back c.make_room.new.out.len c.make_room.new.out.items c.answer.new.out c.make_room.new.out.ok.0 kept in record {
       room = kept_room c.make_room.new.out.len c.make_room.new.out.items c.answer.new.out c.make_room.new.out.ok.0 kept (omega (arith, c.requires.room, c.make_room.ensures));
-      step = λ F represented.
+      step = λ F a is.
           exchange_broken _ _ _ _ F c.fill.new.buffer c.in-Some.request (remaining c.args.reader.now) _ _ _ _ (take c.in-Ok.count c.answer.new.out) _
-          c.fill.auto.buffer c.in-Some.ensures.some c.in_default-command.not-Disconnect c.in_default.ensures.whole (c.in-Ok.ensures.ok F represented)
+          c.fill.auto.buffer c.in-Some.ensures.some c.in_default-command.not-Disconnect c.in_default.ensures.whole (c.in-Ok.ensures.ok F a is)
           (ap (take c.in-Ok.count) (c.deref.ensures.value ∙ back)) c.in-Err-write_out.ensures.part
-          (unsaid store.represents store.outlasts store.moment store.outlasts_since F _ _ c.in-Some.request (take c.in-Ok.count c.answer.new.out));
+          (λ G left. unsaid type _ _ a _ _ G left);
       sizes = c.answer.ensures.sizes;
     }
 
@@ -36,12 +39,13 @@ pub returns-in-Err-answer : goal.returns-in-Err-answer
 returns-in-Err-answer g c =
     let remaining = g.R.Read.remaining in
     let store = g.S.ByteStore in
+    let type = store_type store.represents store.keys store.stays store.outlasts store.moment store.outlasts_since in
     let kept = c.answer.auto.out ∙ ap length c.deref_mut.ensures.value in
     record {
       room = kept_room c.make_room.new.out.len c.make_room.new.out.items c.answer.new.out c.make_room.new.out.ok.0 kept (omega (arith, c.requires.room, c.make_room.ensures));
-      step = λ F represented.
+      step = λ F a is.
           exchange_cut _ c.in-Err-answer.short (end_of c.halt-in-Err-answer.result) _ _ F c.fill.new.buffer c.in-Some.request (remaining c.args.reader.now) _ _ _
           c.fill.auto.buffer c.in-Some.ensures.some c.in_default.ensures.whole c.in-Err-answer.ensures.err.1 c.halt-in-Err-answer.ensures
-          (untouched store.represents store.outlasts store.moment store.outlasts_since F _ _ c.in-Err-answer.ensures.err.0 represented);
+          (untouched type F a _ _ c.in-Err-answer.ensures.err.0 is);
       sizes = c.answer.ensures.sizes;
     }

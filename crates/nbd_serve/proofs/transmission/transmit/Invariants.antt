@@ -1,5 +1,7 @@
 use Rattle.std.proofs.Common.{◌≡◌, ◌≤◌, length}
 use Rattle.byte_store.specs.Flat.{StoreState}
+use Rattle.byte_store.specs.Lasting.{Shown}
+use Rattle.nbd_serve.specs.Stopping.{IsAt, store_type}
 use Rattle.nbd_serve.proofs.Sessions.{IsAlong}
 use Rattle.nbd_serve.proofs.transmission.transmit.Given as goal
 
@@ -8,10 +10,10 @@ abbrev pub invariant-loop-served : goal.invariant-loop-served
 invariant-loop-served g l =
     let remaining = g.R.Read.remaining in
     let contents = g.W.Write.contents in
-    let store = g.S.ByteStore in record {
+    let store = g.S.ByteStore in
+    let type = store_type store.represents store.keys store.stays store.outlasts store.moment store.outlasts_since in record {
       room : 16 ≤ length l.out.items;
       same : store.sizes l.store ≡ store.sizes l.fn.store;
-      along : (F : StoreState) → store.represents l.fn.store F
-          → IsAlong store.represents store.outlasts store.moment store.outlasts_since store.may_refuse (store.sizes l.fn.store).bytes l.served F
-          l.fn.store l.store (remaining l.fn.reader) (remaining l.reader) (contents l.fn.writer) (contents l.writer);
+      along : (F : StoreState) (a : Shown) → IsAt type l.fn.store F a
+          → IsAlong type store.may_refuse (store.sizes l.fn.store).bytes l.served F a l.fn.store l.store (remaining l.fn.reader) (remaining l.reader) (contents l.fn.writer) (contents l.writer);
     }

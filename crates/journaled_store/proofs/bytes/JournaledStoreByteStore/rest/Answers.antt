@@ -1,12 +1,11 @@
-use Rattle.std.proofs.Common.{refl, ◌∙◌}
+use Rattle.std.proofs.Common.{refl, sym}
 use Rattle.tiered_array.specs.Views.{TiersView}
 use Rattle.byte_store.proofs.Lasts.{lasts_after}
 use Rattle.array_store.proofs.Holding.{follows_more}
-use Rattle.array_store.specs.Blocks.{Holds}
 use Rattle.journaled_store.specs.Outlasting.{Outlasts, OutlastsSince, Point, point}
 use Rattle.journaled_store.proofs.Lasting.{lasts_at, moved_lasts}
-use Rattle.journaled_store.proofs.Storing.{noting, own_note, with_note}
-use Rattle.journaled_store.specs.Left.{HasKeys}
+use Rattle.journaled_store.proofs.Storing.{has_both, noting, own_note, shows_on, with_note}
+use Rattle.journaled_store.specs.Left.{HasBoth}
 use Rattle.journaled_store.proofs.bytes.JournaledStoreByteStore.rest.Goals as goal
 
 -- the store after what its array does ahead
@@ -37,7 +36,7 @@ returns-else-self-clause-stays g c F is =
     c.rest.ensures.stays (noting c.args.self.now.store.unsynced F) (with_note c.args.self.now.store c.args.self.now.unsynced F is)
 
 pub returns-then-self-clause-lasts : goal.returns-then-self-clause-lasts
-returns-then-self-clause-lasts g c F is =
+returns-then-self-clause-lasts g c F b is now =
     let v = g.V.Vault in
     let was = c.args.self.now.store in
     let own = c.args.self.now.unsynced in
@@ -45,40 +44,17 @@ returns-then-self-clause-lasts g c F is =
     let q = moved p c.rest.new.self.tiers in
     let follows = c.rest.ensures.stays (noting was.unsynced F) (with_note was own F is) in
     let kept = own_note c.rest.new.self was.unsynced own F is.noted (c.rest.ensures.kept (noting was.unsynced F) (with_note was own F is)) in
-    lasts_at point (Outlasts Holds v.known v.seen v.may_leave) (λ r. v.moment r.vault) (OutlastsSince Holds v.left_since) F.bytes F.bytes c.args.self.now c.settle.new.self
-    (lasts_after (Outlasts Holds v.known v.seen v.may_leave) (λ r. v.moment r.vault) (OutlastsSince Holds v.left_since) F.bytes F.bytes p q (point c.settle.new.self)
-    (moved_lasts Holds v.known v.seen v.may_leave v.moment v.left_since g.met.V.Vault.counts_now g.met.V.Vault.only_now p q refl follows (λ on. on) (λ lost cells live. live) F.bytes F.bytes)
-    (c.settle.ensures.lasts F kept))
+    let there = has_both c.rest.new.self.tiers F b kept.holds (shows_on c.settle.new.self.store.tiers.world.array.keys c.rest.new.self.tiers.world.array.keys F b
+    (λ k. sym (c.settle.ensures.keys F kept k)) now) in
+    lasts_at point (Outlasts HasBoth v.known v.seen v.may_leave) (λ r. v.moment r.vault) (OutlastsSince HasBoth v.left_since) b b c.args.self.now c.settle.new.self
+    (lasts_after (Outlasts HasBoth v.known v.seen v.may_leave) (λ r. v.moment r.vault) (OutlastsSince HasBoth v.left_since) b b p q (point c.settle.new.self)
+    (moved_lasts HasBoth v.known v.seen v.may_leave v.moment v.left_since g.met.V.Vault.counts_now g.met.V.Vault.only_now p q refl follows (λ on. on) (λ lost cells live. live) b b)
+    (c.settle.ensures.lasts F b kept there))
 
 pub returns-else-self-clause-lasts : goal.returns-else-self-clause-lasts
-returns-else-self-clause-lasts g c F is =
+returns-else-self-clause-lasts g c F b is now =
     let v = g.V.Vault in
     let p = point c.args.self.now in
-    lasts_at point (Outlasts Holds v.known v.seen v.may_leave) (λ r. v.moment r.vault) (OutlastsSince Holds v.left_since) F.bytes F.bytes c.args.self.now _
-    (moved_lasts Holds v.known v.seen v.may_leave v.moment v.left_since g.met.V.Vault.counts_now g.met.V.Vault.only_now p (moved p c.rest.new.self.tiers) refl
-    (c.rest.ensures.stays (noting c.args.self.now.store.unsynced F) (with_note c.args.self.now.store c.args.self.now.unsynced F is)) (λ on. on) (λ lost cells live. live) F.bytes F.bytes)
-
-pub returns-then-self-clause-map : goal.returns-then-self-clause-map
-returns-then-self-clause-map g c F keys is has =
-    let v = g.V.Vault in
-    let was = c.args.self.now.store in
-    let own = c.args.self.now.unsynced in
-    let p = point c.args.self.now in
-    let q = moved p c.rest.new.self.tiers in
-    let follows = c.rest.ensures.stays (noting was.unsynced F) (with_note was own F is) in
-    let kept = own_note c.rest.new.self was.unsynced own F is.noted (c.rest.ensures.kept (noting was.unsynced F) (with_note was own F is)) in
-    let there : HasKeys c.rest.new.self.tiers keys = record {
-      state = kept.holds.state;
-      matches = kept.holds.matches;
-      keys_are = λ block. has.keys_are block ∙ c.settle.ensures.keys F kept block;
-    } in
-    lasts_after (Outlasts HasKeys v.known v.seen v.may_leave) (λ r. v.moment r.vault) (OutlastsSince HasKeys v.left_since) keys keys p q (point c.settle.new.self)
-    (moved_lasts HasKeys v.known v.seen v.may_leave v.moment v.left_since g.met.V.Vault.counts_now g.met.V.Vault.only_now p q refl follows (λ on. on) (λ lost cells live. live) keys keys)
-    (c.settle.ensures.map F keys kept there)
-
-pub returns-else-self-clause-map : goal.returns-else-self-clause-map
-returns-else-self-clause-map g c F keys is has =
-    let v = g.V.Vault in
-    let p = point c.args.self.now in
-    moved_lasts HasKeys v.known v.seen v.may_leave v.moment v.left_since g.met.V.Vault.counts_now g.met.V.Vault.only_now p (moved p c.rest.new.self.tiers) refl
-    (c.rest.ensures.stays (noting c.args.self.now.store.unsynced F) (with_note c.args.self.now.store c.args.self.now.unsynced F is)) (λ on. on) (λ lost cells live. live) keys keys
+    lasts_at point (Outlasts HasBoth v.known v.seen v.may_leave) (λ r. v.moment r.vault) (OutlastsSince HasBoth v.left_since) b b c.args.self.now _
+    (moved_lasts HasBoth v.known v.seen v.may_leave v.moment v.left_since g.met.V.Vault.counts_now g.met.V.Vault.only_now p (moved p c.rest.new.self.tiers) refl
+    (c.rest.ensures.stays (noting c.args.self.now.store.unsynced F) (with_note c.args.self.now.store c.args.self.now.unsynced F is)) (λ on. on) (λ lost cells live. live) b b)

@@ -1,13 +1,12 @@
-use Rattle.std.proofs.Common.{Bool, true, ap, sym, subst, ◌∙◌}
+use Rattle.std.proofs.Common.{Bool, ap, sym, subst, ◌∙◌}
 use Rattle.std.proofs.lemmas.Result.{err_from_is_err_and}
 use Rattle.byte_store.specs.Flat.{Sizes}
 use Rattle.vault.proofs.Carried.{on_ok_of}
 use Rattle.array_store.specs.Stores.{Follows, IsStoreOf, StoreView}
-use Rattle.array_store.specs.Blocks.{Holds}
 use Rattle.journaled_store.specs.Outlasting.{point}
-use Rattle.journaled_store.specs.Left.{HasKeys}
+use Rattle.journaled_store.specs.Left.{HasBoth}
 use Rattle.journaled_store.proofs.Lasting.{array_acknowledges, array_lasts}
-use Rattle.journaled_store.proofs.Storing.{noting, published_store, with_note, written_store}
+use Rattle.journaled_store.proofs.Storing.{noting, with_note, written_store}
 use Rattle.journaled_store.proofs.store.JournaledStore.kept_write.Goals as goal
 
 pub returns-in_err-publish-clause-change : goal.returns-in_err-publish-clause-change
@@ -52,56 +51,29 @@ returns-in_err-publish-clause-follows g c F is =
     let was = c.args.self.now.store in
     subst (λ (s : StoreView). Follows was.tiers s.tiers) (sym c.publish.ensures.same.0) (c.write-written.ensures.stays (noting was.unsynced F) (with_note was c.args.self.now.unsynced F is))
 
-pub returns-in_err-publish-clause-lasts : goal.returns-in_err-publish-clause-lasts
-returns-in_err-publish-clause-lasts g c F G is made =
-    let v = g.V.Vault in
-    let was = c.args.self.now.store in
-    let now = c.write-written.new.self in
-    let here : IsStoreOf now.tiers now.size true G = published_store now c.publish.new.self.store true c.publish.new.self.unsynced G c.publish.ensures.same.0 c.publish.ensures.same.1 made in
-    array_lasts Holds v.known v.seen v.may_leave v.moment v.left_since g.met.V.Vault.counts_now g.met.V.Vault.only_now (point c.args.self.now) now.tiers (point c.publish.new.self) F.bytes G.bytes
-    (c.write-written.ensures.stays (noting was.unsynced F) (with_note was c.args.self.now.unsynced F is)) (c.publish.ensures.lasts G here)
-
 pub returns-clause-follows : goal.returns-clause-follows
 returns-clause-follows g c F is =
     let was = c.args.self.now.store in
     subst (λ (s : StoreView). Follows was.tiers s.tiers) (sym c.publish.ensures.same.0) (c.write-written.ensures.stays (noting was.unsynced F) (with_note was c.args.self.now.unsynced F is))
 
-pub returns-clause-lasts : goal.returns-clause-lasts
-returns-clause-lasts g c F G is made =
+pub returns-in_err-publish-clause-lasts : goal.returns-in_err-publish-clause-lasts
+returns-in_err-publish-clause-lasts g c F what is has =
     let v = g.V.Vault in
     let was = c.args.self.now.store in
     let now = c.write-written.new.self in
-    let here : IsStoreOf now.tiers now.size true G = published_store now c.publish.new.self.store true c.publish.new.self.unsynced G c.publish.ensures.same.0 c.publish.ensures.same.1 made in
-    array_lasts Holds v.known v.seen v.may_leave v.moment v.left_since g.met.V.Vault.counts_now g.met.V.Vault.only_now (point c.args.self.now) now.tiers (point c.publish.new.self) F.bytes G.bytes
-    (c.write-written.ensures.stays (noting was.unsynced F) (with_note was c.args.self.now.unsynced F is)) (c.publish.ensures.lasts G here)
-
-pub returns-clause-acknowledged : goal.returns-clause-acknowledged
-returns-clause-acknowledged g c F G is made =
-    let v = g.V.Vault in
-    let was = c.args.self.now.store in
-    let now = c.write-written.new.self in
-    let here : IsStoreOf now.tiers now.size true G = published_store now c.publish.new.self.store true c.publish.new.self.unsynced G c.publish.ensures.same.0 c.publish.ensures.same.1 made in
-    on_ok_of _ c.write-written.result (array_acknowledges Holds v.known v.seen v.may_leave v.moment v.left_since g.met.V.Vault.counts_now g.met.V.Vault.only_now (point c.args.self.now) now.tiers (point c.publish.new.self) F.bytes G.bytes
-    (c.write-written.ensures.stays (noting was.unsynced F) (with_note was c.args.self.now.unsynced F is)) (c.in_ok-publish.ensures.acknowledged G here))
-
-pub returns-in_err-publish-clause-map : goal.returns-in_err-publish-clause-map
-returns-in_err-publish-clause-map g c F keys is has =
-    let v = g.V.Vault in
-    let was = c.args.self.now.store in
-    let now = c.write-written.new.self in
-    let there : HasKeys now.tiers keys = subst (λ (s : StoreView). HasKeys s.tiers keys) c.publish.ensures.same.0 has in
+    let there : HasBoth now.tiers what = subst (λ (s : StoreView). HasBoth s.tiers what) c.publish.ensures.same.0 has in
     let follows = c.write-written.ensures.stays (noting was.unsynced F) (with_note was c.args.self.now.unsynced F is) in
     let p = err_from_is_err_and c.from_residual.result c.from_residual.ensures.1 in
-    rw p.1 (array_lasts HasKeys v.known v.seen v.may_leave v.moment v.left_since g.met.V.Vault.counts_now g.met.V.Vault.only_now (point c.args.self.now) now.tiers (point c.publish.new.self) keys keys follows (c.publish.ensures.map keys there).0, tt)
+    rw p.1 (array_lasts HasBoth v.known v.seen v.may_leave v.moment v.left_since g.met.V.Vault.counts_now g.met.V.Vault.only_now (point c.args.self.now) now.tiers (point c.publish.new.self) what what follows (c.publish.ensures.lasts what there).0, tt)
 
-pub returns-clause-map : goal.returns-clause-map
-returns-clause-map g c F keys is has =
+pub returns-clause-lasts : goal.returns-clause-lasts
+returns-clause-lasts g c F what is has =
     let v = g.V.Vault in
     let was = c.args.self.now.store in
     let now = c.write-written.new.self in
-    let there : HasKeys now.tiers keys = subst (λ (s : StoreView). HasKeys s.tiers keys) c.publish.ensures.same.0 has in
+    let there : HasBoth now.tiers what = subst (λ (s : StoreView). HasBoth s.tiers what) c.publish.ensures.same.0 has in
     let follows = c.write-written.ensures.stays (noting was.unsynced F) (with_note was c.args.self.now.unsynced F is) in (
-      array_lasts HasKeys v.known v.seen v.may_leave v.moment v.left_since g.met.V.Vault.counts_now g.met.V.Vault.only_now (point c.args.self.now) now.tiers (point c.publish.new.self) keys keys follows (c.publish.ensures.map keys there).0,
+      array_lasts HasBoth v.known v.seen v.may_leave v.moment v.left_since g.met.V.Vault.counts_now g.met.V.Vault.only_now (point c.args.self.now) now.tiers (point c.publish.new.self) what what follows (c.publish.ensures.lasts what there).0,
       on_ok_of _ c.write-written.result
-          (array_acknowledges HasKeys v.known v.seen v.may_leave v.moment v.left_since g.met.V.Vault.counts_now g.met.V.Vault.only_now (point c.args.self.now) now.tiers (point c.publish.new.self) keys keys follows (c.in_ok-publish.ensures.map keys there).1),
+          (array_acknowledges HasBoth v.known v.seen v.may_leave v.moment v.left_since g.met.V.Vault.counts_now g.met.V.Vault.only_now (point c.args.self.now) now.tiers (point c.publish.new.self) what what follows (c.in_ok-publish.ensures.lasts what there).1),
     )

@@ -5,11 +5,10 @@ use Rattle.vault.specs.Images.{Image, recovered}
 use Rattle.vault.specs.Moments.{RepresentsSome}
 use Rattle.vault.specs.declared.store.Stop.TheVariants.{Killed}
 use Rattle.vault.proofs.Runs.{both_runs}
-use Rattle.array_store.specs.Blocks.{Holds}
 use Rattle.array_store.specs.Stores.{StoreView}
 use Rattle.journaled_store.specs.Steps.{IsBeforeOrNow, IsUpToDate}
 use Rattle.journaled_store.specs.Outlasting.{Outlasts, OutlastsSince, Point, point}
-use Rattle.journaled_store.specs.Left.{HasKeys}
+use Rattle.journaled_store.specs.Left.{HasBoth}
 use Rattle.journaled_store.proofs.Lasting.{ok_not_err, on_ok_by, published_lasts, synced, synced_outlasts}
 use Rattle.journaled_store.proofs.Storing.{unless_err}
 use Rattle.journaled_store.proofs.store.JournaledStore.publish_durably.Goals as goal
@@ -62,51 +61,26 @@ returns-clause-killed g c known lost logged works =
     (length (Image.journal (v.seen c.publish.new.self.vault))) (c.publish.ensures.killed known lost logged c.in_ok-publish.ensures.works.0))
 
 pub returns-in_err-publish-clause-lasts : goal.returns-in_err-publish-clause-lasts
-returns-in_err-publish-clause-lasts g c F is =
+returns-in_err-publish-clause-lasts g c what has =
     let p = err_from_is_err_and c.from_residual.result c.from_residual.ensures.1 in
-    rw p.1 (c.publish.ensures.lasts F is, tt)
+    rw p.1 ((c.publish.ensures.lasts what has).0, tt)
 
 pub returns-clause-lasts : goal.returns-clause-lasts
-returns-clause-lasts g c F is =
+returns-clause-lasts g c what has =
     let v = g.V.Vault in
     let m = point c.publish.new.self in
     let e = c.sync-synced.ensures in
     let q : Point _ = record { keeper = m.keeper; noted = m.noted; batch = m.batch; failed = c.is_err-self.result; tiers = m.tiers; vault = c.sync-synced.new.vault } in
-    let holds : Holds m.tiers F.bytes = subst (λ (s : StoreView). Holds s.tiers F.bytes) (sym c.publish.ensures.same.0) is.holds in (
-      lasts_after (Outlasts Holds v.known v.seen v.may_leave) (λ r. v.moment r.vault) (OutlastsSince Holds v.left_since) F.bytes F.bytes (point c.args.self.now) m q (c.publish.ensures.lasts F is)
-          (published_lasts Holds v.known v.seen v.may_leave v.moment v.left_since g.met.V.Vault.counts_now g.met.V.Vault.only_now m q F.bytes holds c.in_ok-publish.ensures.works.1
-          (synced Holds v.known v.seen v.may_leave v.moment v.left_since g.met.V.Vault.counts_now g.met.V.Vault.only_now m q c.in_ok-publish.ensures.works.0 refl refl refl refl e.stays e.seen
+    let there : HasBoth m.tiers what = subst (λ (s : StoreView). HasBoth s.tiers what) (sym c.publish.ensures.same.0) has in (
+      lasts_after (Outlasts HasBoth v.known v.seen v.may_leave) (λ r. v.moment r.vault) (OutlastsSince HasBoth v.left_since) what what (point c.args.self.now) m q (c.publish.ensures.lasts what has).0
+          (published_lasts HasBoth v.known v.seen v.may_leave v.moment v.left_since g.met.V.Vault.counts_now g.met.V.Vault.only_now m q what there c.in_ok-publish.ensures.works.1
+          (synced HasBoth v.known v.seen v.may_leave v.moment v.left_since g.met.V.Vault.counts_now g.met.V.Vault.only_now m q c.in_ok-publish.ensures.works.0 refl refl refl refl e.stays e.seen
           (λ on known lost stop low logged. unless_err c.sync-synced.result (sym c.is_err-self.ensures.value ∙ on) (e.flushed known lost stop low logged))
           e.any_moment)),
       on_ok_by c.sync-synced.result (λ ok killed cut out.
-          synced_outlasts Holds v.known v.seen v.may_leave v.moment v.left_since g.met.V.Vault.counts_now g.met.V.Vault.only_now m q c.in_ok-publish.ensures.works.0 refl refl refl refl e.stays e.seen
+          synced_outlasts HasBoth v.known v.seen v.may_leave v.moment v.left_since g.met.V.Vault.counts_now g.met.V.Vault.only_now m q c.in_ok-publish.ensures.works.0 refl refl refl refl e.stays e.seen
           (λ on known lost stop low logged. unless_err c.sync-synced.result (sym c.is_err-self.ensures.value ∙ on) (e.flushed known lost stop low logged))
           e.any_moment
-          (c.is_err-self.ensures.value ∙ ok_not_err c.sync-synced.result ok) (F.bytes ∷ []) (cut ++ F.bytes ∷ F.bytes ∷ [])
-          (c.in_ok-publish.ensures.acknowledged F is killed cut (cut ++ F.bytes ∷ F.bytes ∷ []) out (covering cut F.bytes F.bytes))),
-    )
-
-pub returns-in_err-publish-clause-map : goal.returns-in_err-publish-clause-map
-returns-in_err-publish-clause-map g c keys has =
-    let p = err_from_is_err_and c.from_residual.result c.from_residual.ensures.1 in
-    rw p.1 ((c.publish.ensures.map keys has).0, tt)
-
-pub returns-clause-map : goal.returns-clause-map
-returns-clause-map g c keys has =
-    let v = g.V.Vault in
-    let m = point c.publish.new.self in
-    let e = c.sync-synced.ensures in
-    let q : Point _ = record { keeper = m.keeper; noted = m.noted; batch = m.batch; failed = c.is_err-self.result; tiers = m.tiers; vault = c.sync-synced.new.vault } in
-    let there : HasKeys m.tiers keys = subst (λ (s : StoreView). HasKeys s.tiers keys) (sym c.publish.ensures.same.0) has in (
-      lasts_after (Outlasts HasKeys v.known v.seen v.may_leave) (λ r. v.moment r.vault) (OutlastsSince HasKeys v.left_since) keys keys (point c.args.self.now) m q (c.publish.ensures.map keys has).0
-          (published_lasts HasKeys v.known v.seen v.may_leave v.moment v.left_since g.met.V.Vault.counts_now g.met.V.Vault.only_now m q keys there c.in_ok-publish.ensures.works.1
-          (synced HasKeys v.known v.seen v.may_leave v.moment v.left_since g.met.V.Vault.counts_now g.met.V.Vault.only_now m q c.in_ok-publish.ensures.works.0 refl refl refl refl e.stays e.seen
-          (λ on known lost stop low logged. unless_err c.sync-synced.result (sym c.is_err-self.ensures.value ∙ on) (e.flushed known lost stop low logged))
-          e.any_moment)),
-      on_ok_by c.sync-synced.result (λ ok killed cut out.
-          synced_outlasts HasKeys v.known v.seen v.may_leave v.moment v.left_since g.met.V.Vault.counts_now g.met.V.Vault.only_now m q c.in_ok-publish.ensures.works.0 refl refl refl refl e.stays e.seen
-          (λ on known lost stop low logged. unless_err c.sync-synced.result (sym c.is_err-self.ensures.value ∙ on) (e.flushed known lost stop low logged))
-          e.any_moment
-          (c.is_err-self.ensures.value ∙ ok_not_err c.sync-synced.result ok) (keys ∷ []) (cut ++ keys ∷ keys ∷ [])
-          ((c.in_ok-publish.ensures.map keys has).1 killed cut (cut ++ keys ∷ keys ∷ []) out (covering cut keys keys))),
+          (c.is_err-self.ensures.value ∙ ok_not_err c.sync-synced.result ok) (what ∷ []) (cut ++ what ∷ what ∷ [])
+          ((c.in_ok-publish.ensures.lasts what has).1 killed cut (cut ++ what ∷ what ∷ []) out (covering cut what what))),
     )

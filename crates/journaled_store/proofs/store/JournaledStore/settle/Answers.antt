@@ -9,12 +9,12 @@ use Rattle.vault.specs.declared.store.VaultError.TheVariants as error
 use Rattle.vault.proofs.Runs.{both_runs}
 use Rattle.unit_store.specs.Views.{lost_of}
 use Rattle.slot_tables.specs.Views.{key_at}
-use Rattle.array_store.specs.Blocks.{Holds}
 use Rattle.array_store.specs.Stores.{Follows, IsStoreOf, StoreView}
 use Rattle.byte_store.proofs.Lasts.{lasts_after}
-use Rattle.journaled_store.specs.Left.{HasKeys}
+use Rattle.journaled_store.specs.Left.{HasBoth}
 use Rattle.journaled_store.specs.Outlasting.{Outlasts, OutlastsSince, Point, point}
-use Rattle.journaled_store.proofs.Lasting.{follows_same, moved_lasts}
+use Rattle.array_store.proofs.Holding.{follows_same}
+use Rattle.journaled_store.proofs.Lasting.{moved_lasts}
 use Rattle.journaled_store.proofs.SettledLasting.{settled_begins, settled_lasts}
 use Rattle.journaled_store.specs.Steps.{IsBeforeOrNow, IsPersisted, IsUpToDate, UnlessFailed, UnlessJournal}
 use Rattle.journaled_store.proofs.Settled.{kept_on, live_on, not_journal, table_there}
@@ -173,37 +173,10 @@ returns-in_err-published-clause-follows g c F is =
     let was = c.args.self.now.store in
     subst (λ (s : StoreView). Follows was.tiers s.tiers) (sym c.publish_durably-published.ensures.same.0) (follows_same was.tiers)
 
-pub returns-in_err-published-clause-lasts : goal.returns-in_err-published-clause-lasts
-returns-in_err-published-clause-lasts g c F is = (c.publish_durably-published.ensures.lasts F is).0
-
 pub returns-in-Ok-clause-follows : goal.returns-in-Ok-clause-follows
 returns-in-Ok-clause-follows g c F is =
     let was = c.args.self.now.store in
     subst (λ (s : StoreView). Follows was.tiers s.tiers) (sym c.publish_durably-published.ensures.same.0) (follows_same was.tiers)
-
-pub returns-in-Ok-clause-lasts : goal.returns-in-Ok-clause-lasts
-returns-in-Ok-clause-lasts g c F is =
-    let v = g.V.Vault in
-    let e = c.publish_durably-published.ensures in
-    let same = e.same.0 in
-    let o = c.in_ok-published.ensures in
-    let n = c.settle_vault.ensures in
-    let p = point c.args.self.now in
-    let m = point c.publish_durably-published.new.self in
-    let are : (d : ℕ) → d < 16 → slice_index_or c.lost-lost.result d true ≡ lost_of c.args.self.now.store.tiers.world.array.parts d = search rules in
-    settled_lasts Holds v.known v.seen v.may_leave v.moment v.left_since g.met.V.Vault.counts_now g.met.V.Vault.only_now p m F.bytes is.holds (record {
-      tiers = ap (λ (s : StoreView). s.tiers) same;
-      stays = e.stays;
-      still = e.still;
-      step = e.step;
-      killed = e.killed;
-      logged = e.logged;
-      batches = e.batches;
-      any_moment = λ known lost live stop low logged. subst (λ (s : StoreView). LeavesOnly v.moment v.left_since stop c.args.self.now.vault c.publish_durably-published.new.self.vault
-          (IsBeforeOrNow lost (v.seen c.args.self.now.vault) low s.tiers.world.array.parts.drives)) same (e.any_moment known lost live stop low logged);
-    }) o.works.0 o.works.1 o.kept o.flushed c.lost-lost.result n.long
-    (λ d low. subst (λ (s : StoreView). slice_index_or c.lost-lost.result d true ≡ lost_of s.tiers.world.array.parts d) (sym same) (are d low))
-    c.settle_vault.new.vault m.failed n.stays (λ known all on. c.in-Ok.ensures.units known all) (λ known all on. c.in-Ok.ensures.logged known all) n.any_moment
 
 pub returns-in-Err-clause-follows : goal.returns-in-Err-clause-follows
 returns-in-Err-clause-follows g c F is =
@@ -213,63 +186,11 @@ returns-in-Err-clause-follows g c F is =
     (c.give_up.ensures.follows F (subst (λ (s : StoreView). IsStoreOf s.tiers s.size c.publish_durably-published.new.self.unsynced F) (sym same.0)
     (subst (λ b. IsStoreOf was.tiers was.size b F) (sym same.1) is)))
 
-pub returns-in-Err-clause-lasts : goal.returns-in-Err-clause-lasts
-returns-in-Err-clause-lasts g c F is =
-    let v = g.V.Vault in
-    let e = c.publish_durably-published.ensures in
-    let same = e.same.0 in
-    let o = c.in_ok-published.ensures in
-    let n = c.settle_vault.ensures in
-    let p = point c.args.self.now in
-    let m = point c.publish_durably-published.new.self in
-    let q = point c.give_up.new.self in
-    let mid : Point _ = record { keeper = m.keeper; noted = m.noted; batch = m.batch; failed = q.failed; tiers = m.tiers; vault = c.settle_vault.new.vault } in
-    let was = c.args.self.now.store in
-    let are : (d : ℕ) → d < 16 → slice_index_or c.lost-lost.result d true ≡ lost_of c.args.self.now.store.tiers.world.array.parts d = search rules in
-    let follows : Follows m.tiers q.tiers = c.give_up.ensures.follows F (subst (λ (s : StoreView). IsStoreOf s.tiers s.size c.publish_durably-published.new.self.unsynced F) (sym same)
-    (subst (λ b. IsStoreOf was.tiers was.size b F) (sym e.same.1) is)) in
-    lasts_after (Outlasts Holds v.known v.seen v.may_leave) (λ r. v.moment r.vault) (OutlastsSince Holds v.left_since) F.bytes F.bytes p mid q
-    (settled_lasts Holds v.known v.seen v.may_leave v.moment v.left_since g.met.V.Vault.counts_now g.met.V.Vault.only_now p m F.bytes is.holds (record {
-      tiers = ap (λ (s : StoreView). s.tiers) same;
-      stays = e.stays;
-      still = e.still;
-      step = e.step;
-      killed = e.killed;
-      logged = e.logged;
-      batches = e.batches;
-      any_moment = λ known lost live stop low logged. subst (λ (s : StoreView). LeavesOnly v.moment v.left_since stop c.args.self.now.vault c.publish_durably-published.new.self.vault
-          (IsBeforeOrNow lost (v.seen c.args.self.now.vault) low s.tiers.world.array.parts.drives)) same (e.any_moment known lost live stop low logged);
-    }) o.works.0 o.works.1 o.kept o.flushed c.lost-lost.result n.long
-    (λ d low. subst (λ (s : StoreView). slice_index_or c.lost-lost.result d true ≡ lost_of s.tiers.world.array.parts d) (sym same) (are d low))
-    c.settle_vault.new.vault q.failed n.stays
-    (λ known all on. not_journal c.in-Err.error _ (λ j. true≢false (sym (c.give_up.ensures.failed j) ∙ on))
-    (subst (λ (r : Result (Unit {0}) VaultError). UnlessJournal r (SameOn c.lost-lost.result (recovered (v.seen c.settle_vault.new.vault)) (recovered (v.seen m.vault)))) c.in-Err.is (n.units known all)))
-    (λ known all on. not_journal c.in-Err.error _ (λ j. true≢false (sym (c.give_up.ensures.failed j) ∙ on))
-    (subst (λ (r : Result (Unit {0}) VaultError). UnlessJournal r (AreLogged v.seen v.may_leave c.lost-lost.result c.settle_vault.new.vault)) c.in-Err.is (n.logged known all)))
-    n.any_moment)
-    (moved_lasts Holds v.known v.seen v.may_leave v.moment v.left_since g.met.V.Vault.counts_now g.met.V.Vault.only_now mid q c.give_up.ensures.vault follows (λ on. on) c.give_up.ensures.step F.bytes F.bytes)
+pub returns-in_err-published-clause-lasts : goal.returns-in_err-published-clause-lasts
+returns-in_err-published-clause-lasts g c F what is has = (c.publish_durably-published.ensures.lasts what has).0
 
-pub returns-in-Ok-clause-begins : goal.returns-in-Ok-clause-begins
-returns-in-Ok-clause-begins g c known F is live low logged =
-    let v = g.V.Vault in
-    let e = c.publish_durably-published.ensures in
-    let same = e.same.0 in
-    let o = c.in_ok-published.ensures in
-    let n = c.settle_vault.ensures in
-    let m = point c.publish_durably-published.new.self in
-    let q : Point _ = record { keeper = m.keeper; noted = m.noted; batch = m.batch; failed = m.failed; tiers = m.tiers; vault = c.settle_vault.new.vault } in
-    let done = returns-in-Ok-clause-settled g c known live low logged in
-    let are : (d : ℕ) → d < 16 → slice_index_or c.lost-lost.result d true ≡ lost_of c.args.self.now.store.tiers.world.array.parts d = search rules in
-    settled_begins Holds v.known v.seen v.may_leave v.moment v.left_since g.met.V.Vault.counts_now g.met.V.Vault.only_now q F.bytes (subst (λ (s : StoreView). Holds s.tiers F.bytes) (sym same) is.holds) o.works.1 c.lost-lost.result n.long
-    (λ d low. subst (λ (s : StoreView). slice_index_or c.lost-lost.result d true ≡ lost_of s.tiers.world.array.parts d) (sym same) (are d low))
-    (n.stays (e.stays known)) (returns-in-Ok-clause-step g c known live low logged o.works.0) done.durable
-    (subst (λ (s : StoreView). IsPersisted c.lost-lost.result s.tiers.world.array.parts.drives (recovered (v.seen c.settle_vault.new.vault))) (sym same) done.kept)
-
-pub returns-in_err-published-clause-map : goal.returns-in_err-published-clause-map
-returns-in_err-published-clause-map g c F keys is has = (c.publish_durably-published.ensures.map keys has).0
-
-pub returns-in-Ok-clause-map : goal.returns-in-Ok-clause-map
-returns-in-Ok-clause-map g c F keys is has =
+pub returns-in-Ok-clause-lasts : goal.returns-in-Ok-clause-lasts
+returns-in-Ok-clause-lasts g c F what is has =
     let v = g.V.Vault in
     let e = c.publish_durably-published.ensures in
     let same = e.same.0 in
@@ -278,7 +199,7 @@ returns-in-Ok-clause-map g c F keys is has =
     let p = point c.args.self.now in
     let m = point c.publish_durably-published.new.self in
     let are : (d : ℕ) → d < 16 → slice_index_or c.lost-lost.result d true ≡ lost_of c.args.self.now.store.tiers.world.array.parts d = search rules in
-    settled_lasts HasKeys v.known v.seen v.may_leave v.moment v.left_since g.met.V.Vault.counts_now g.met.V.Vault.only_now p m keys has (record {
+    settled_lasts HasBoth v.known v.seen v.may_leave v.moment v.left_since g.met.V.Vault.counts_now g.met.V.Vault.only_now p m what has (record {
       tiers = ap (λ (s : StoreView). s.tiers) same;
       stays = e.stays;
       still = e.still;
@@ -292,8 +213,8 @@ returns-in-Ok-clause-map g c F keys is has =
     (λ d low. subst (λ (s : StoreView). slice_index_or c.lost-lost.result d true ≡ lost_of s.tiers.world.array.parts d) (sym same) (are d low))
     c.settle_vault.new.vault m.failed n.stays (λ known all on. c.in-Ok.ensures.units known all) (λ known all on. c.in-Ok.ensures.logged known all) n.any_moment
 
-pub returns-in-Err-clause-map : goal.returns-in-Err-clause-map
-returns-in-Err-clause-map g c F keys is has =
+pub returns-in-Err-clause-lasts : goal.returns-in-Err-clause-lasts
+returns-in-Err-clause-lasts g c F what is has =
     let v = g.V.Vault in
     let e = c.publish_durably-published.ensures in
     let same = e.same.0 in
@@ -307,8 +228,8 @@ returns-in-Err-clause-map g c F keys is has =
     let are : (d : ℕ) → d < 16 → slice_index_or c.lost-lost.result d true ≡ lost_of c.args.self.now.store.tiers.world.array.parts d = search rules in
     let follows : Follows m.tiers q.tiers = c.give_up.ensures.follows F (subst (λ (s : StoreView). IsStoreOf s.tiers s.size c.publish_durably-published.new.self.unsynced F) (sym same)
     (subst (λ b. IsStoreOf was.tiers was.size b F) (sym e.same.1) is)) in
-    lasts_after (Outlasts HasKeys v.known v.seen v.may_leave) (λ r. v.moment r.vault) (OutlastsSince HasKeys v.left_since) keys keys p mid q
-    (settled_lasts HasKeys v.known v.seen v.may_leave v.moment v.left_since g.met.V.Vault.counts_now g.met.V.Vault.only_now p m keys has (record {
+    lasts_after (Outlasts HasBoth v.known v.seen v.may_leave) (λ r. v.moment r.vault) (OutlastsSince HasBoth v.left_since) what what p mid q
+    (settled_lasts HasBoth v.known v.seen v.may_leave v.moment v.left_since g.met.V.Vault.counts_now g.met.V.Vault.only_now p m what has (record {
       tiers = ap (λ (s : StoreView). s.tiers) same;
       stays = e.stays;
       still = e.still;
@@ -326,10 +247,10 @@ returns-in-Err-clause-map g c F keys is has =
     (λ known all on. not_journal c.in-Err.error _ (λ j. true≢false (sym (c.give_up.ensures.failed j) ∙ on))
     (subst (λ (r : Result (Unit {0}) VaultError). UnlessJournal r (AreLogged v.seen v.may_leave c.lost-lost.result c.settle_vault.new.vault)) c.in-Err.is (n.logged known all)))
     n.any_moment)
-    (moved_lasts HasKeys v.known v.seen v.may_leave v.moment v.left_since g.met.V.Vault.counts_now g.met.V.Vault.only_now mid q c.give_up.ensures.vault follows (λ on. on) c.give_up.ensures.step keys keys)
+    (moved_lasts HasBoth v.known v.seen v.may_leave v.moment v.left_since g.met.V.Vault.counts_now g.met.V.Vault.only_now mid q c.give_up.ensures.vault follows (λ on. on) c.give_up.ensures.step what what)
 
-pub returns-in-Ok-clause-map_begins : goal.returns-in-Ok-clause-map_begins
-returns-in-Ok-clause-map_begins g c known keys has live low logged =
+pub returns-in-Ok-clause-begins : goal.returns-in-Ok-clause-begins
+returns-in-Ok-clause-begins g c known what has live low logged =
     let v = g.V.Vault in
     let e = c.publish_durably-published.ensures in
     let same = e.same.0 in
@@ -339,7 +260,7 @@ returns-in-Ok-clause-map_begins g c known keys has live low logged =
     let q : Point _ = record { keeper = m.keeper; noted = m.noted; batch = m.batch; failed = m.failed; tiers = m.tiers; vault = c.settle_vault.new.vault } in
     let done = returns-in-Ok-clause-settled g c known live low logged in
     let are : (d : ℕ) → d < 16 → slice_index_or c.lost-lost.result d true ≡ lost_of c.args.self.now.store.tiers.world.array.parts d = search rules in
-    settled_begins HasKeys v.known v.seen v.may_leave v.moment v.left_since g.met.V.Vault.counts_now g.met.V.Vault.only_now q keys (subst (λ (s : StoreView). HasKeys s.tiers keys) (sym same) has) o.works.1 c.lost-lost.result n.long
+    settled_begins HasBoth v.known v.seen v.may_leave v.moment v.left_since g.met.V.Vault.counts_now g.met.V.Vault.only_now q what (subst (λ (s : StoreView). HasBoth s.tiers what) (sym same) has) o.works.1 c.lost-lost.result n.long
     (λ d low. subst (λ (s : StoreView). slice_index_or c.lost-lost.result d true ≡ lost_of s.tiers.world.array.parts d) (sym same) (are d low))
     (n.stays (e.stays known)) (returns-in-Ok-clause-step g c known live low logged o.works.0) done.durable
     (subst (λ (s : StoreView). IsPersisted c.lost-lost.result s.tiers.world.array.parts.drives (recovered (v.seen c.settle_vault.new.vault))) (sym same) done.kept)
