@@ -3,10 +3,10 @@ use Rattle.std.proofs.Common.{◌≡◌, ◌≤◌, ◌<◌, ℕ, zero, suc, ◌
 use Rattle.std.specs.Prelude.{◌&&◌, nat_le}
 use Rattle.std.proofs.Math.Nat.{div-add-mod'}
 use Rattle.std.proofs.lemmas.Bool.{le-leb, lt-leb, false≢true}
-use Rattle.std.proofs.lemmas.List.{take_more, take_more_set, take_all, append-nil}
+use Rattle.std.proofs.lemmas.List.{take-append-drop, take_rest, take_more, take_more_set, take_all, append-nil}
 use Rattle.std.proofs.lemmas.Grind.{pow_more}
 use Rattle.std.proofs.Math.Nat.{pow-le-pow_right}
-use Rattle.std.proofs.Common.{append_assoc, drop, drop-cons}
+use Rattle.std.proofs.Common.{◌==◌, append_assoc, drop, drop-cons, take-add}
 use Rattle.std.proofs.lemmas.List.{length-set}
 use Rattle.std.specs.Prelude.{set}
 use mir.Val.{bool_byte}
@@ -102,3 +102,32 @@ one_most false = omega arith
 
 pub counted_next : (bs : List ℕ) (i n m : ℕ) → i < length bs → n ≡ nonzero (take i bs) → m ≡ one_of (get_or bs i 0) → n + m ≡ nonzero (take (i + 1) bs)
 counted_next bs i n m low so_far one = ap (λ k. k + m) so_far ∙ ap (λ k. nonzero (take i bs) + k) one ∙ sym (nonzero_more bs i low)
+
+-- no more than there are
+pub nonzero_most : (bs : List ℕ) → nonzero bs ≤ length bs
+nonzero_most [] = omega arith
+nonzero_most (b ∷ bs) = let rest = nonzero_most bs in let one = at_most (b == 0) in omega (arith, rest, one)
+  where
+    at_most : (c : Bool) → (if c then 0 else 1) ≤ 1
+    at_most true = omega arith
+    at_most false = omega arith
+
+-- counted piece by piece
+pub nonzero_parts : (bs xs : List ℕ) (i n m : ℕ) → xs ≡ drop i bs → n ≡ nonzero (take i bs) → m ≡ nonzero xs → n + m ≡ nonzero bs
+nonzero_parts bs xs i n m is one two =
+    ap (λ k. k + m) one ∙ ap (λ k. nonzero (take i bs) + k) (two ∙ ap nonzero is) ∙ sym (nonzero_both (take i bs) (drop i bs)) ∙ ap nonzero (take-append-drop i bs)
+
+pub piece_next : (bs xs : List ℕ) (i j n m : ℕ) → j ≡ i + 128 → xs ≡ take 128 (drop i bs) → n ≡ nonzero (take i bs) → m ≡ nonzero xs → n + m ≡ nonzero (take j bs)
+piece_next bs xs i j n m next is one two =
+    ap (λ k. k + m) one ∙ ap (λ k. nonzero (take i bs) + k) (two ∙ ap nonzero is) ∙ sym (nonzero_both (take i bs) (take 128 (drop i bs))) ∙ ap nonzero (sym (ap (λ k. take k bs) next ∙ take-add i 128 bs))
+
+pub part_most : (bs : List ℕ) (i n : ℕ) → n ≡ nonzero (take i bs) → n ≤ length bs
+part_most bs i n is =
+    let all : nonzero bs ≡ nonzero (take i bs) + nonzero (drop i bs) = sym (ap nonzero (take-append-drop i bs)) ∙ nonzero_both (take i bs) (drop i bs) in
+    let most = nonzero_most bs in omega (arith, all, most, is)
+
+-- the last of them
+pub last_part : (bs : List ℕ) (i j n m : ℕ) → j ≤ i → i ≤ j → n ≡ nonzero (take (128 * i) bs) → m ≡ nonzero (take (length bs - 128 * j) (drop (128 * j) bs)) → n + m ≡ nonzero bs
+last_part bs i j n m le ge one two =
+    let same : i ≡ j = omega (arith, le, ge) in
+    nonzero_parts bs (drop (128 * j) bs) (128 * j) n m refl (one ∙ ap (λ k. nonzero (take (128 * k) bs)) same) (two ∙ ap nonzero (take_rest bs (128 * j)))

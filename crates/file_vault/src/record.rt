@@ -10,6 +10,9 @@ use vault::Batch;
 /// Bytes of a head.
 pub(crate) const HEAD: usize = 18;
 
+/// Bytes that are counted at once.
+const PIECE: usize = 128;
+
 /// The numbers of a head.
 #[derive(Clone, Copy, Debug)]
 pub(crate) struct Head {
@@ -19,15 +22,30 @@ pub(crate) struct Head {
     pub(crate) nonzero: u64,
 }
 
+// How many bytes of a piece aren't 0: counted in one byte, so that the processor counts many at once.
+#[inline(always)]
+fn nonzero_in_piece(bytes: &[u8]) -> usize
+    requires { length bytes.now ≤ 128 }
+    ensures { result ≡ nonzero bytes.now }
+{
+    let mut count = 0u8;
+    for byte in bytes {
+        count += (*byte != 0) as u8;
+    }
+    count as usize
+}
+
 // How many bytes aren't 0.
 pub(crate) fn nonzero(bytes: &[u8]) -> usize
     ensures { result ≡ nonzero bytes.now }
 {
+    let whole = bytes.len() / PIECE;
     let mut count = 0;
-    for byte in bytes {
-        count += (*byte != 0) as usize;
+    for piece in 0..whole {
+        let at = PIECE * piece;
+        count += nonzero_in_piece(&bytes[at..at + PIECE]);
     }
-    count
+    count + nonzero_in_piece(&bytes[PIECE * whole..])
 }
 
 // Writes a number, in as many bytes as there are.

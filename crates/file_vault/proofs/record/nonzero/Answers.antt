@@ -1,14 +1,29 @@
-use Rattle.std.proofs.Common.{◌==◌, arith, get_or}
-use Rattle.file_vault.proofs.Heads.{one_if, one_most, counted_next}
+use Rattle.std.proofs.Common.{◌≡◌, ◌+◌, ◌-◌, ◌*◌, ap, arith, rules, take, drop}
+use Rattle.file_vault.proofs.Heads.{nonzero_most, part_most, last_part, piece_next}
 use Rattle.file_vault.proofs.record.nonzero.Goals as goal
 
-pub loop-byte-preserved : goal.loop-byte-preserved
-loop-byte-preserved c =
-    let bytes = c.args.bytes.now in
-    let i = c.loop-byte.byte-index in
-    let b = get_or bytes i 0 in
-    let few = one_most (b == 0) in
-    record {
-      count = counted_next bytes i c.loop-byte.count _ c.loop-byte-test.true c.loop-byte.invariant.count (one_if (b == 0));
-      most = omega (arith, c.loop-byte.invariant.most, few);
-    }
+pub overflow_add-count : goal.overflow_add-count
+overflow_add-count c =
+    let i = 128 * c.loop-piece.piece in
+    let same : i + 128 - i ≡ 128 = omega arith in
+    let next = piece_next c.args.bytes.now (take (i + 128 - i) (drop i c.args.bytes.now)) i (128 * (c.loop-piece.piece + 1)) c.loop-piece.count c.nonzero_in_piece-count.result (omega arith)
+    (ap (λ k. take k (drop i c.args.bytes.now)) same) c.loop-piece.invariant c.nonzero_in_piece-count.ensures in
+    let most = part_most c.args.bytes.now (128 * (c.loop-piece.piece + 1)) (c.loop-piece.count + c.nonzero_in_piece-count.result) next in
+    search (rules, most)
+
+pub loop-piece-preserved : goal.loop-piece-preserved
+loop-piece-preserved c =
+    let i = 128 * c.loop-piece.piece in
+    let same : i + 128 - i ≡ 128 = omega arith in
+    let next = piece_next c.args.bytes.now (take (i + 128 - i) (drop i c.args.bytes.now)) i (128 * (c.loop-piece.piece + 1)) c.loop-piece.count c.nonzero_in_piece-count.result (omega arith)
+    (ap (λ k. take k (drop i c.args.bytes.now)) same) c.loop-piece.invariant c.nonzero_in_piece-count.ensures in
+    next
+
+pub overflow_add-result : goal.overflow_add-result
+overflow_add-result c =
+    let all = last_part c.args.bytes.now c.loop-piece.piece _ c.loop-piece.count c.nonzero_in_piece.result c.loop-piece-test.false c.loop-piece.auto.piece-end c.loop-piece.invariant c.nonzero_in_piece.ensures in
+    let most = nonzero_most c.args.bytes.now in
+    grind (arith, all, most)
+
+pub returns : goal.returns
+returns c = last_part c.args.bytes.now c.loop-piece.piece _ c.loop-piece.count c.nonzero_in_piece.result c.loop-piece-test.false c.loop-piece.auto.piece-end c.loop-piece.invariant c.nonzero_in_piece.ensures
