@@ -9,6 +9,7 @@ use array_recovery::open_store;
 use byte_store::ByteStore;
 use cached_drive::Saved;
 use disk_shape::Plan;
+use extent_groups::Place;
 use extents::DRIVES;
 use file_vault::{FileVault, HEADER, JOURNAL, Layout, MemFiles};
 use history::{Chronicle, Opened};
@@ -16,7 +17,7 @@ use journaled_store::JournaledStore;
 use std::alloc::Global;
 use std::marker::Brand;
 use std::process::Abort;
-use vault::{Stop, TABLE};
+use vault::{Batch, Stop, TABLE, Vault, settle};
 
 type Store<N> = JournaledStore<N, FileVault<MemFiles>>;
 
@@ -193,7 +194,7 @@ fn read_again<N: Chronicle>(
     opened: Opened<Saved>,
     files: MemFiles,
     absent: &[bool; DRIVES],
-) -> [u8; 1000]
+) -> ([u8; 1000], FileVault<MemFiles>)
     requires { opened ≡ N.chronicle }
 {
     let Ok(mut store) = store_of::<N>(rt, alloc, plan, opened, files, absent) else {
@@ -203,7 +204,7 @@ fn read_again<N: Chronicle>(
     assert!(rt; is_within(0, out.len(), store.size()));
     let read = store.read(0, &mut out);
     assert!(rt; read.is_ok());
-    out
+    (out, store.into_vault())
 }
 
 fn bytes_again(
@@ -212,9 +213,25 @@ fn bytes_again(
     plan: &Plan,
     files: MemFiles,
     absent: &[bool; DRIVES],
-) -> [u8; 1000] {
+) -> ([u8; 1000], FileVault<MemFiles>) {
     let opened = opened_in(rt, alloc);
     read_again::<Brand>(rt, alloc, plan, opened, files, absent)
+}
+
+// The drive that a vault says is lost.
+fn lost_in(rt: &impl Abort, alloc: Global, vault: FileVault<MemFiles>) -> Option<usize> {
+    let mut vault = vault;
+    let mut room = Batch::new(alloc);
+    let settled = settle(&mut vault, &mut room, &[false; DRIVES]).is_ok();
+    assert!(rt; settled);
+    let mut marks = [0u8; DRIVES];
+    let place = Place {
+        drive: TABLE,
+        address: 0,
+    };
+    let read = vault.read_unit(place, &mut marks);
+    assert!(rt; read == Ok(true));
+    marks.iter().position(|mark| *mark != 0)
 }
 
 // Whether these are the bytes after so many requests or more, and no more than were begun.
@@ -225,6 +242,25 @@ fn is_allowed(rt: &impl Abort, bytes: &[u8; 1000], least: usize, begun: usize) -
         }
     }
     false
+}
+
+// Opens what a stop left, and tests its bytes.
+fn opened_bytes(
+    rt: &impl Abort,
+    alloc: Global,
+    plan: &Plan,
+    files: &MemFiles,
+    stop: (Stop, u64),
+    absent: &[bool; DRIVES],
+    least: usize,
+    reached: Reached,
+) -> FileVault<MemFiles> {
+    let Ok(left) = files.left(stop.0, stop.1) else {
+        panic!(rt; "no memory")
+    };
+    let (bytes, vault) = bytes_again(rt, alloc, plan, left, absent);
+    assert!(rt; is_allowed(rt, &bytes, least, reached.begun));
+    vault
 }
 
 // Stops a run after so many calls, and opens what is left, also without a drive. Whether the run came to its end.
@@ -245,14 +281,30 @@ fn stop_at(rt: &impl Abort, alloc: Global, plan: &Plan, calls: u32) -> bool {
             Stop::PowerLost => reached.flushed,
         };
         let mut absent = [false; DRIVES];
-        for without in [false, true] {
-            absent[calls as usize % 6] = without;
-            let Ok(left) = files.left(stop, choice) else {
-                panic!(rt; "no memory")
-            };
-            let bytes = bytes_again(rt, alloc, plan, left, &absent);
-            assert!(rt; is_allowed(rt, &bytes, least, reached.begun));
-        }
+        let vault = opened_bytes(
+            rt,
+            alloc,
+            plan,
+            &files,
+            (stop, choice),
+            &absent,
+            least,
+            reached,
+        );
+        // A batch whose write failed may be there, and say that a drive is lost: then no other one may be.
+        let without = lost_in(rt, alloc, vault).unwrap_or(calls as usize % 6);
+        assert!(rt; without < DRIVES);
+        absent[without] = true;
+        let _ = opened_bytes(
+            rt,
+            alloc,
+            plan,
+            &files,
+            (stop, choice),
+            &absent,
+            least,
+            reached,
+        );
     }
     reached.answered == REQUESTS.len()
 }
