@@ -31,7 +31,7 @@ use Rattle.drive_rebuild.proofs.Restated.{KeepsShown, ShowToo, with_drives}
 use Rattle.drive_rebuild.proofs.Shown.{of_view, shows_whole, there}
 
 -- a mark, and what it says
-mark_says : (b : Bool) → not (mark_of b == 0) ≡ b
+pub mark_says : (b : Bool) → not (mark_of b == 0) ≡ b
 mark_says true = refl
 mark_says false = refl
 
