@@ -4,3 +4,4 @@ mod Rebuilding
 mod Underway
 mod Verified
 mod Replacing
+mod Settling

@@ -19,7 +19,7 @@ use Rattle.journaled_store.specs.Left.{IsLeftOf, IsLostIn}
 use Rattle.journaled_store.specs.Outlasting.{OpensAs, OpensBut, parts_of}
 use Rattle.journaled_store.specs.Steps.{IsPersisted, mark_of, table_write}
 use Rattle.journaled_store.proofs.Opening.{alone, opens_as, opens_on}
-use Rattle.array_recovery.specs.Found.{IsTable, is_marked}
+use Rattle.array_recovery.specs.Found.{is_marked}
 use Rattle.array_recovery.specs.Reopened.{EndsAt, marked}
 use Rattle.array_recovery.proofs.Marking.{index_is}
 use Rattle.array_recovery.proofs.Outlasting.{marked_is}
@@ -31,7 +31,7 @@ use Rattle.drive_rebuild.proofs.Restated.{KeepsShown, ShowToo, with_drives}
 use Rattle.drive_rebuild.proofs.Shown.{of_view, shows_whole, there}
 
 -- a mark, and what it says
-mark_says : (b : Bool) → not (mark_of b == 0) ≡ b
+pub mark_says : (b : Bool) → not (mark_of b == 0) ≡ b
 mark_says true = refl
 mark_says false = refl
 
@@ -58,13 +58,13 @@ at d address = record { drive = d; address = address }
 
 -- what is left of an array of which drives are lost
 module _ (shows : TiersView → List ℕ → Type 0) (what : List ℕ) (groups : Groups) (drives : ℕ) (before : Cells) (left : IsLeftOf shows what groups drives [] before)
-    (lost : List Bool) (lost_are : AreMarked lost before) where
+    (lost : List Bool) (lost_are : AreMarked drives lost before) where
   abbrev olds : List DriveView
   olds = (parts_of left.tiers).drives
 
   -- a drive was lost if it is marked
   was_lost : (d : ℕ) (v : DriveView) → slice_get olds d ≡ Some v → is_lost lost d ≡ v.lost
-  was_lost d v e = lost_are left.kept.marks left.kept.noted d ∙ ap (λ m. not (m == 0)) (index_is left.kept.marks d (mark_of v.lost) (left.kept.reported.each d v e)) ∙ mark_says v.lost
+  was_lost d v e = lost_are.each left.kept.marks left.kept.noted d (let low = slice_get_within olds d v e in let many = left.many in omega (arith, low, many)) ∙ ap (λ m. not (m == 0)) (index_is left.kept.marks d (mark_of v.lost) (left.kept.reported.each d v e)) ∙ mark_says v.lost
 
   -- the vault has the units of one that wasn't
   sure : (d : ℕ) (v : DriveView) → slice_get olds d ≡ Some v → v.lost ≡ false → is_lost left.lost d ≡ false
@@ -94,10 +94,10 @@ module _ (shows : TiersView → List ℕ → Type 0) (what : List ℕ) (groups :
     gone = λ d low one. let v = there olds d (let many = left.many in omega (arith, low, many)) in (v.0, v.1, sym (was_lost d v.0 v.1) ∙ one);
   }
 
-  pub before_opens : is_lost lost 16 ≡ false → (i : Image) → Matches lost before i → OpensAs shows (what ∷ []) groups drives (recovered i)
-  before_opens table i matches =
-      opens_as shows lost table groups drives (what ∷ []) (recovered i)
-      (opens_on shows lost table groups drives (what ∷ []) before (recovered i) matches opens_before)
+  pub before_opens : (i : Image) → Matches lost before i → OpensAs shows (what ∷ []) groups drives (recovered i)
+  before_opens i matches =
+      opens_as shows lost lost_are.table groups drives (what ∷ []) (recovered i)
+      (opens_on shows lost lost_are.table groups drives (what ∷ []) before (recovered i) matches opens_before)
 
   -- an image with the drive's new units
   module _ (keeps : KeepsShown shows) (units number : ℕ) (ends : EndsAt [] drives units before) (i : Image) (is : IsReplacedIn groups drives units number lost before i) where
@@ -117,7 +117,7 @@ module _ (shows : TiersView → List ℕ → Type 0) (what : List ℕ) (groups :
     many = is.verified.many ∙ sym left.many
 
     is_mark : (d : ℕ) (v : DriveView) → slice_get olds d ≡ Some v → is_marked is.marks d ≡ v.lost
-    is_mark d v e = sym (lost_are is.marks is.table d) ∙ was_lost d v e
+    is_mark d v e = sym (lost_are.each is.marks is.table d (let low = slice_get_within olds d v e in let many = left.many in omega (arith, low, many))) ∙ was_lost d v e
 
     past : (d a : ℕ) → d < drives → units ≤ a → is.ready d a ≡ None
     past d a low high = none_of (is.ready d a) (before d a) (is.there (at d a) low) (ends d a low refl high)
@@ -139,7 +139,7 @@ module _ (shows : TiersView → List ℕ → Type 0) (what : List ℕ) (groups :
           let alive : old.0.lost ≡ false = sym (is_mark x.drive old.0 old.1) ∙ out in
           of_view (slice_get olds x.drive) old.0 x.address old.1 alive
           ∙ sym (left.kept.has.each x.drive x.address old.0 old.1 (sure x.drive old.0 old.1 alive))
-          ∙ sym (is.same x (lost_are is.marks is.table x.drive ∙ out))
+          ∙ sym (is.same x (lost_are.each is.marks is.table x.drive below ∙ out))
           ∙ lies x.drive x.address some.0 some.2
           ∙ sym (of_view (slice_get views x.drive) some.0 x.address some.2 (is.verified.alive x.drive some.0 some.2)))
       | inr none ↦
@@ -178,7 +178,7 @@ module _ (shows : TiersView → List ℕ → Type 0) (what : List ℕ) (groups :
 
     found : after is.ready (table_write marks_now ∷ []) 16 0 ≡ Some marks_now
     found = write_here is.ready (at 16 0) marks_now is.marks 16 0 refl refl
-        (is.same (at 16 0) (lost_are is.marks is.table 16 ∙ past_marks is.marks 16 (let wide = is.wide in omega (arith, wide))) ∙ is.table)
+        (is.same (at 16 0) lost_are.table ∙ is.table)
 
     beside : (d a : ℕ) → d < drives → after is.ready (table_write marks_now ∷ []) d a ≡ is.ready d a
     beside d a low = write_else is.ready (at 16 0) marks_now d a (inl (λ e. absurd (omega (arith, low, few, e))))
@@ -255,11 +255,7 @@ module _ (shows : TiersView → List ℕ → Type 0) (what : List ℕ) (groups :
   }
 
   -- what a stop leaves while a drive is replaced
-  pub opens_either : (keeps : KeepsShown shows) (units number : ℕ) → EndsAt [] drives units before → is_lost lost 16 ≡ false → (i : Image) → IsBeforeOrReplaced groups drives units number lost before i
+  pub opens_either : (keeps : KeepsShown shows) (units number : ℕ) → EndsAt [] drives units before → (i : Image) → IsBeforeOrReplaced groups drives units number lost before i
       → OpensAs shows (what ∷ []) groups drives (recovered i)
-  opens_either keeps units number ends table i (inl was) = before_opens table i was
-  opens_either keeps units number ends table i (inr is) = replaced_opens keeps units number ends i is
-
--- the marks of the table are those that it has
-pub marked_as : (marks : List ℕ) (c : Cells) → IsTable marks c → AreMarked (marked marks) c
-marked_as marks c table others found d = marked_is marks d ∙ ap (λ (l : List ℕ). is_marked l d) (same_Some _ _ (sym table ∙ found))
+  opens_either keeps units number ends i (inl was) = before_opens i was
+  opens_either keeps units number ends i (inr is) = replaced_opens keeps units number ends i is

@@ -45,10 +45,7 @@ index_same xs ys i None e f = index_none xs i e ∙ sym (index_none ys i f)
 index_same xs ys i (Some x) e f = index_is xs i x e ∙ sym (index_is ys i x f)
 
 module _ (drives number : ℕ) (lost counts : List Bool) (before : Cells) (marks now : List ℕ) (table : IsTable marks before) (wide : length marks ≡ 16) (only : IsOnlyMarked marks drives number)
-    (lost_are : AreMarked lost before) (now_is : now ≡ unmarked marks number) (counts_are : (d : ℕ) → is_lost counts d ≡ is_marked now d) where
-  is_lost_is : (d : ℕ) → is_lost lost d ≡ is_marked marks d
-  is_lost_is d = lost_are marks table d
-
+    (lost_are : AreMarked drives lost before) (now_is : now ≡ unmarked marks number) (counts_are : (d : ℕ) → is_lost counts d ≡ is_marked now d) where
   other : (d : ℕ) → d ≢ number → is_lost counts d ≡ is_marked marks d
   other d ne = counts_are d ∙ ap (λ (l : List ℕ). is_marked l d) now_is
       ∙ ap (λ n. not (n == 0)) (index_same (slice_set marks number 0) marks d (slice_get marks d) (get-set_other marks number d 0 ne) refl)
@@ -64,10 +61,10 @@ module _ (drives number : ℕ) (lost counts : List Bool) (before : Cells) (marks
 
   pub lost_with : AreLostWith lost counts number
   lost_with = record {
-    gone = is_lost_is number ∙ only.marked;
+    gone = lost_are.each marks table number only.inside ∙ only.marked;
     rest = λ d out. elim (same_or_not d number) [
-      | inl here ↦ absurd (true≢false (sym only.marked ∙ ap (λ k. is_marked marks k) (sym here) ∙ sym (is_lost_is d) ∙ out))
-      | inr ne ↦ other d ne ∙ sym (is_lost_is d) ∙ out
+      | inl here ↦ absurd (true≢false (sym only.marked ∙ ap (λ k. is_marked marks k) (sym here) ∙ lost_are.rest marks table d out))
+      | inr ne ↦ other d ne ∙ lost_are.rest marks table d out
     ];
   }
 

@@ -10,6 +10,7 @@ use Rattle.tiered_array.specs.Views.{TiersView}
 use Rattle.vault.specs.Images.{Image, Matches, SameOn, is_lost, recovered}
 use Rattle.vault.specs.Moments.{AreLogged}
 use Rattle.vault.specs.declared.store.Stop.{Stop}
+use Rattle.journaled_store.specs.Left.{IsLeftOf}
 use Rattle.journaled_store.specs.Outlasting.{OpensAs}
 use Rattle.journaled_store.specs.Steps.{table_write}
 use Rattle.array_recovery.specs.Found.{IsTable, is_marked}
@@ -42,9 +43,11 @@ pub record IsReplacedIn (groups : Groups) (drives units number : ℕ) (lost : Li
   pub verified : AreVerified groups drives units ready
   pub matches : Matches (marked (unmarked marks number)) (after ready (table_write (unmarked marks number) ∷ [])) i
 
--- these are the drives that the table marks
-abbrev pub AreMarked : List Bool → Cells → Type 0
-AreMarked lost c = (marks : List ℕ) → IsTable marks c → (d : ℕ) → is_lost lost d ≡ is_marked marks d
+-- The drives that the table marks are lost, and no others of the first drives are. The table is on none of them.
+pub record AreMarked (drives : ℕ) (lost : List Bool) (c : Cells) : Type 0 where
+  pub table : is_lost lost 16 ≡ false
+  pub each : (marks : List ℕ) → IsTable marks c → (d : ℕ) → d < drives → is_lost lost d ≡ is_marked marks d
+  pub rest : (marks : List ℕ) → IsTable marks c → (d : ℕ) → is_lost lost d ≡ false → is_marked marks d ≡ false
 
 -- what a stop leaves while a drive is replaced: the units of before, but for those of lost drives, or those with the drive's new ones
 abbrev pub IsBeforeOrReplaced : Groups → (drives units number : ℕ) → List Bool → Cells → Image → Type 0
@@ -62,9 +65,11 @@ pub record IsWhole {V : Type 0} (shows : TiersView → List ℕ → Type 0) (see
   pub none_marked : (d : ℕ) → d < drives → is_marked sound.left.kept.marks d ≡ false
   pub leaves : (stop : Stop) (i : Image) → may_leave vault stop i → OpensAs shows (what ∷ []) groups drives (recovered i)
 
--- A vault from which an array that shows this is opened. Its table has 16 marks, and it has no unit past the ends of the drives. What
--- the array shows is given, as for `IsLeftOf`.
+-- A vault from which an array that shows this is opened, and which has no unit past the ends of the drives. A stop leaves all of the
+-- journal, and of units only those of marked drives in doubt: as after `settle`. What the array shows is given, as for `IsLeftOf`.
 pub record CanBeRebuilt {V : Type 0} (shows : TiersView → List ℕ → Type 0) (seen : V → Image) (may_leave : V → Stop → Image → Type 0) (what : List ℕ) (groups : Groups) (drives units : ℕ) (vault : V) : Type 0 where
-  pub sound : IsSoundFor shows seen may_leave what groups drives units [] vault
-  pub wide : length sound.left.kept.marks ≡ 16
+  pub left : IsLeftOf shows what groups drives [] (recovered (seen vault))
   pub ends : EndsAt [] drives units (recovered (seen vault))
+  pub lost : List Bool
+  pub lost_are : AreMarked drives lost (recovered (seen vault))
+  pub logged : AreLogged seen may_leave lost vault

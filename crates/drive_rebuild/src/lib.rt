@@ -3,6 +3,7 @@
 
 mod compute;
 mod fault;
+mod laws;
 mod replace;
 mod scrub;
 mod stages;
@@ -10,6 +11,7 @@ mod verify;
 mod write;
 
 pub use fault::RebuildFault;
+pub use laws::settled_law;
 pub use replace::replace_drive;
 pub use scrub::{Findings, NAMED, scrub_parts};
 pub use write::Watch;

@@ -42,10 +42,10 @@ fn replace_marked<V: Vault, W: Watch>(
     number: u8,
 ) -> Result<(), RebuildFault>
     ensures stays { V.known vault.old → V.known vault.new }
-    ensures replaced { V.known vault.old → (lost : List Bool) → AreMarked lost (recovered (V.seen vault.old)) → AreLogged V.seen V.may_leave lost vault.old
+    ensures replaced { V.known vault.old → (lost : List Bool) → AreMarked drives lost (recovered (V.seen vault.old)) → AreLogged V.seen V.may_leave lost vault.old
         → OnOk result (IsReplaced V.seen V.may_leave groups drives (shape.now.extents * extent_units shape.now.segments) number lost
         (recovered (V.seen vault.old)) vault.new) }
-    ensures any_moment { V.known vault.old → (lost : List Bool) → AreMarked lost (recovered (V.seen vault.old)) → AreLogged V.seen V.may_leave lost vault.old
+    ensures any_moment { V.known vault.old → (lost : List Bool) → AreMarked drives lost (recovered (V.seen vault.old)) → AreLogged V.seen V.may_leave lost vault.old
         → (stop : Stop) → LeavesOnly V.moment V.left_since stop vault.old vault.new
         (IsBeforeOrReplaced groups drives (shape.now.extents * extent_units shape.now.segments) number lost (recovered (V.seen vault.old))) }
 {
@@ -101,10 +101,10 @@ pub fn replace_drive<V: Vault, W: Watch>(
         → (stop : Stop) → LeavesOnly V.moment V.left_since stop vault.old vault.new (λ i. OpensAs HasKeys (keys ∷ []) groups drives (recovered i)) }
 
     // Of the other drives no unit changes: the marks alone, and the drive's units.
-    ensures others { V.known vault.old → (lost : List Bool) → AreMarked lost (recovered (V.seen vault.old)) → AreLogged V.seen V.may_leave lost vault.old
+    ensures others { V.known vault.old → (lost : List Bool) → AreMarked drives lost (recovered (V.seen vault.old)) → AreLogged V.seen V.may_leave lost vault.old
         → OnOk result (IsReplaced V.seen V.may_leave groups drives (shape.now.extents * extent_units shape.now.segments) number lost
         (recovered (V.seen vault.old)) vault.new) }
-    ensures others_any_moment { V.known vault.old → (lost : List Bool) → AreMarked lost (recovered (V.seen vault.old))
+    ensures others_any_moment { V.known vault.old → (lost : List Bool) → AreMarked drives lost (recovered (V.seen vault.old))
         → AreLogged V.seen V.may_leave lost vault.old → (stop : Stop) → LeavesOnly V.moment V.left_since stop vault.old vault.new
         (IsBeforeOrReplaced groups drives (shape.now.extents * extent_units shape.now.segments) number lost (recovered (V.seen vault.old))) }
 {

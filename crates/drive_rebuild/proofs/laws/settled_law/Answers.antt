@@ -1,0 +1,12 @@
+use Rattle.array_store.specs.Blocks.{Holds}
+use Rattle.journaled_store.specs.Left.{HasKeys}
+use Rattle.drive_rebuild.proofs.Settling.{can_be}
+use Rattle.drive_rebuild.proofs.laws.settled_law.Goals as goal
+
+pub returns-clause-bytes : goal.returns-clause-bytes
+returns-clause-bytes g c = λ vault tiers what lost units shown one is lost_are long few wide ends.
+    can_be Holds g.V.Vault.seen g.V.Vault.may_leave vault tiers what lost units shown one is lost_are long few wide ends
+
+pub returns-clause-map : goal.returns-clause-map
+returns-clause-map g c = λ vault tiers what lost units shown one is lost_are long few wide ends.
+    can_be HasKeys g.V.Vault.seen g.V.Vault.may_leave vault tiers what lost units shown one is lost_are long few wide ends
