@@ -2,6 +2,7 @@
 // STOP=N: at the N-th write, cut or sync of a file the process is killed, before it; with HALF=1 after the first half of a write's bytes.
 // RECORD=FILE: each of them that was made is appended to FILE: a kind (1 write, 2 sync, 3 cut), the length of the file's name, the
 // offset and the length of the bytes, in eight bytes each; then the name and the bytes.
+// UNREAD=NAME: reads of a file of that name, at UNREAD_AT or past it, fail with an input/output error.
 // BREAK=NAME: from the N-th of them on, N by BREAK_AT, those of a file of that name fail with an input/output error.
 #define _GNU_SOURCE
 #include <dlfcn.h>
@@ -114,4 +115,21 @@ int fsync(int file) {
     int done = next(file);
     if (done == 0) record(2, file, 0, "", 0);
     return done;
+}
+
+static int fails(int file, off64_t at, size_t bytes) {
+    const char *name = getenv("UNREAD"), *from = getenv("UNREAD_AT");
+    char place[4096];
+    if (!name || at + (off64_t)bytes <= (from ? atol(from) : 0) || strcmp(name_of(file, place, sizeof place), name)) return 0;
+    errno = EIO;
+    return 1;
+}
+
+ssize_t pread64(int file, void *to, size_t bytes, off64_t at) {
+    NEXT(pread64);
+    return fails(file, at, bytes) ? -1 : next(file, to, bytes, at);
+}
+
+ssize_t pread(int file, void *to, size_t bytes, off_t at) {
+    return pread64(file, to, bytes, at);
 }

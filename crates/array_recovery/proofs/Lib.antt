@@ -1,4 +1,4 @@
-pub mod Reading
+pub mod Patched
 pub mod Replaying
 pub mod Loading
 pub mod Marking

@@ -1,6 +1,6 @@
--- Units of drives in memory.
-use Rattle.std.proofs.Common.{◌≡◌, ◌≢◌, ◌<◌, ◌+◌, ◌⊎◌, inl, inr, ℕ, zero, suc, Bool, false, Some, List, [], ◌∷◌, ◌++◌, length, take, drop, get_or, slice_get, slice_set, refl, sym, ◌∙◌, ap, subst, arith}
-use Rattle.std.proofs.lemmas.Option.{same_Some, none-some, slice_get_within, slice_get_cases, slice_get-get_or}
+-- Units of drives in memory, of which one is written.
+use Rattle.std.proofs.Common.{◌≡◌, ◌≢◌, ◌<◌, ◌⊎◌, inl, inr, ℕ, Bool, false, Some, List, ◌++◌, length, take, drop, slice_get, slice_set, sym, ◌∙◌, ap, subst, arith}
+use Rattle.std.proofs.lemmas.Option.{slice_get_within, slice_get_cases}
 use Rattle.std.proofs.lemmas.List.{length-set}
 use Rattle.std.proofs.Math.Seq.{take-append_seam}
 use Rattle.extents.specs.Condition.{Held}
@@ -11,81 +11,13 @@ use Rattle.extent_groups.specs.Cells.{Cells}
 use Rattle.extent_groups.specs.Planned.{with_unit}
 use Rattle.extent_groups.proofs.Places.{same_or_not, get-set_same, get-set_other}
 use Rattle.vault.specs.Images.{is_lost}
+use Rattle.rotten_units.proofs.Loading.{get_set, sized_set}
 use Rattle.array_recovery.specs.Found.{AreFormed, HaveUnits}
 use Rattle.array_recovery.proofs.Replaying.{write, write_here, write_else}
-
--- an element of a list with one more
-pub get_more : {A : Type 0} (xs : List A) (x y : A) (i : ℕ) → slice_get (xs ++ x ∷ []) i ≡ Some y → ((i ≡ length xs) × (x ≡ y)) ⊎ ((i < length xs) × (slice_get xs i ≡ Some y))
-get_more [] x y zero e = inl (refl, same_Some _ _ e)
-get_more [] x y (suc i) e = absurd (none-some y e)
-get_more (z ∷ xs) x y zero e = inr (omega arith, e)
-get_more (z ∷ xs) x y (suc i) e = elim (get_more xs x y i e) [
-  | inl last ↦ (let is = last.0 in inl (omega (arith, is), last.1))
-  | inr early ↦ (let low = early.0 in inr (omega (arith, low), early.1))
-]
-
--- what a list has at an index, whatever it is asked to have past its end
-pub get_is : {A : Type 0} (xs : List A) (i : ℕ) (past x : A) → slice_get xs i ≡ Some x → get_or xs i past ≡ x
-get_is xs i past x e = same_Some _ _ (sym (slice_get-get_or xs i past (slice_get_within xs i x e)) ∙ e)
-
--- an element of a list with one element changed
-pub get_set : {A : Type 0} (xs : List A) (i : ℕ) (x : A) (j : ℕ) (y : A) → i < length xs → slice_get (slice_set xs i x) j ≡ Some y → ((j ≡ i) × (x ≡ y)) ⊎ ((j ≢ i) × (slice_get xs j ≡ Some y))
-get_set xs i x j y low e = elim (same_or_not j i) [
-  | inl is ↦ inl (is, same_Some _ _ (sym (get-set_same xs i x low) ∙ ap (λ k. slice_get (slice_set xs i x) k) (sym is) ∙ e))
-  | inr ne ↦ inr (ne, sym (get-set_other xs i j x ne) ∙ e)
-]
-
-pub sized_set : (size : ℕ) (units : List (List ℕ)) (i : ℕ) (unit : List ℕ) → i < length units → AreUnitsSized size units → length unit ≡ size → AreUnitsSized size (slice_set units i unit)
-sized_set size units i unit low sized long at u e = elim (get_set units i unit at u low e) [ inl here ↦ ap length (sym here.1) ∙ long | inr other ↦ sized at u other.1 ]
-
-pub long_set : (units : List (List ℕ)) (i : ℕ) (unit : List ℕ) → length (slice_set units i unit) ≡ length units
-long_set units i unit = length-set units i unit
-
--- units of one size are of the length that one of them has
-pub unit_size : (size long at : ℕ) (units : List (List ℕ)) → at < length units → AreUnitsSized size units → AreUnitsSized long units → long ≡ size
-unit_size size long at units low sized same = elim (slice_get_cases units at).1 [
-  | inl is ↦ sym (same at is.0 is.2) ∙ sized at is.0 is.2
-  | inr past ↦ (let high = past.0 in absurd (omega (arith, high, low)))
-]
-
--- one unit more is filled in
-pub filled_more : (c : Cells) (d i : ℕ) (units : List (List ℕ)) (unit : List ℕ) → i < length units → ((at : ℕ) → at < i → c d at ≡ slice_get units at) → c d i ≡ Some unit
-    → (at : ℕ) → at < i + 1 → c d at ≡ slice_get (slice_set units i unit) at
-filled_more c d i units unit low filled is at below = elim (same_or_not at i) [
-  | inl here ↦ ap (λ k. c d k) here ∙ is ∙ sym (get-set_same units i unit low) ∙ ap (λ k. slice_get (slice_set units i unit) k) (sym here)
-  | inr ne ↦ filled at (grind arith) ∙ sym (get-set_other units i at unit ne)
-]
-
--- a drive more
-pub formed_more : (count size : ℕ) (caches : List Held) (m : Held) → AreFormed count size caches → m.condition ≡ Present → length m.units ≡ count → AreUnitsSized size m.units
-    → AreFormed count size (caches ++ m ∷ [])
-formed_more count size caches m formed present many sized = record {
-  present = λ d x e. elim (get_more caches m x d e) [ inl last ↦ subst (λ (h : Held). h.condition ≡ Present) last.1 present | inr early ↦ formed.present d x early.1 ];
-  many = λ d x e. elim (get_more caches m x d e) [ inl last ↦ subst (λ (h : Held). length h.units ≡ count) last.1 many | inr early ↦ formed.many d x early.1 ];
-  sized = λ d x e. elim (get_more caches m x d e) [ inl last ↦ subst (λ (h : Held). AreUnitsSized size h.units) last.1 sized | inr early ↦ formed.sized d x early.1 ];
-}
-
-pub units_more : (lost : List Bool) (c : Cells) (caches : List Held) (m : Held) → HaveUnits lost c caches
-    → (is_lost lost (length caches) ≡ false → (at : ℕ) → at < length m.units → c (length caches) at ≡ slice_get m.units at) → HaveUnits lost c (caches ++ m ∷ [])
-units_more lost c caches m have own = record {
-  each = λ d at x e not low. elim (get_more caches m x d e) [
-    | inl last ↦
-        subst (λ (h : Held). c d at ≡ slice_get h.units at) last.1
-        (ap (λ k. c k at) last.0 ∙ own (subst (λ k. is_lost lost k ≡ false) last.0 not) at (subst (λ (h : Held). at < length h.units) (sym last.1) low))
-    | inr early ↦ have.each d at x early.1 not low
-  ];
-}
 
 -- what is lent as a slice comes back
 pub written_back : {A : Type 0} (len : ℕ) (new items : List A) → length new ≡ length items → len ≡ length items → take len (new ++ drop (length new) items) ≡ new
 written_back len new items same is = ap (λ n. take n (new ++ drop (length new) items)) (is ∙ sym same) ∙ take-append_seam new (drop (length new) items)
-
--- no drive
-pub formed_none : (count size : ℕ) → AreFormed count size []
-formed_none count size = record { present = λ d m e. absurd (none-some m e); many = λ d m e. absurd (none-some m e); sized = λ d m e. absurd (none-some m e) }
-
-pub units_none : (lost : List Bool) (c : Cells) → HaveUnits lost c []
-units_none lost c = record { each = λ d at m e not low. absurd (none-some m e) }
 
 -- a unit of a drive is written
 module _ (count size : ℕ) (caches : List Held) (formed : AreFormed count size caches) (number address : ℕ) (was now : Held) (unit : List ℕ)

@@ -1,10 +1,21 @@
 -- Which drives are lost, by their marks and by which are absent.
-use Rattle.std.proofs.Common.{◌≡◌, ◌≤◌, ◌<◌, ◌+◌, inl, inr, ℕ, zero, suc, Bool, Some, List, [], ◌∷◌, length, slice_get, slice_set, refl, sym, ◌∙◌, ap, arith}
+use Rattle.std.proofs.Common.{◌≡◌, ◌≢◌, ◌≤◌, ◌<◌, ◌+◌, ◌⊎◌, inl, inr, ℕ, zero, suc, Bool, true, false, Option, Some, None, is_some, List, [], ◌∷◌, length, slice_get, slice_set, refl, sym, ◌∙◌, ap, arith}
 use Rattle.std.specs.Prelude.{◌||◌, ◌==◌, not, slice_index_or}
+use Rattle.std.proofs.lemmas.Bool.{true≢false}
 use Rattle.std.proofs.lemmas.Option.{same_Some, none-some, slice_get_cases, slice_get_past}
 use Rattle.extent_groups.proofs.Places.{same_or_not, get-set_same, get-set_other}
+use Rattle.extent_groups.specs.declared.place.Place.{Place}
+use Rattle.extent_groups.specs.Cells.{Cells}
+use Rattle.extent_groups.specs.Planned.{with_unit}
 use Rattle.vault.specs.Images.{is_lost, is_some_true}
-use Rattle.array_recovery.specs.Found.{AreGone, is_marked}
+use Rattle.vault.specs.Moments.{IsUnitAt}
+use Rattle.vault.specs.declared.store.UnitRead.TheVariants.{Rotten, Whole}
+use Rattle.array_recovery.specs.Found.{AreGone, AreMarksIf, is_marked}
+use Rattle.array_recovery.proofs.Replaying.{write, write_else, write_here}
+
+some_is : (o : Option (List ℕ)) → is_some o ≡ true → (u : List ℕ) × (o ≡ Some u)
+some_is None e = absurd (true≢false (sym e))
+some_is (Some u) e = (u, refl)
 
 -- the element of an index
 pub index_is : (xs : List ℕ) (i x : ℕ) → slice_get xs i ≡ Some x → slice_index_or xs i 0 ≡ x
@@ -41,3 +52,22 @@ gone_all marks absent lost m a l before = record {
         ∙ sym (ap (λ n. not (n == 0) || is_lost absent d) (index_past marks d (omega (arith, high, l, m))) ∙ ap is_some_true (slice_get_past absent d (omega (arith, high, l, a)))))
   ];
 }
+
+-- the table, as a read finds it
+pub marks_whole : (c : Cells) (marks : List ℕ) → IsUnitAt c (record { drive = 16; address = 0 }) marks Whole → AreMarksIf true marks c
+marks_whole c marks e = record { there = ap (λ o. is_some o) e; table = λ known. e }
+
+pub marks_rotten : (c : Cells) (marks : List ℕ) → IsUnitAt c (record { drive = 16; address = 0 }) marks Rotten → AreMarksIf false marks c
+marks_rotten c marks u = record { there = ap (λ o. is_some o) u.1; table = λ known. absurd (true≢false (sym known)) }
+
+-- a write of another place leaves it, and one of its place makes it known
+pub marks_else : (known : Bool) (marks : List ℕ) (c : Cells) (place : Place) (unit : List ℕ) → (16 ≢ place.drive) ⊎ (0 ≢ place.address) → AreMarksIf known marks c → AreMarksIf known marks (with_unit c (write place unit))
+marks_else known marks c place unit apart are =
+    let same = write_else c place unit 16 0 apart in
+    record { there = ap (λ o. is_some o) same ∙ are.there; table = λ k. same ∙ are.table k }
+
+pub marks_here : (known : Bool) (marks : List ℕ) (c : Cells) (place : Place) (unit : List ℕ) → 16 ≡ place.drive → 0 ≡ place.address → AreMarksIf known marks c → AreMarksIf true unit (with_unit c (write place unit))
+marks_here known marks c place unit on at are =
+    let old = some_is (c 16 0) are.there in
+    let is = write_here c place unit old.0 16 0 on at old.1 in
+    record { there = ap (λ o. is_some o) is; table = λ k. is }

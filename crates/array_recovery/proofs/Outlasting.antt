@@ -14,6 +14,7 @@ use Rattle.vault.specs.Moments.{IsFront}
 use Rattle.vault.specs.declared.store.Stop.{Stop}
 use Rattle.vault.specs.declared.store.Stop.TheVariants.{Killed, PowerLost}
 use Rattle.journaled_store.specs.Outlasting.{OpensBut, Point, Works, allowed, parts_of}
+use Rattle.group_form.specs.Form.{HasGroups}
 use Rattle.journaled_store.specs.Steps.{IsUpToDate, mark_of}
 use Rattle.journaled_store.proofs.Opening.{alone}
 use Rattle.array_recovery.specs.Found.{IsTable, OnlyRead, is_marked}
@@ -77,6 +78,7 @@ module _ {V X : Type 0} (shows : TiersView → X → Type 0) (seen : V → Image
     shown = is.left.shown;
     groups_are = is.left.groups_are;
     many = is.left.many;
+    table = is.left.table;
     one = is.left.one;
     kept = record {
       has = record { each = λ d at v e not. is.left.kept.has.each d at v e (sure d v e not) };
@@ -115,6 +117,9 @@ module _ {V X : Type 0} (shows : TiersView → X → Type 0) (seen : V → Image
           (let many = length-map marks_were (λ mark. not (mark == 0)) in let same = ap length noted_are in omega (arith, high, many, same, long)));
       gone = λ d one. opened.gone d (or_true (is_marked p.noted d) (is_lost absent d) (ap (λ (l : List ℕ). is_marked l d) noted_are ∙ sym (marked_is marks_were d) ∙ one));
       live = subst (λ (i : Image). IsUpToDate were_lost p.keeper p.noted p.batch (recovered i)) (sym read.finds) (live were_lost covers is.ends);
+      table = subst (λ (i : Image). HasGroups (parts_of p.tiers).groups (length (parts_of p.tiers).drives) (recovered i)) (sym read.finds)
+          (subst (λ many. HasGroups (parts_of p.tiers).groups many (recovered (seen vault))) (sym opened.many)
+          (subst (λ g. HasGroups g drives (recovered (seen vault))) (sym opened.groups_are) is.left.table));
       low = λ stop. length (seen p.vault).journal;
       logged = λ stop. record {
         flushed = omega arith;

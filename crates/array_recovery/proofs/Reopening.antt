@@ -116,7 +116,7 @@ module _ {D : Type 0} (units : D → Units) (gone : D → Bool) (failures : D �
   -- the vault is in step with the drives
   pub live : (count size : ℕ) (unsure : List Bool) → AreFormed count size caches → CoversGone (length drives) marks absent unsure → EndsAt unsure (length drives) count c
       → IsUpToDate unsure k marks [] c
-  live count size unsure formed covers ends = record { step = record { each = step }; noted = table }
+  live count size unsure formed covers ends = record { step = record { each = step }; noted = table; rest = λ at. refl }
     where
       here : (d : ℕ) → d < length drives → is_lost unsure d ≡ false → is_lost lost d ≡ false
       here d low not = elim (bool_cases (is_marked marks d || is_lost absent d)) [
@@ -175,6 +175,7 @@ bytes_left what groups count absent c left = record {
   shown = left.shown.holds;
   groups_are = left.groups_are;
   many = left.many;
+  table = left.table;
   one = left.one;
   lost = left.lost;
   kept = left.kept;
@@ -187,6 +188,7 @@ keys_left what groups count absent c left = record {
   shown = record { state = left.shown.holds.state; matches = left.shown.holds.matches; keys_are = left.shown.keys_are };
   groups_are = left.groups_are;
   many = left.many;
+  table = left.table;
   one = left.one;
   lost = left.lost;
   kept = left.kept;

@@ -8,7 +8,7 @@ use Rattle.vault.specs.Images.{is_lost}
 use Rattle.cached_drive.specs.Saving.{Units, saved_by}
 use Rattle.journaled_store.proofs.Leading.{saved_own, saved_other}
 use Rattle.array_recovery.specs.Found.{AreSeated}
-use Rattle.array_recovery.proofs.Loading.{get_more}
+use Rattle.rotten_units.proofs.Loading.{get_more}
 
 empty_not : {A : Type 0} (x : A) (xs : List A) → [] ≡ x ∷ xs → ⊥
 empty_not x xs e = let none = ap length e in omega (arith, none)

@@ -2,6 +2,7 @@
 ghost use Rattle.std.specs.Prelude.{◌≡◌};
 ghost use Rattle.array_recovery.specs.declared.fault.RecoveryFault.TheVariants.{Memory, Vault};
 
+use rotten_units::ReadFault;
 use std::alloc::{AllocError, AllocFailed};
 use vault::VaultError;
 
@@ -14,6 +15,8 @@ pub enum RecoveryFault {
     Vault(VaultError),
     /// A drive that isn't lost has no unit of the right length at this address, or the journal brings it one of another length.
     Missing { drive: u8, address: u32 },
+    /// This unit isn't as its digest says, and the journal doesn't write it. The table's is that of drive 16.
+    Rotten { drive: u8, address: u32 },
     /// There are no marks of lost drives.
     NoTable,
     /// The parts don't fit one another, or the headers hold no map.
@@ -43,5 +46,15 @@ impl From<VaultError> for RecoveryFault {
 
     fn from(error: VaultError) -> RecoveryFault {
         RecoveryFault::Vault(error)
+    }
+}
+
+impl From<ReadFault> for RecoveryFault {
+    fn from(fault: ReadFault) -> RecoveryFault {
+        match fault {
+            ReadFault::Memory => RecoveryFault::Memory,
+            ReadFault::Vault(error) => RecoveryFault::Vault(error),
+            ReadFault::Missing { drive, address } => RecoveryFault::Missing { drive, address },
+        }
     }
 }

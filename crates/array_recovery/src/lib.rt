@@ -12,6 +12,6 @@ mod seat;
 
 pub use fault::RecoveryFault;
 pub use load::load_drives;
-pub use marks::lost_drives;
+pub use marks::{lost_drives, read_marks};
 pub use open::open_store;
 pub use reopen::{Found, find, recover};

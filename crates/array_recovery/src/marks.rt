@@ -1,18 +1,24 @@
 // Which drives the table says are lost.
-ghost use Rattle.std.specs.Prelude.{◌≡◌, ◌==◌, ◌||◌, not, length, OnOk, IfOk};
+ghost use Rattle.std.specs.Prelude.{◌≡◌, ◌==◌, ◌||◌, ℕ, List, not, length, OnOk, IfOk};
 ghost use Rattle.extent_groups.specs.Cells.{Cells};
 ghost use Rattle.extent_groups.specs.Planned.{after, with_unit};
 ghost use Rattle.vault.specs.Images.{recovered};
-ghost use Rattle.array_recovery.specs.Found.{AreGone, IsTable, OnlyRead};
+ghost use Rattle.vault.specs.Moments.{IsUnitAt};
+ghost use Rattle.array_recovery.specs.Found.{AreGone, AreMarksIf, IsTable, OnlyRead};
 
 use crate::fault::RecoveryFault;
 use extent_groups::Place;
 use extents::DRIVES;
-use vault::{Batch, TABLE, Vault};
+use vault::{Batch, TABLE, UnitRead, Vault};
 
-// Puts a write of the table over the marks.
-fn mark_unit(marks: &mut [u8; DRIVES], place: Place, unit: &[u8]) -> Result<(), RecoveryFault>
-    ensures { OnOk result ((c : Cells) → IsTable marks.old c → IsTable marks.new (with_unit c (record { place = place; unit = unit.now }))) }
+// Puts a write of the table over the marks, which are known then.
+fn mark_unit(
+    marks: &mut [u8; DRIVES],
+    is_known: &mut bool,
+    place: Place,
+    unit: &[u8],
+) -> Result<(), RecoveryFault>
+    ensures { OnOk result ((c : Cells) → AreMarksIf is_known.old marks.old c → AreMarksIf is_known.new marks.new (with_unit c (record { place = place; unit = unit.now }))) }
 {
     if place.drive != TABLE || place.address != 0 {
         return Ok(());
@@ -21,24 +27,40 @@ fn mark_unit(marks: &mut [u8; DRIVES], place: Place, unit: &[u8]) -> Result<(), 
         return Err(RecoveryFault::NoTable);
     }
     marks.copy_from_slice(unit);
+    *is_known = true;
     Ok(())
 }
 
 // Puts a batch's writes of the table over the marks.
-fn mark_batch(marks: &mut [u8; DRIVES], batch: &Batch) -> Result<(), RecoveryFault>
-    ensures { OnOk result ((c : Cells) → IsTable marks.old c → IsTable marks.new (after c batch.now)) }
+fn mark_batch(
+    marks: &mut [u8; DRIVES],
+    is_known: &mut bool,
+    batch: &Batch,
+) -> Result<(), RecoveryFault>
+    ensures { OnOk result ((c : Cells) → AreMarksIf is_known.old marks.old c → AreMarksIf is_known.new marks.new (after c batch.now)) }
 {
     for index in 0..batch.len() {
-        mark_unit(marks, batch.place(index), batch.unit(index))?;
+        let place = batch.place(index);
+        mark_unit(marks, is_known, place, batch.unit(index))?;
     }
     Ok(())
 }
 
-/// The marks of the table that the vault stands for. Each batch is read into `batch`.
-pub(crate) fn read_marks<V: Vault>(
-    vault: &mut V,
-    batch: &mut Batch,
-) -> Result<[u8; DRIVES], RecoveryFault>
+// Whether the marks are known, by what a read of the table finds.
+fn is_known(read: UnitRead) -> Result<bool, RecoveryFault>
+    ensures { IfOk result (λ known. (c : Cells) (marks : List ℕ) → IsUnitAt c (record { drive = 16; address = 0 }) marks read → AreMarksIf known marks c) }
+{
+    match read {
+        UnitRead::Whole => Ok(true),
+        // A batch of the journal may write it.
+        UnitRead::Rotten => Ok(false),
+        UnitRead::Absent => Err(RecoveryFault::NoTable),
+    }
+}
+
+/// The marks of the table that the vault stands for. Refused where the table is rotten and the journal doesn't write it. Each batch is
+/// read into `batch`.
+pub fn read_marks<V: Vault>(vault: &mut V, batch: &mut Batch) -> Result<[u8; DRIVES], RecoveryFault>
     ensures stays { V.known vault.old → V.known vault.new }
     ensures read { V.known vault.old → OnlyRead V.seen V.may_leave V.moment V.left_since vault.old vault.new }
     ensures marks { V.known vault.old → IfOk result (λ marks. IsTable marks (recovered (V.seen vault.old))) }
@@ -48,13 +70,18 @@ pub(crate) fn read_marks<V: Vault>(
         address: 0,
     };
     let mut marks = [0u8; DRIVES];
-    if !vault.read_unit(table, &mut marks)? {
-        return Err(RecoveryFault::NoTable);
-    }
+    let read = vault.read_unit(table, &mut marks)?;
+    let mut known = is_known(read)?;
     let count = vault.batches()?;
     for index in 0..count {
         vault.read_batch(index, batch)?;
-        mark_batch(&mut marks, batch)?;
+        mark_batch(&mut marks, &mut known, batch)?;
+    }
+    if !known {
+        return Err(RecoveryFault::Rotten {
+            drive: TABLE,
+            address: 0,
+        });
     }
     Ok(marks)
 }

@@ -23,7 +23,8 @@ use std::alloc::Global;
 use vault::Vault;
 
 /// Opens a store of `drives` drives and `size` bytes from what outlived a stop, and goes on in the same vault. `settle_at` is that
-/// of `JournaledStore::new`, the rest that of `recover`. The vault is only read; where nothing is opened, it is returned.
+/// of `JournaledStore::new`, the rest that of `recover`; the groups are those that `group_form::find_groups` found. The vault is only
+/// read; where nothing is opened, it is returned.
 pub fn open_store<N: Chronicle, V: Vault + Drop>(
     alloc: Global,
     vault: V,

@@ -17,7 +17,7 @@ ghost use Rattle.journaled_store.specs.Left.{HasBoth, HasKeys, IsLeftOf};
 ghost use Rattle.array_recovery.specs.Reopened.{CoversGone, EndsAt, IsOpenedWith};
 
 use crate::fault::RecoveryFault;
-use crate::load::load_drives;
+use crate::load::test_rotten;
 use crate::marks::{lost_drives, read_marks};
 use crate::rebuild::rebuild;
 use crate::replay::replay;
@@ -28,6 +28,7 @@ use extent_groups::GroupTable;
 use extents::{DRIVES, ExtentTable, MemDrive, Shape};
 use history::{Chronicle, Opened};
 use journaled_store::Changes;
+use rotten_units::{Loaded, load_units};
 use std::alloc::Global;
 use unit_store::Parts;
 use vault::{Batch, Vault};
@@ -43,7 +44,7 @@ pub struct Found {
     pub lost: [bool; DRIVES],
 }
 
-/// Finds what a vault stands for. It is only read.
+/// Finds what a vault stands for. It is only read. Refused where a unit is rotten that the journal doesn't write.
 pub fn find<V: Vault>(
     alloc: Global,
     vault: &mut V,
@@ -62,8 +63,14 @@ pub fn find<V: Vault>(
     let mut batch = Batch::new(alloc);
     let marks = read_marks(vault, &mut batch)?;
     let lost = lost_drives(&marks, absent);
-    let mut caches = load_drives(alloc, vault, shape, drives, &lost)?;
-    replay(vault, &mut batch, &mut caches, &lost)?;
+    let loaded = load_units(alloc, vault, shape, drives, &lost)?;
+    let Loaded {
+        mut caches,
+        mut rotten,
+    } = loaded;
+    replay(vault, &mut batch, &mut caches, &mut rotten, &lost)?;
+    // A stop in the middle of a settling tears units: the journal has these.
+    test_rotten(&rotten)?;
     Ok(Found {
         caches,
         marks,

@@ -7,10 +7,10 @@ ghost use Rattle.vault.specs.Images.{is_lost as is_lost_of};
 ghost use Rattle.array_recovery.specs.Found.{AreSeated};
 
 use crate::fault::RecoveryFault;
-use crate::load::is_lost;
 use cached_drive::{CachedDrive, Saved};
 use extents::{DRIVES, MemDrive};
 use history::{Chronicle, Hand, History, Keeper};
+use rotten_units::is_lost;
 use std::alloc::Global;
 
 // A drive of these units with this hand, lost or not.

@@ -5,3 +5,4 @@ mod Underway
 mod Verified
 mod Replacing
 mod Settling
+mod Mended

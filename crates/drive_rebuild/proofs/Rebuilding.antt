@@ -15,10 +15,12 @@ use Rattle.tiered_array.specs.Views.{TiersView}
 use Rattle.vault.specs.Images.{Image, Matches, is_lost, recovered}
 use Rattle.vault.specs.declared.store.Stop.{Stop}
 use Rattle.vault.proofs.Writes.{front_torn, torn_matches}
+use Rattle.group_form.specs.Form.{HasGroups}
 use Rattle.journaled_store.specs.Left.{IsLeftOf, IsLostIn}
 use Rattle.journaled_store.specs.Outlasting.{OpensAs, OpensBut, parts_of}
 use Rattle.journaled_store.specs.Steps.{IsPersisted, mark_of, table_write}
 use Rattle.journaled_store.proofs.Opening.{alone, opens_as, opens_on}
+use Rattle.journaled_store.proofs.Settled.{groups_on}
 use Rattle.array_recovery.specs.Found.{is_marked}
 use Rattle.array_recovery.specs.Reopened.{EndsAt, marked}
 use Rattle.array_recovery.proofs.Marking.{index_is}
@@ -84,6 +86,7 @@ module _ (shows : TiersView → List ℕ → Type 0) (what : List ℕ) (groups :
     shown = left.shown;
     groups_are = left.groups_are;
     many = left.many;
+    table = left.table;
     one = left.one;
     kept = record {
       has = record { each = λ d a v e not. left.kept.has.each d a v e (sure d v e (sym (was_lost d v e) ∙ not)) };
@@ -194,6 +197,12 @@ module _ (shows : TiersView → List ℕ → Type 0) (what : List ℕ) (groups :
       reported = record { each = λ d v e. zero_at d (below d v e) ∙ ap (λ b. Some (mark_of b)) (sym (is.verified.alive d v e)) };
     }
 
+    -- the table has the groups that it had
+    groups_now : HasGroups groups drives (recovered i)
+    groups_now = groups_on groups drives before (recovered i)
+        (λ a. is.matches (at 16 (suc a)) table_now ∙ (write_else is.ready (at 16 0) marks_now 16 (suc a) (inr (λ e. absurd (omega (arith, e)))) ∙ is.same (at 16 (suc a)) lost_are.table))
+        left.table
+
     not_lost : (d : ℕ) → IsLostIn views d → ⊥
     not_lost d (v, e, gone) = true≢false (sym gone ∙ is.verified.alive d v e)
 
@@ -211,6 +220,7 @@ module _ (shows : TiersView → List ℕ → Type 0) (what : List ℕ) (groups :
       shown = shown;
       groups_are = left.groups_are;
       many = is.verified.many;
+      table = groups_now;
       one = λ d e a b. absurd (not_lost d a);
       kept = persisted;
       gone = λ d low one. absurd (uncounted d low one);
@@ -225,6 +235,7 @@ module _ (shows : TiersView → List ℕ → Type 0) (what : List ℕ) (groups :
       shown = shown;
       groups_are = left.groups_are;
       many = is.verified.many;
+      table = groups_now;
       one = λ d e a b. absurd (not_lost d a);
       lost = counts;
       kept = persisted;

@@ -11,7 +11,7 @@ use Rattle.tiered_array.specs.Matches.{RepresentsTiers}
 use Rattle.tiered_array.specs.Tiered.{Tiered}
 use Rattle.tiered_array.specs.Views.{TiersView}
 use Rattle.array_store.specs.Blocks.{Holds}
-use Rattle.journaled_store.specs.Left.{HasKeys}
+use Rattle.journaled_store.specs.Left.{HasBoth, HasKeys}
 use Rattle.journaled_store.specs.Outlasting.{parts_of}
 
 -- with other drives
@@ -85,11 +85,14 @@ module _ (t : TiersView) (views : List DriveView) (many : length views ≡ lengt
   }
 
 -- what is shown stays with other drives that show the same units
-abbrev pub KeepsShown : (TiersView → List ℕ → Type 0) → Type 0
-KeepsShown shows = (t : TiersView) (views : List DriveView) (what : List ℕ) → length views ≡ length (parts_of t).drives → ShowToo t views → shows t what → shows (with_drives t views) what
+abbrev pub KeepsShown : {X : Type 0} → (TiersView → X → Type 0) → Type 0
+KeepsShown {X} shows = (t : TiersView) (views : List DriveView) (what : X) → length views ≡ length (parts_of t).drives → ShowToo t views → shows t what → shows (with_drives t views) what
 
 pub holds_keep : KeepsShown Holds
 holds_keep t views what many show is = holds_with t views many what show is
 
 pub keys_keep : KeepsShown HasKeys
 keys_keep t views what many show is = keys_with t views many what show is
+
+pub both_keep : KeepsShown HasBoth
+both_keep t views what many show is = record { holds = holds_with t views many what.bytes show is.holds; keys_are = is.keys_are }

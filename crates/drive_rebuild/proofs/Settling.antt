@@ -8,11 +8,13 @@ use Rattle.unit_store.specs.Views.{DriveView, drive_lost, lost_of}
 use Rattle.tiered_array.specs.Views.{TiersView}
 use Rattle.vault.specs.Images.{Image, is_lost, recovered}
 use Rattle.vault.specs.declared.store.Stop.{Stop}
+use Rattle.extent_groups.specs.Cells.{Cells}
+use Rattle.group_form.specs.Form.{HasGroups}
 use Rattle.journaled_store.specs.Left.{MissesOne}
 use Rattle.journaled_store.specs.Outlasting.{parts_of}
 use Rattle.journaled_store.specs.Steps.{IsEmptied, mark_of}
 use Rattle.journaled_store.proofs.Opening.{is_lost_in}
-use Rattle.journaled_store.proofs.Settled.{table_there}
+use Rattle.journaled_store.proofs.Settled.{groups_on, table_there}
 use Rattle.array_recovery.specs.Found.{IsTable, is_marked}
 use Rattle.array_recovery.specs.Reopened.{EndsAt}
 use Rattle.array_recovery.proofs.Marking.{index_is}
@@ -25,8 +27,9 @@ lost_index [] d low = absurd (omega (arith, low))
 lost_index (l ∷ ls) zero low = refl
 lost_index (l ∷ ls) (suc d) low = lost_index ls d (omega (arith, low))
 
-module _ {V : Type 0} (shows : TiersView → List ℕ → Type 0) (seen : V → Image) (may_leave : V → Stop → Image → Type 0) (vault : V) (tiers : TiersView) (what : List ℕ) (lost : List Bool) (units : ℕ)
-    (shown : shows tiers what) (one : MissesOne (parts_of tiers).drives) (is : IsEmptied seen may_leave lost vault (parts_of tiers).drives)
+module _ {V : Type 0} (shows : TiersView → List ℕ → Type 0) (seen : V → Image) (may_leave : V → Stop → Image → Type 0) (vault : V) (tiers : TiersView) (what : List ℕ) (lost : List Bool) (units : ℕ) (before : Cells)
+    (shown : shows tiers what) (one : MissesOne (parts_of tiers).drives) (groups : HasGroups (parts_of tiers).groups (length (parts_of tiers).drives) before)
+    (is : IsEmptied seen may_leave lost before vault (parts_of tiers).drives)
     (lost_are : (d : ℕ) → d < 16 → slice_index_or lost d true ≡ lost_of (parts_of tiers) d) (long : length lost ≡ 16) (few : length (parts_of tiers).drives ≤ 16)
     (wide : (marks : List ℕ) → IsTable marks (recovered (seen vault)) → length marks ≡ 16) (ends : EndsAt [] (length (parts_of tiers).drives) units (recovered (seen vault))) where
   abbrev drives : List DriveView
@@ -60,6 +63,7 @@ module _ {V : Type 0} (shows : TiersView → List ℕ → Type 0) (seen : V → 
       shown = shown;
       groups_are = refl;
       many = refl;
+      table = groups_on (parts_of tiers).groups (length drives) before (recovered (seen vault)) is.rest groups;
       one = one;
       lost = lost;
       kept = is.kept;

@@ -16,19 +16,7 @@ use Rattle.journaled_store.specs.Steps.{table_write}
 use Rattle.array_recovery.specs.Found.{IsTable, is_marked}
 use Rattle.array_recovery.specs.Reopened.{EndsAt, IsSoundFor, marked}
 use Rattle.drive_rebuild.specs.Written.{IsOnlyMarked, unmarked}
-
--- So many drives, each with this many units, lie in a vault, and all slots of the groups are sound: none is lost, copies are equal,
--- and rows add up to zero.
-pub record AreVerified (groups : Groups) (drives units : ℕ) (c : Cells) : Type 0 where
-  pub views : List DriveView
-  pub many : length views ≡ drives
-  pub few : length views ≤ 16
-  pub alive : (d : ℕ) (v : DriveView) → slice_get views d ≡ Some v → v.lost ≡ false
-  pub long : (d : ℕ) (v : DriveView) → slice_get views d ≡ Some v → length v.units ≡ units
-  pub lies : (d at : ℕ) (v : DriveView) → slice_get views d ≡ Some v → at < length v.units → c d at ≡ slice_get v.units at
-  pub formed : AreGroups groups
-  pub fit : AreDrives drive_units groups views
-  pub sound : AreSound groups (cells drive_units drive_lost views)
+pub use Rattle.unit_repair.specs.Mended.{AreVerified}
 
 -- An image with a drive's new units: the units of before, but for those of lost drives, which are sound with those of the drive, and a
 -- table that doesn't mark it any more.

@@ -1,33 +1,62 @@
 // When a drive can be replaced.
-ghost use Rattle.std.specs.Prelude.{◌≡◌, ◌<◌, ◌≤◌, [], ℕ, List, Bool, length, slice_index_or, true};
+ghost use Rattle.std.specs.Prelude.{◌≡◌, ◌<◌, ◌≤◌, [], ℕ, List, Bool, false, length, slice_index_or, true};
+ghost use Rattle.extent_groups.specs.Cells.{Cells};
+ghost use Rattle.extent_groups.specs.Groups.{Groups};
 ghost use Rattle.unit_store.specs.Views.{lost_of};
 ghost use Rattle.tiered_array.specs.Views.{TiersView};
-ghost use Rattle.vault.specs.Images.{recovered};
+ghost use Rattle.vault.specs.Images.{Image, recovered};
+ghost use Rattle.vault.specs.Moments.{AreLogged};
+ghost use Rattle.byte_store.specs.Lasting.{Shown};
 ghost use Rattle.array_store.specs.Blocks.{Holds};
-ghost use Rattle.journaled_store.specs.Left.{HasKeys, MissesOne};
+ghost use Rattle.group_form.specs.Form.{HasGroups};
+ghost use Rattle.journaled_store.specs.Left.{HasBoth, HasKeys, IsLeftOf, MissesOne};
 ghost use Rattle.journaled_store.specs.Outlasting.{parts_of};
 ghost use Rattle.journaled_store.specs.Steps.{IsEmptied};
-ghost use Rattle.array_recovery.specs.Found.{IsTable};
+ghost use Rattle.array_recovery.specs.Found.{IsTable, is_marked};
 ghost use Rattle.array_recovery.specs.Reopened.{EndsAt};
+ghost use Rattle.unit_repair.specs.Mended.{AreVerified, IsMended};
 ghost use Rattle.drive_rebuild.specs.Rebuilt.{CanBeRebuilt};
 
 use vault::Vault;
 
 /// After `JournaledStore::settle` a drive of the store can be replaced, if no two are lost: the premises are its clauses `settled` and
-/// `lost`. The vault's table has 16 marks, and it has no unit past the ends of the drives.
+/// `lost`. The vault's table has 16 marks and, before that call, the array's groups; it has no unit past the ends of the drives.
 pub fn settled_law<V: Vault>()
-    ensures bytes { (vault : V) (tiers : TiersView) (bytes : List ℕ) (lost : List Bool) (units : ℕ) → Holds tiers bytes → MissesOne (parts_of tiers).drives
-        → IsEmptied V.seen V.may_leave lost vault (parts_of tiers).drives
+    ensures bytes { (vault : V) (tiers : TiersView) (bytes : List ℕ) (lost : List Bool) (units : ℕ) (before : Cells) → Holds tiers bytes → MissesOne (parts_of tiers).drives
+        → HasGroups (parts_of tiers).groups (length (parts_of tiers).drives) before → IsEmptied V.seen V.may_leave lost before vault (parts_of tiers).drives
         → ((d : ℕ) → d < 16 → slice_index_or lost d true ≡ lost_of (parts_of tiers) d) → length lost ≡ 16
         → length (parts_of tiers).drives ≤ 16 → ((marks : List ℕ) → IsTable marks (recovered (V.seen vault)) → length marks ≡ 16)
         → EndsAt [] (length (parts_of tiers).drives) units (recovered (V.seen vault))
         → CanBeRebuilt Holds V.seen V.may_leave bytes (parts_of tiers).groups (length (parts_of tiers).drives) units vault }
-    ensures map { (vault : V) (tiers : TiersView) (keys : List ℕ) (lost : List Bool) (units : ℕ) → HasKeys tiers keys → MissesOne (parts_of tiers).drives
-        → IsEmptied V.seen V.may_leave lost vault (parts_of tiers).drives
+    ensures map { (vault : V) (tiers : TiersView) (keys : List ℕ) (lost : List Bool) (units : ℕ) (before : Cells) → HasKeys tiers keys → MissesOne (parts_of tiers).drives
+        → HasGroups (parts_of tiers).groups (length (parts_of tiers).drives) before → IsEmptied V.seen V.may_leave lost before vault (parts_of tiers).drives
         → ((d : ℕ) → d < 16 → slice_index_or lost d true ≡ lost_of (parts_of tiers) d) → length lost ≡ 16
         → length (parts_of tiers).drives ≤ 16 → ((marks : List ℕ) → IsTable marks (recovered (V.seen vault)) → length marks ≡ 16)
         → EndsAt [] (length (parts_of tiers).drives) units (recovered (V.seen vault))
         → CanBeRebuilt HasKeys V.seen V.may_leave keys (parts_of tiers).groups (length (parts_of tiers).drives) units vault }
+{
+    // The law is the contract: there is nothing to do.
+}
+
+/// After `unit_repair::mend` a vault has the array of which the units were last written, if none of its drives is lost: with the same
+/// bytes and the same block map. What lies past the ends of the drives and in the table isn't mended.
+pub fn mended_law<V: Vault>()
+    ensures bytes { (vault : V) (bytes : List ℕ) (groups : Groups) (drives units : ℕ) (written : Cells) (left : IsLeftOf Holds bytes groups drives [] written)
+        → ((d : ℕ) → d < drives → is_marked left.kept.marks d ≡ false) → AreVerified groups drives units written
+        → IsMended V.seen V.may_leave groups drives units written vault → ((at : ℕ) → Image.cells (V.seen vault) 16 at ≡ written 16 at)
+        → EndsAt [] drives units (Image.cells (V.seen vault)) → IsLeftOf Holds bytes groups drives [] (recovered (V.seen vault)) }
+    ensures map { (vault : V) (keys : List ℕ) (groups : Groups) (drives units : ℕ) (written : Cells) (left : IsLeftOf HasKeys keys groups drives [] written)
+        → ((d : ℕ) → d < drives → is_marked left.kept.marks d ≡ false) → AreVerified groups drives units written
+        → IsMended V.seen V.may_leave groups drives units written vault → ((at : ℕ) → Image.cells (V.seen vault) 16 at ≡ written 16 at)
+        → EndsAt [] drives units (Image.cells (V.seen vault)) → IsLeftOf HasKeys keys groups drives [] (recovered (V.seen vault)) }
+    ensures both { (vault : V) (what : Shown) (groups : Groups) (drives units : ℕ) (written : Cells) (left : IsLeftOf HasBoth what groups drives [] written)
+        → ((d : ℕ) → d < drives → is_marked left.kept.marks d ≡ false) → AreVerified groups drives units written
+        → IsMended V.seen V.may_leave groups drives units written vault → ((at : ℕ) → Image.cells (V.seen vault) 16 at ≡ written 16 at)
+        → EndsAt [] drives units (Image.cells (V.seen vault)) → IsLeftOf HasBoth what groups drives [] (recovered (V.seen vault)) }
+
+    // And each stop leaves that.
+    ensures logged { (vault : V) (groups : Groups) (drives units : ℕ) (written : Cells) (lost : List Bool)
+        → IsMended V.seen V.may_leave groups drives units written vault → AreLogged V.seen V.may_leave lost vault }
 {
     // The law is the contract: there is nothing to do.
 }

@@ -11,7 +11,7 @@ mod verify;
 mod write;
 
 pub use fault::RebuildFault;
-pub use laws::settled_law;
+pub use laws::{mended_law, settled_law};
 pub use replace::replace_drive;
 pub use scrub::{Findings, NAMED, scrub_parts};
 pub use write::Watch;

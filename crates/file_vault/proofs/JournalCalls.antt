@@ -12,7 +12,7 @@ use Rattle.vault.specs.Coding.{decoded, IsCode}
 use Rattle.vault.specs.Images.{Image, Alike, with_journal, is_lost, SameOn}
 use Rattle.vault.specs.Moments.{Within, HasJournal, HasUnitsAtStop, has_batch, with_or_without, more_batches, emptied}
 use Rattle.file_vault.specs.Folders.{Bytes, Folder, part, HasFile, mixed_at}
-use Rattle.file_vault.specs.Layouts.{Plan, count_of, cells_of}
+use Rattle.file_vault.specs.Layouts.{Plan, count_of, cells_of, IsAttested}
 use Rattle.file_vault.specs.Records.{body_at, next_at}
 use Rattle.file_vault.specs.Journals.{AreAt, place_at, journal_of, image_of, IsSound, SameUnitFiles, MayPut, ended_at}
 use Rattle.file_vault.specs.Recoveries.{leaves_read}
@@ -22,17 +22,17 @@ use Rattle.file_vault.proofs.Torn.{first_place}
 use Rattle.file_vault.proofs.Places.{body_between}
 use Rattle.file_vault.proofs.Ended.{cleared_journal}
 use Rattle.file_vault.proofs.Puts.{below_or, left_kept, kept_read, sound_seen, put_during, put_killed}
-use Rattle.file_vault.proofs.Units.{none_at, cells_same}
+use Rattle.file_vault.proofs.Units.{none_at, cells_same, attested_same}
 
 -- units of a drive's file, and of none
 pub count_low : (counts : List ℕ) (drive : ℕ) → drive < 16 → count_of counts drive ≡ get_or counts drive 0
 count_low counts drive low =
-    ap (λ b. if b then 1 else if nat_lt drive 16 then get_or counts drive 0 else 0) (ne_eqb drive 16 (λ e. omega (arith, e, low)))
+    ap (λ b. if b then 1026 else if nat_lt drive 16 then get_or counts drive 0 else 0) (ne_eqb drive 16 (λ e. omega (arith, e, low)))
     ∙ ap (λ b. if b then get_or counts drive 0 else 0) (lt-ltb drive 16 low)
 
 pub count_past : (counts : List ℕ) (drive : ℕ) → 16 < drive → count_of counts drive ≡ 0
 count_past counts drive past =
-    ap (λ b. if b then 1 else if nat_lt drive 16 then get_or counts drive 0 else 0) (ne_eqb drive 16 (λ e. omega (arith, e, past)))
+    ap (λ b. if b then 1026 else if nat_lt drive 16 then get_or counts drive 0 else 0) (ne_eqb drive 16 (λ e. omega (arith, e, past)))
     ∙ ap (λ b. if b then get_or counts drive 0 else 0) (le-ltb drive 16 (omega (arith, past)))
 
 -- one batch among others: its record, and the next one's place
@@ -60,6 +60,16 @@ module _ (plan : Plan) where
     | inr rest ↦ elim rest [
       | inl e ↦ both_none f g x (count_past plan.counts x.drive (omega (arith, e)))
       | inr (j, e) ↦ both_none f g x (count_past plan.counts x.drive (omega (arith, e)))
+    ]
+  ]
+
+  -- the same units are attested
+  pub attested_but : (f g : Folder) → SameUnitFiles f g → (x : Place) → IsAttested plan g x → IsAttested plan f x
+  attested_but f g same x is = elim (below_or x.drive 17) [
+    | inl under ↦ attested_same plan f g x (same x.drive (λ e. omega (arith, e, under))) is
+    | inr rest ↦ elim rest [
+      | inl e ↦ λ low. absurd (let none = count_past plan.counts x.drive (omega (arith, e)) in omega (arith, low, none))
+      | inr (j, e) ↦ λ low. absurd (let none = count_past plan.counts x.drive (omega (arith, e)) in omega (arith, low, none))
     ]
   ]
 

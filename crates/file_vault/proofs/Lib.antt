@@ -1,3 +1,4 @@
+pub mod Blanks
 pub mod Heads
 pub mod Chains
 pub mod Torn
@@ -19,3 +20,7 @@ pub mod TwinCalls
 pub mod Cuts
 pub mod Copied
 pub mod Raised
+pub mod Exchanges
+pub mod Stamps
+pub mod Unstamped
+pub mod Agreed

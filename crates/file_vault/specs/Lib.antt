@@ -7,3 +7,5 @@ pub mod Vaults
 pub mod Headers
 pub mod Recoveries
 pub mod Twins
+pub mod Renumbering
+pub mod Generations

@@ -4,6 +4,7 @@ ghost use Rattle.file_vault.specs.Layouts.{count_of, size_of, offset_of};
 
 use extent_groups::Place;
 use extents::DRIVES;
+use unit_digest::DIGEST_BYTES;
 use vault::TABLE;
 
 /// Bytes before the first unit of a drive's file, and before the first batch of the journal's.
@@ -12,12 +13,15 @@ pub const HEADER: u64 = 4096;
 /// The number of the journal's file. Before it are those of the drives, and of the table.
 pub const JOURNAL: u8 = 17;
 
+/// Units of the table: the marks of lost drives, then those that spell the groups and the number of drives.
+pub const TABLE_UNITS: u32 = 1026;
+
 /// How many units each drive has, and how long they are.
 #[derive(Clone, Copy, Debug, PartialEq, Eq)]
 pub struct Layout {
     /// Bytes of a unit.
     pub unit_bytes: u32,
-    /// Bytes of the table.
+    /// Bytes of a unit of the table.
     pub table_bytes: u32,
     /// Units of each drive; 0 for a drive without a file.
     pub counts: [u32; DRIVES],
@@ -26,12 +30,12 @@ pub struct Layout {
 impl Layout {
     ghost use Rattle.file_vault.specs.Layouts.{count_of, size_of, offset_of};
 
-    /// Units of a drive; of the table one.
+    /// Units of a drive, or of the table.
     pub fn count(&self, drive: u8) -> u32
         ensures { result ≡ count_of self.now.counts drive }
     {
         if drive == TABLE {
-            return 1;
+            return TABLE_UNITS;
         }
         if drive > TABLE {
             return 0;
@@ -63,10 +67,12 @@ impl Layout {
         }
     }
 
-    /// The offset of a unit in its drive's file.
-    pub fn offset(&self, place: Place) -> u64
-        ensures { result ≡ offset_of (size_of self.now.unit_bytes self.now.table_bytes place.drive) place.address }
+    /// The offset of a unit in its drive's file, of which each is followed by its digest; none past 2^64.
+    pub fn offset(&self, place: Place) -> Option<u64>
+        ensures { IfSome result (λ at. at ≡ offset_of (size_of self.now.unit_bytes self.now.table_bytes place.drive) place.address) }
     {
-        HEADER + place.address as u64 * self.size(place.drive) as u64
+        let bytes = self.size(place.drive) as u64 + DIGEST_BYTES as u64;
+        let before = (place.address as u64).checked_mul(bytes)?;
+        HEADER.checked_add(before)
     }
 }

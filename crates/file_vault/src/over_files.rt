@@ -6,6 +6,7 @@ ghost use Rattle.vault.specs.Coding.{decoded, IsCode};
 ghost use Rattle.vault.specs.declared.store.VaultError.TheVariants.{Memory, Journal};
 ghost use Rattle.vault.specs.declared.store.Stop.{Stop};
 ghost use Rattle.file_vault.specs.Folders.{HasFile};
+ghost use Rattle.file_vault.specs.Layouts.{IsAttested};
 ghost use Rattle.file_vault.specs.Journals.{image_of, place_at};
 ghost use Rattle.file_vault.specs.Vaults.{plan_of, left_of, IsKnown, fault_of_file, AreSynced};
 
@@ -13,9 +14,10 @@ use crate::files::{FileFault, Files};
 use crate::journal::{end_at, read_body};
 use crate::layout::{HEADER, JOURNAL, Layout};
 use crate::record::{HEAD, make_record};
+use crate::sealed::{make_room, seal, unseal};
 use extent_groups::Place;
 use extents::DRIVES;
-use vault::{Batch, TABLE, Vault, VaultError};
+use vault::{Batch, TABLE, UnitRead, Vault, VaultError};
 
 /// The most bytes of a journal.
 pub(crate) const LIMIT: u64 = 1 << 60;
@@ -35,11 +37,13 @@ pub struct FileVault<F: Files + Drop> {
     pub(crate) broken: bool,
     // A batch's bytes, or its record.
     pub(crate) bytes: Vec<u8>,
+    // A unit and its digest.
+    pub(crate) unit: Vec<u8>,
     ghost end_is: { (4096 ≤ end) × (end ≤ 2 ^ 62) },
 }
 
 // The fault of a drive's file or the table's.
-fn fault_of(drive: u8) -> VaultError
+pub(crate) fn fault_of(drive: u8) -> VaultError
     ensures { result ≡ fault_of_file drive }
 {
     if drive < TABLE {
@@ -147,6 +151,8 @@ impl<F: Files + Drop> Vault for FileVault<F> {
 
     ghost seen = { λ v. image_of (plan_of v.layout) (F.Files.seen v.files) };
 
+    ghost attested = { λ v x. IsAttested (plan_of v.layout) (F.Files.seen v.files) x };
+
     ghost may_leave = { λ v stop i. left_of (plan_of v.layout) (F.Files.may_leave v.files stop) i };
 
     ghost moment = { λ v. F.Files.moment v.files };
@@ -166,8 +172,8 @@ impl<F: Files + Drop> Vault for FileVault<F> {
         if size != unit.len() {
             return Err(VaultError::Misfit);
         }
-        let offset = self.layout.offset(place);
-        match self.files.write_at(place.drive, offset, unit) {
+        let offset = seal(&self.layout, &mut self.unit, place, unit)?;
+        match self.files.write_at(place.drive, offset, &self.unit) {
             Ok(()) => Ok(()),
             Err(_) => Err(fault_of(place.drive)),
         }
@@ -181,16 +187,16 @@ impl<F: Files + Drop> Vault for FileVault<F> {
         }
     }
 
-    fn read_unit(&mut self, place: Place, out: &mut [u8]) -> Result<bool, VaultError> {
+    fn read_unit(&mut self, place: Place, out: &mut [u8]) -> Result<UnitRead, VaultError> {
         let Some(size) = self.layout.size_at(place) else {
-            return Ok(false);
+            return Ok(UnitRead::Absent);
         };
         if size != out.len() {
-            return Ok(false);
+            return Ok(UnitRead::Absent);
         }
-        let offset = self.layout.offset(place);
-        match self.files.read_at(place.drive, offset, out) {
-            Ok(()) => Ok(true),
+        let offset = make_room(&self.layout, &mut self.unit, place)?;
+        match self.files.read_at(place.drive, offset, &mut self.unit) {
+            Ok(()) => Ok(unseal(&self.unit, place, out)),
             Err(_) => Err(fault_of(place.drive)),
         }
     }

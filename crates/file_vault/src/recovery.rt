@@ -2,11 +2,13 @@
 ghost use Rattle.std.specs.Prelude.{◌≡◌, ◌≤◌, ◌^◌, [], ℕ, Bool, List, length, OnOk, IfOk, MatchResult};
 ghost use Rattle.vault.specs.Moments.{AreLogged, Elapses, HasJournal, HasUnitsAtStop};
 ghost use Rattle.vault.specs.declared.store.Stop.{Stop};
-ghost use Rattle.file_vault.specs.Layouts.{Plan, cells_of};
+ghost use Rattle.extent_groups.specs.declared.place.Place.{Place};
+ghost use Rattle.file_vault.specs.Layouts.{Plan, cells_of, IsBlank, IsAttested};
 ghost use Rattle.file_vault.specs.Journals.{IsSound, journal_of, image_of};
 ghost use Rattle.file_vault.specs.Vaults.{HasBatches, plan_of, left_of};
 ghost use Rattle.file_vault.specs.Recoveries.{leaves_read};
 
+use crate::blank::write_blanks;
 use crate::chain::{Chain, find_chain};
 use crate::files::Files;
 use crate::journal::end_at;
@@ -34,15 +36,15 @@ fn adopt<F: Files>(alloc: Global, files: &mut F) -> Result<Chain, VaultError>
     Ok(chain)
 }
 
-// Empties the journal, and makes all units durable.
-fn begin<F: Files>(files: &mut F, layout: &Layout) -> Result<(), VaultError>
+// Makes all units blank and the journal empty, durably.
+fn begin<F: Files>(alloc: Global, files: &mut F, layout: &Layout) -> Result<(), VaultError>
     ensures stays { F.known files.old → F.known files.new }
     ensures kept { F.known files.old → OnOk result (IsSound F.seen F.may_leave files.new [] [] 4096 0) }
-    ensures cells { F.known files.old → (plan : Plan)
-        → OnOk result (cells_of plan (F.seen files.new) ≡ cells_of plan (F.seen files.old)) }
+    ensures blank { F.known files.old → OnOk result ((x : Place) → IsBlank (plan_of layout.now) (F.seen files.new) x) }
     ensures units { F.known files.old → OnOk result ((stop : Stop)
         → HasUnitsAtStop [] (cells_of (plan_of layout.now) (F.seen files.new)) (left_of (plan_of layout.now) (F.may_leave files.new stop))) }
 {
+    write_blanks(alloc, files, layout)?;
     end_at(files, HEADER)?;
     files.sync(TABLE)?;
     sync_drives(files, layout, &[false; DRIVES])
@@ -51,14 +53,14 @@ fn begin<F: Files>(files: &mut F, layout: &Layout) -> Result<(), VaultError>
 impl<F: Files + Drop> FileVault<F> {
     ghost use Rattle.file_vault.specs.Vaults.{IsKnown, plan_of, left_of};
 
-    /// Files whose journal is emptied, and the units that are there. An error hands the files back.
+    /// Files whose units are made zeros, each with its digest, and whose journal is emptied. An error hands the files back.
     pub fn create(alloc: Global, files: F, layout: Layout) -> Result<FileVault<F>, (VaultError, F)>
         ensures known { F.known files → IfOk result (λ v. IsKnown F.known F.seen F.may_leave F.faults v.files v.places.items v.end v.durable v.broken) }
         ensures layout { IfOk result (λ v. v.layout ≡ layout) }
 
-        // Calls find the units that were there, and no batches.
-        ensures cells { F.known files
-            → IfOk result (λ v. cells_of (plan_of layout) (F.seen v.files) ≡ cells_of (plan_of layout) (F.seen files)) }
+        // Calls find units of zeros, all of them attested, and no batches.
+        ensures blank { F.known files → IfOk result (λ v. (x : Place) → IsBlank (plan_of layout) (F.seen v.files) x) }
+        ensures attested { F.known files → IfOk result (λ v. (x : Place) → IsAttested (plan_of layout) (F.seen v.files) x) }
         ensures empty { F.known files → IfOk result (λ v. journal_of (F.seen v.files) ≡ []) }
 
         // Each stop leaves these units and no batches: so all batches of the journal, which has none.
@@ -69,7 +71,7 @@ impl<F: Files + Drop> FileVault<F> {
             (λ w stop i. left_of (plan_of w.layout) (F.may_leave w.files stop) i) lost v) }
     {
         let mut files = files;
-        match begin(&mut files, &layout) {
+        match begin(alloc, &mut files, &layout) {
             Ok(()) => Ok(FileVault {
                 files,
                 layout,
@@ -78,6 +80,7 @@ impl<F: Files + Drop> FileVault<F> {
                 durable: 0,
                 broken: false,
                 bytes: Vec::new(alloc),
+                unit: Vec::new(alloc),
             }),
             Err(e) => Err((e, files)),
         }
@@ -115,6 +118,7 @@ impl<F: Files + Drop> FileVault<F> {
                     durable,
                     broken: false,
                     bytes: Vec::new(alloc),
+                    unit: Vec::new(alloc),
                 })
             }
             Err(e) => Err((e, files)),

@@ -1,5 +1,5 @@
 -- What a stop leaves of a vault to which a batch is added.
-use Rattle.std.proofs.Common.{◌≡◌, ◌≤◌, ◌+◌, ◌⊎◌, inl, inr, ⊎_elim, ℕ, zero, suc, arith, true, Bool, List, [], ◌∷◌, ◌++◌, length, length-append, take, sym, ◌∙◌, subst}
+use Rattle.std.proofs.Common.{◌≡◌, ◌≤◌, ◌+◌, ◌⊎◌, inl, inr, ⊎_elim, ℕ, zero, suc, arith, true, Bool, List, [], ◌∷◌, ◌++◌, length, length-append, take, refl, sym, ◌∙◌, subst}
 use Rattle.std.specs.Prelude.{Result, Ok, Err, OnOk, is_ok, Some}
 use Rattle.std.proofs.lemmas.Bool.{true≢false}
 use Rattle.std.proofs.lemmas.List.{take_all, take-append-le}
@@ -14,7 +14,7 @@ use Rattle.vault.proofs.Writes.{after_last, front_matches, same_here}
 use Rattle.history.specs.Entries.{Course}
 use Rattle.unit_store.specs.Views.{DriveView}
 use Rattle.cached_drive.specs.Saving.{Units}
-use Rattle.journaled_store.specs.Steps.{HasDrives, HasMarks, IsBeforeOrNow, IsPersisted, IsUpToDate, UnlessSync, fault_of}
+use Rattle.journaled_store.specs.Steps.{HasDrives, HasMarks, IsBeforeOrNow, IsPersisted, IsUpToDate, SameTable, UnlessSync, fault_of}
 use Rattle.journaled_store.proofs.Leading.{step_same}
 
 pub when_ok : {T E P : Type 0} (r : Result T E) → is_ok r ≡ true → OnOk r P → P
@@ -52,7 +52,7 @@ kept_by lost drives marks c has noted reported = record { has = has; marks = mar
 
 pub live_same : (lost : List Bool) (k : Course Units) (marks : List ℕ) (batch : List Intended) (c d : Cells) → ((drive at : ℕ) → d drive at ≡ after c batch drive at)
     → IsUpToDate lost k marks batch c → IsUpToDate lost k marks [] d
-live_same lost k marks batch c d same live = record { step = step_same lost k batch c d same live.step; noted = same 16 0 ∙ live.noted }
+live_same lost k marks batch c d same live = record { step = step_same lost k batch c d same live.step; noted = same 16 0 ∙ live.noted; rest = λ at. refl }
 
 -- a refusal by memory or size leaves what holds where nothing changed
 pub unless_refused : {T : Type 0} (P : Type 0) (r : Result T VaultError) (e : VaultError) → r ≡ Err e → (IsRejected r → P) → UnlessSync (Err (fault_of e)) P
@@ -73,9 +73,9 @@ some_appended lost base new i low writes same journal some = subst (λ b. Repres
 
 -- with a batch that has all that the drives hold
 pub before_or_now : (lost : List Bool) (base i : Image) (low : ℕ) (writes : List Intended) (drives : List DriveView) → IsPersisted lost drives (after (recovered base) writes)
-    → RepresentsSome lost base.cells low (base.journal ++ writes ∷ []) i → IsBeforeOrNow lost base low drives i
-before_or_now lost base i low writes drives kept some =
-    ⊎_elim (λ few. inl few) (λ matches. inr (after (recovered base) writes, matches, kept)) (before_or_all lost base i low writes some)
+    → SameTable (after (recovered base) writes) (recovered base) → RepresentsSome lost base.cells low (base.journal ++ writes ∷ []) i → IsBeforeOrNow lost base low drives i
+before_or_now lost base i low writes drives kept rest some =
+    ⊎_elim (λ few. inl few) (λ matches. inr (after (recovered base) writes, matches, kept, rest)) (before_or_all lost base i low writes some)
 
 -- a stop leaves what it left before, where nothing changed
 pub logged_still : {V : Type 0} (seen : V → Image) (may_leave : V → Stop → Image → Type 0) (lost : List Bool) (stop : Stop) (old new : V) (low : ℕ)

@@ -1,5 +1,5 @@
 -- What a stop leaves after a store's calls.
-use Rattle.std.proofs.Common.{◌≡◌, ◌≤◌, ◌⊎◌, inl, inr, ℕ, arith, Bool, true, false, List, [], ◌∷◌, ◌++◌, length, take, refl, sym, ◌∙◌, ap, subst}
+use Rattle.std.proofs.Common.{◌≡◌, ◌≤◌, ◌⊎◌, inl, inr, ℕ, suc, arith, Bool, true, false, List, [], ◌∷◌, ◌++◌, length, take, refl, sym, ◌∙◌, ap, subst}
 use Rattle.std.specs.Prelude.{Contains, Result, Ok, Err, OnOk, is_err, is_ok}
 use Rattle.byte_store.specs.declared.fault.StoreFault.{StoreFault}
 use Rattle.std.proofs.lemmas.Bool.{true≢false}
@@ -19,9 +19,11 @@ use Rattle.vault.specs.declared.store.Stop.{Stop}
 use Rattle.vault.specs.declared.store.Stop.TheVariants.{Killed, PowerLost}
 use Rattle.vault.proofs.Runs.{weaker}
 use Rattle.unit_store.specs.Views.{lost_of}
-use Rattle.journaled_store.specs.Steps.{IsBeforeOrNow, IsPersisted, IsUpToDate, UnlessFailed, UnlessSync, is_sync}
+use Rattle.group_form.specs.Form.{HasGroups}
+use Rattle.journaled_store.specs.Steps.{IsBeforeOrNow, IsPersisted, IsUpToDate, SameTable, UnlessFailed, UnlessSync, is_sync}
 use Rattle.journaled_store.specs.Left.{MissesOne}
 use Rattle.journaled_store.specs.Outlasting.{OpensAs, OpensBut, Outlasts, OutlastsSince, Point, Works, allowed, parts_of}
+use Rattle.journaled_store.proofs.Settled.{groups_on}
 use Rattle.journaled_store.proofs.Opening.{alone, opens_as, opens_either, opens_left, opens_more, opens_now}
 
 pub either : (b : Bool) → (b ≡ true) ⊎ (b ≡ false)
@@ -86,6 +88,8 @@ pub record Published {V : Type 0} (known : V → Type 0) (seen : V → Image) (m
   pub still : p.failed ≡ true → (q.vault ≡ p.vault) × (q.failed ≡ true)
   pub step : known p.vault → (lost : List Bool) → UnlessFailed p.failed (IsUpToDate lost p.keeper p.noted p.batch (recovered (seen p.vault)))
       → UnlessFailed q.failed (IsUpToDate lost q.keeper q.noted q.batch (recovered (seen q.vault)))
+  pub rest : known p.vault → (lost : List Bool) → UnlessFailed p.failed (IsUpToDate lost p.keeper p.noted p.batch (recovered (seen p.vault)))
+      → UnlessFailed q.failed (SameTable (recovered (seen q.vault)) (recovered (seen p.vault)))
   pub killed : known p.vault → (lost : List Bool) → UnlessFailed p.failed (IsLogged seen may_leave lost Killed p.vault (length (seen p.vault).journal))
       → UnlessFailed q.failed (IsLogged seen may_leave lost Killed q.vault (length (seen q.vault).journal))
   pub logged : known p.vault → (lost : List Bool) (stop : Stop) (low : ℕ) → UnlessFailed p.failed (IsLogged seen may_leave lost stop p.vault low)
@@ -118,6 +122,9 @@ module _ {V X : Type 0} (shows : TiersView → X → Type 0) (known : V → Type
         (subst (λ g. OpensBut shows lost more g (length (parts_of p.tiers).drives) c) (sym follows.groups)
         (opens_more shows lost there (parts_of p.tiers).groups (length (parts_of p.tiers).drives) list more c within o))
 
+    groups_then : (c : Cells) → HasGroups (parts_of p.tiers).groups (length (parts_of p.tiers).drives) c → HasGroups (parts_of q.tiers).groups (length (parts_of q.tiers).drives) c
+    groups_then c has = subst (λ n. HasGroups (parts_of q.tiers).groups n c) (sym follows.many) (subst (λ g. HasGroups g (length (parts_of p.tiers).drives) c) (sym follows.groups) has)
+
     module _ (killed cut more_killed more_cut : List X) (out : Outlasts shows known seen may_leave p killed cut) (k : Within killed more_killed) (c : Within cut more_cut) where
       with_vault : (v : V) → v ≡ p.vault → Outlasts shows known seen may_leave (record { keeper = q.keeper; noted = q.noted; batch = q.batch; failed = q.failed; tiers = q.tiers; vault = v }) more_killed more_cut
       with_vault v same = subst (λ u. Outlasts shows known seen may_leave (record { keeper = q.keeper; noted = q.noted; batch = q.batch; failed = q.failed; tiers = q.tiers; vault = u }) more_killed more_cut)
@@ -129,6 +136,7 @@ module _ {V X : Type 0} (shows : TiersView → X → Type 0) (known : V → Type
               few = w.few;
               gone = λ d one. follows.lost d (w.gone d one);
               live = step w.lost (recovered (seen p.vault)) w.live;
+              table = groups_then (recovered (seen p.vault)) w.table;
               low = w.low;
               logged = w.logged;
               all = w.all;
@@ -200,7 +208,7 @@ module _ {V X : Type 0} (shows : TiersView → X → Type 0) (known : V → Type
         → OpensBut shows w.lost (now ∷ []) groups_now many_now (after (seen q.vault).cells (flat (take n (seen q.vault).journal)))
     all_opens n least most =
         subst (λ b. OpensBut shows w.lost (now ∷ []) groups_now many_now (after (seen q.vault).cells (flat b))) (sym (take_all n (seen q.vault).journal least))
-        (opens_now shows w.lost (table q killed cut w) groups_now many_now (now ∷ []) q.tiers now (recovered (seen q.vault)) refl refl w.gone one shown (alone now) kept)
+        (opens_now shows w.lost (table q killed cut w) groups_now many_now (now ∷ []) q.tiers now (recovered (seen q.vault)) refl refl w.gone one shown (alone now) kept w.table)
 
     all_left : (stop : Stop) (i : Image) → IsLogged seen may_leave w.lost stop q.vault (length (seen q.vault).journal) → may_leave q.vault stop i
         → OpensAs shows (now ∷ []) groups_now many_now (recovered i)
@@ -221,7 +229,7 @@ module _ {V X : Type 0} (shows : TiersView → X → Type 0) (known : V → Type
         opens_then PowerLost n least most = w.opens PowerLost n least most
 
         works_now : Works shows seen may_leave q (now ∷ []) cut
-        works_now = record { lost = w.lost; few = w.few; gone = w.gone; live = w.live; low = w.low; logged = w.logged; all = w.all; opens = opens_then }
+        works_now = record { lost = w.lost; few = w.few; gone = w.gone; live = w.live; table = w.table; low = w.low; logged = w.logged; all = w.all; opens = opens_then }
 
   -- one batch more
   module _ (p q : Point V) (now : X) (shown : shows p.tiers now) (one : MissesOne (parts_of p.tiers).drives) (f : Published known seen may_leave moment left_since p q) where
@@ -243,10 +251,11 @@ module _ {V X : Type 0} (shows : TiersView → X → Type 0) (known : V → Type
         pub run : (stop : Stop) → LeavesOnly moment left_since stop p.vault q.vault (IsBeforeOrNow w.lost (seen p.vault) (w.low stop) (parts_of p.tiers).drives)
         run stop = f.any_moment out.is_known w.lost (λ is. w.live) stop (w.low stop) (w.logged stop)
 
-        now_opens : (stop : Stop) (c : Cells) → IsPersisted w.lost (parts_of p.tiers).drives c
+        now_opens : (stop : Stop) (c : Cells) → IsPersisted w.lost (parts_of p.tiers).drives c → SameTable c (recovered (seen p.vault))
             → OpensBut shows w.lost (allowed stop more_killed more_cut) (parts_of p.tiers).groups (length (parts_of p.tiers).drives) c
-        now_opens stop c kept =
+        now_opens stop c kept rest =
             opens_now shows w.lost (table p killed cut w) (parts_of p.tiers).groups (length (parts_of p.tiers).drives) (allowed stop more_killed more_cut) p.tiers now c refl refl w.gone one shown (has_now stop) kept
+            (groups_on (parts_of p.tiers).groups (length (parts_of p.tiers).drives) (recovered (seen p.vault)) c rest w.table)
 
         old_opens : (stop : Stop) (n : ℕ) → w.low stop ≤ n → n ≤ length (seen p.vault).journal
             → OpensBut shows w.lost (allowed stop more_killed more_cut) (parts_of p.tiers).groups (length (parts_of p.tiers).drives) (after (seen p.vault).cells (flat (take n (seen p.vault).journal)))
@@ -271,6 +280,8 @@ module _ {V X : Type 0} (shows : TiersView → X → Type 0) (known : V → Type
           few = w.few;
           gone = subst (λ (t : TiersView). (d : ℕ) → is_lost w.lost d ≡ true → lost_of (parts_of t) d ≡ true) (sym f.tiers) w.gone;
           live = f.step out.is_known w.lost (λ is. w.live) on;
+          table = subst (λ (t : TiersView). HasGroups (parts_of t).groups (length (parts_of t).drives) (recovered (seen q.vault))) (sym f.tiers)
+              (groups_on (parts_of p.tiers).groups (length (parts_of p.tiers).drives) (recovered (seen p.vault)) (recovered (seen q.vault)) (f.rest out.is_known w.lost (λ is. w.live) on) w.table);
           low = low_now;
           logged = logged_now;
           all = refl;
@@ -393,6 +404,7 @@ module _ {V X : Type 0} (shows : TiersView → X → Type 0) (known : V → Type
       stays = stays;
       still = λ failed. absurd (true≢false (sym failed ∙ on));
       step = λ is lost live ok. subst (λ (i : Image). IsUpToDate lost q.keeper q.noted q.batch (recovered i)) (sym (same is)) (live_at lost (recovered (seen m.vault)) (live on));
+      rest = λ is lost live ok at. ap (λ (i : Image). recovered i 16 (suc at)) (same is);
       killed = λ is lost logged ok. durable ok is lost Killed (length (seen m.vault).journal) (logged on);
       logged = λ is lost stop low logged ok. (
         length (seen q.vault).journal,
@@ -413,6 +425,8 @@ module _ {V X : Type 0} (shows : TiersView → X → Type 0) (known : V → Type
         few = w.few;
         gone = subst (λ (t : TiersView). (d : ℕ) → is_lost w.lost d ≡ true → lost_of (parts_of t) d ≡ true) (sym tiers) w.gone;
         live = subst (λ (i : Image). IsUpToDate w.lost q.keeper q.noted q.batch (recovered i)) (sym (same out.is_known)) (live_at w.lost (recovered (seen m.vault)) w.live);
+        table = subst (λ (t : TiersView). HasGroups (parts_of t).groups (length (parts_of t).drives) (recovered (seen q.vault))) (sym tiers)
+            (subst (λ (i : Image). HasGroups (parts_of m.tiers).groups (length (parts_of m.tiers).drives) (recovered i)) (sym (same out.is_known)) w.table);
         low = λ stop. length (seen q.vault).journal;
         logged = λ stop. all stop;
         all = refl;

@@ -1,5 +1,5 @@
 -- What the table's write leaves, and what it says.
-use Rattle.std.proofs.Common.{◌≡◌, ◌≢◌, ◌<◌, ◌≤◌, ◌⊎◌, inl, inr, ℕ, arith, Bool, true, List, [], ◌∷◌, ◌++◌, length, map, sym, ◌∙◌, ap}
+use Rattle.std.proofs.Common.{◌≡◌, ◌≢◌, ◌<◌, ◌≤◌, ◌⊎◌, inl, inr, ℕ, suc, arith, Bool, true, List, [], ◌∷◌, ◌++◌, length, map, sym, ◌∙◌, ap}
 use Rattle.std.specs.Prelude.{slice_get, Some}
 use Rattle.std.specs.Option.{option_map}
 use Rattle.std.proofs.lemmas.Option.{slice_get-map, slice_get-get_or}
@@ -26,6 +26,13 @@ nearby_table batch marks c d at ne = ap (λ (e : Cells). e d at) (after_both bat
 pub other_units : (batch more : List Intended) (marks : List ℕ) (c : Cells) (d at : ℕ) → (more ≡ batch) ⊎ (more ≡ batch ++ table_write marks ∷ []) → d < 16 → after c more d at ≡ after c batch d at
 other_units batch more marks c d at (inl same) low = ap (λ ws. after c ws d at) same
 other_units batch more marks c d at (inr put) low = ap (λ ws. after c ws d at) put ∙ nearby_table batch marks c d at (λ e. absurd (omega (arith, e, low)))
+
+-- the table's other units
+pub other_table : (batch more : List Intended) (marks : List ℕ) (c : Cells) (at : ℕ) → (more ≡ batch) ⊎ (more ≡ batch ++ table_write marks ∷ []) → after c more 16 (suc at) ≡ after c batch 16 (suc at)
+other_table batch more marks c at (inl same) = ap (λ ws. after c ws 16 (suc at)) same
+other_table batch more marks c at (inr put) = ap (λ ws. after c ws 16 (suc at)) put
+    ∙ (ap (λ (e : Cells). e 16 (suc at)) (after_both batch (table_write marks ∷ []) c)
+    ∙ write_else (after c batch) (table_write marks) (record { drive = 16; address = suc at }) (λ e. let a = ap (λ (p : Place). p.address) e in absurd (omega (arith, a))))
 
 pub table_step : (lost : List Bool) (k : Course Units) (batch more : List Intended) (marks : List ℕ) (c : Cells) → k.hired ≤ 16 → (more ≡ batch) ⊎ (more ≡ batch ++ table_write marks ∷ [])
     → IsInStep lost k batch c → IsInStep lost k more c

@@ -13,10 +13,11 @@ use Rattle.vault.specs.Images.{Image, SameOn, flat, is_lost, recovered}
 use Rattle.vault.specs.Moments.{IsLogged, RepresentsSome}
 use Rattle.vault.specs.declared.store.Stop.{Stop}
 use Rattle.vault.proofs.Writes.{front_matches}
-use Rattle.journaled_store.specs.Steps.{IsBeforeOrNow, IsPersisted}
+use Rattle.group_form.specs.Form.{HasGroups}
+use Rattle.journaled_store.specs.Steps.{IsBeforeOrNow, IsPersisted, SameTable}
 use Rattle.journaled_store.specs.Left.{IsLeftOf, IsLostIn, MissesOne}
 use Rattle.journaled_store.specs.Outlasting.{OpensAs, OpensBut, parts_of}
-use Rattle.journaled_store.proofs.Settled.{kept_on}
+use Rattle.journaled_store.proofs.Settled.{groups_on, kept_on, table_on}
 
 -- a list of one has that one alone
 pub alone : {X : Type 0} (b : X) → Contains (b ∷ []) b
@@ -75,6 +76,7 @@ module _ {X : Type 0} (shows : TiersView → X → Type 0) (lost : List Bool) (t
     shown = o.shown;
     groups_are = o.groups_are;
     many = o.many;
+    table = o.table;
     one = o.one;
     kept = o.kept;
     gone = o.gone;
@@ -89,6 +91,7 @@ module _ {X : Type 0} (shows : TiersView → X → Type 0) (lost : List Bool) (t
     shown = o.shown;
     groups_are = o.groups_are;
     many = o.many;
+    table = groups_on groups count c d (table_on lost c d table same) o.table;
     one = o.one;
     kept = kept_on lost (parts_of o.tiers).drives c d table same o.kept;
     gone = o.gone;
@@ -103,6 +106,7 @@ module _ {X : Type 0} (shows : TiersView → X → Type 0) (lost : List Bool) (t
         shown = o.shown;
         groups_are = o.groups_are;
         many = o.many;
+        table = groups_on groups count c d (table_on absent c d there same) o.table;
         one = o.one;
         lost = either_lost lost absent;
         kept = kept_on (either_lost lost absent) (parts_of o.tiers).drives c d (lost_at lost absent 16 ∙ none_of (is_lost lost 16) (is_lost absent 16) table there)
@@ -113,14 +117,15 @@ module _ {X : Type 0} (shows : TiersView → X → Type 0) (lost : List Bool) (t
 
   -- of the units that the drives hold now
   pub opens_now : (list : List X) (t : TiersView) (now : X) (c : Cells) → (parts_of t).groups ≡ groups → length (parts_of t).drives ≡ count
-      → ((d : ℕ) → is_lost lost d ≡ true → lost_of (parts_of t) d ≡ true) → MissesOne (parts_of t).drives → shows t now → Contains list now → IsPersisted lost (parts_of t).drives c → OpensBut shows lost list groups count c
-  opens_now list t now c groups_are many gone one shown listed kept = record {
+      → ((d : ℕ) → is_lost lost d ≡ true → lost_of (parts_of t) d ≡ true) → MissesOne (parts_of t).drives → shows t now → Contains list now → IsPersisted lost (parts_of t).drives c → HasGroups groups count c → OpensBut shows lost list groups count c
+  opens_now list t now c groups_are many gone one shown listed kept has = record {
     what = now;
     listed = listed;
     tiers = t;
     shown = shown;
     groups_are = groups_are;
     many = many;
+    table = has;
     one = one;
     kept = kept;
     gone = λ d low is. is_lost_in (parts_of t) d (omega (arith, low, many)) (gone d is);
@@ -135,10 +140,10 @@ module _ {X : Type 0} (shows : TiersView → X → Type 0) (lost : List Bool) (t
 
   pub opens_either : (list : List X) (base : Image) (low : ℕ) (drives : List DriveView) (i : Image)
       → ((n : ℕ) → low ≤ n → n ≤ length base.journal → OpensBut shows lost list groups count (after base.cells (flat (take n base.journal))))
-      → ((c : Cells) → IsPersisted lost drives c → OpensBut shows lost list groups count c)
+      → ((c : Cells) → IsPersisted lost drives c → SameTable c (recovered base) → OpensBut shows lost list groups count c)
       → IsBeforeOrNow lost base low drives i → OpensBut shows lost list groups count (recovered i)
   opens_either list base low drives i old now (inl some) = opens_some list base.cells base.journal low i old some
-  opens_either list base low drives i old now (inr (c, matches, kept)) = opens_on list c (recovered i) matches (now c kept)
+  opens_either list base low drives i old now (inr (c, matches, kept, rest)) = opens_on list c (recovered i) matches (now c kept rest)
 
   -- of what a stop leaves
   pub opens_left : {V : Type 0} (seen : V → Image) (may_leave : V → Stop → Image → Type 0) (list : List X) (stop : Stop) (vault : V) (low : ℕ) (i : Image)

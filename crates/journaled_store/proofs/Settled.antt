@@ -13,7 +13,9 @@ use Rattle.vault.proofs.Writes.{same_here}
 use Rattle.history.specs.Entries.{Course}
 use Rattle.unit_store.specs.Views.{DriveView}
 use Rattle.cached_drive.specs.Saving.{Units}
-use Rattle.journaled_store.specs.Steps.{IsPersisted, IsUpToDate, UnlessJournal}
+use Rattle.extent_groups.specs.Groups.{Groups}
+use Rattle.group_form.specs.Form.{HasGroups}
+use Rattle.journaled_store.specs.Steps.{IsPersisted, IsUpToDate, SameTable, UnlessJournal}
 
 -- past the last mark there is none
 pub no_mark : (marks : List Bool) (n : ℕ) → length marks ≤ n → is_some_true (slice_get marks n) ≡ false
@@ -33,7 +35,19 @@ pub live_on : (lost : List Bool) (k : Course Units) (marks : List ℕ) (batch : 
 live_on lost k marks batch c d table same live = record {
   step = record { each = λ n at low on. same_here batch d c (place_at n at) (same (place_at n at) on) ∙ live.step.each n at low on };
   noted = same_here batch d c (place_at 16 0) (same (place_at 16 0) table) ∙ live.noted;
+  rest = λ at. same_here batch d c (place_at 16 (suc at)) (same (place_at 16 (suc at)) table) ∙ (live.rest at ∙ sym (same (place_at 16 (suc at)) table));
 }
+
+-- the same table, where it is on no lost drive
+pub table_on : (lost : List Bool) (c d : Cells) → is_lost lost 16 ≡ false → SameOn lost d c → SameTable d c
+table_on lost c d table same at = same (place_at 16 (suc at)) table
+
+pub tables_on : (b c d : Cells) → SameTable d c → SameTable c b → SameTable d b
+tables_on b c d one two at = one at ∙ two at
+
+-- the groups of the same table
+pub groups_on : (groups : Groups) (count : ℕ) (c d : Cells) → SameTable d c → HasGroups groups count c → HasGroups groups count d
+groups_on groups count c d same has = record { each = λ u low. same u ∙ has.each u low; last = same 1024 ∙ has.last }
 
 pub kept_on : (lost : List Bool) (drives : List DriveView) (c d : Cells) → is_lost lost 16 ≡ false → SameOn lost d c → IsPersisted lost drives c → IsPersisted lost drives d
 kept_on lost drives c d table same kept = record {

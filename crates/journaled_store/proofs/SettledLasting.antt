@@ -17,17 +17,18 @@ use Rattle.vault.specs.Images.{Image, SameOn, Matches, flat, is_lost, is_some_tr
 use Rattle.vault.specs.Moments.{AreLogged, IsLogged, LeavesOnly}
 use Rattle.vault.specs.declared.store.Stop.{Stop}
 use Rattle.vault.specs.declared.store.Stop.TheVariants.{Killed}
-use Rattle.journaled_store.specs.Steps.{IsBeforeOrNow, IsPersisted, IsUpToDate, UnlessFailed}
+use Rattle.group_form.specs.Form.{HasGroups}
+use Rattle.journaled_store.specs.Steps.{IsBeforeOrNow, IsPersisted, IsUpToDate, SameTable, UnlessFailed}
 use Rattle.journaled_store.specs.Left.{MissesOne}
 use Rattle.journaled_store.specs.Outlasting.{OpensAs, OpensBut, Outlasts, OutlastsSince, Point, Works, allowed, parts_of}
 use Rattle.journaled_store.proofs.Lasting.{Published, allowed_has, allowed_within, at_moment, begun, either, old_as, run, works_before}
 use Rattle.journaled_store.proofs.Opening.{alone, opens_as, opens_now, opens_on}
-use Rattle.journaled_store.proofs.Settled.{kept_on, live_on, no_mark}
+use Rattle.journaled_store.proofs.Settled.{groups_on, kept_on, live_on, no_mark, table_on}
 
 -- of fewer drives less is said
 module _ (lost more : List Bool) (sub : (d : ℕ) → is_lost more d ≡ false → is_lost lost d ≡ false) where
   live_wider : (k : Course Units) (marks : List ℕ) (batch : List Intended) (c : Cells) → IsUpToDate lost k marks batch c → IsUpToDate more k marks batch c
-  live_wider k marks batch c live = record { step = record { each = λ d at low on. live.step.each d at low (sub d on) }; noted = live.noted }
+  live_wider k marks batch c live = record { step = record { each = λ d at low on. live.step.each d at low (sub d on) }; noted = live.noted; rest = live.rest }
 
   kept_wider : (drives : List DriveView) (c : Cells) → IsPersisted lost drives c → IsPersisted more drives c
   kept_wider drives c kept = record { has = record { each = λ d at v there on. kept.has.each d at v there (sub d on) }; marks = kept.marks; noted = kept.noted; reported = kept.reported }
@@ -117,15 +118,23 @@ module _ {V X : Type 0} (shows : TiersView → X → Type 0) (known : V → Type
     kept_mid : IsPersisted marks (parts_of m.tiers).drives (recovered (seen m.vault))
     kept_mid = kept_wider w.lost marks sub (parts_of m.tiers).drives (recovered (seen m.vault)) (kept out.is_known w.lost (λ is. w.live))
 
-    now_opens : (stop : Stop) (c : Cells) → IsPersisted marks (parts_of m.tiers).drives c → OpensBut shows marks (allowed stop more_killed more_cut) groups_now many_now c
-    now_opens stop c has =
+    rest_mid : SameTable (recovered (seen m.vault)) (recovered (seen p.vault))
+    rest_mid = f.rest out.is_known w.lost (λ is. w.live) on
+
+    groups_mid : HasGroups groups_now many_now (recovered (seen m.vault))
+    groups_mid = subst (λ (t : TiersView). HasGroups (parts_of t).groups (length (parts_of t).drives) (recovered (seen m.vault))) (sym f.tiers)
+        (groups_on (parts_of p.tiers).groups (length (parts_of p.tiers).drives) (recovered (seen p.vault)) (recovered (seen m.vault)) rest_mid w.table)
+
+    now_opens : (stop : Stop) (c : Cells) → IsPersisted marks (parts_of m.tiers).drives c → SameTable c (recovered (seen m.vault)) → OpensBut shows marks (allowed stop more_killed more_cut) groups_now many_now c
+    now_opens stop c has rest =
         opens_now shows marks table_at groups_now many_now (allowed stop more_killed more_cut) m.tiers now c refl refl (gone_are marks long (lost_of (parts_of m.tiers)) are) one
         (subst (λ (t : TiersView). shows t now) (sym f.tiers) shown) (allowed_has stop more_killed more_cut now kc.has_now cc.has_now) has
+        (groups_on groups_now many_now (recovered (seen m.vault)) c rest groups_mid)
 
     matches_as : (stop : Stop) (i : Image) → Matches marks (recovered (seen m.vault)) i → OpensAs shows (allowed stop more_killed more_cut) groups_now many_now (recovered i)
     matches_as stop i matches =
         opens_as shows marks table_at groups_now many_now (allowed stop more_killed more_cut) (recovered i)
-        (opens_on shows marks table_at groups_now many_now (allowed stop more_killed more_cut) (recovered (seen m.vault)) (recovered i) matches (now_opens stop (recovered (seen m.vault)) kept_mid))
+        (opens_on shows marks table_at groups_now many_now (allowed stop more_killed more_cut) (recovered (seen m.vault)) (recovered i) matches (now_opens stop (recovered (seen m.vault)) kept_mid (λ at. refl)))
 
     first : (stop : Stop) → LeavesOnly moment left_since stop p.vault m.vault (IsBeforeOrNow w.lost (seen p.vault) (w.low stop) (parts_of p.tiers).drives)
     first stop = run shows known seen may_leave moment left_since counts_now only_now p m now shown one_was f killed cut more_killed more_cut out kc cc works stop
@@ -157,12 +166,15 @@ module _ {V X : Type 0} (shows : TiersView → X → Type 0) (known : V → Type
         gone = gone_are marks long (lost_of (parts_of m.tiers)) are;
         live = live_on marks m.keeper m.noted m.batch (recovered (seen m.vault)) (recovered (seen vault)) table_at (units known_mid all_mid ok)
             (live_wider w.lost marks sub m.keeper m.noted m.batch (recovered (seen m.vault)) (f.step out.is_known w.lost (λ is. w.live) on));
+        table = groups_on groups_now many_now (recovered (seen m.vault)) (recovered (seen vault))
+            (table_on marks (recovered (seen m.vault)) (recovered (seen vault)) table_at (units known_mid all_mid ok)) groups_mid;
         low = λ stop. length (seen vault).journal;
         logged = logged known_mid all_mid ok;
         all = refl;
         opens = λ stop n least most. subst (λ b. OpensBut shows marks (allowed stop more_killed more_cut) groups_now many_now (after (seen vault).cells (flat b))) (sym (take_all n (seen vault).journal least))
             (now_opens stop (recovered (seen vault))
-            (kept_on marks (parts_of m.tiers).drives (recovered (seen m.vault)) (recovered (seen vault)) table_at (units known_mid all_mid ok) kept_mid));
+            (kept_on marks (parts_of m.tiers).drives (recovered (seen m.vault)) (recovered (seen vault)) table_at (units known_mid all_mid ok) kept_mid)
+            (table_on marks (recovered (seen m.vault)) (recovered (seen vault)) table_at (units known_mid all_mid ok)));
       };
     }
 
@@ -187,18 +199,20 @@ pub settled_begins : {V X : Type 0} (shows : TiersView → X → Type 0) (known 
     → (q : Point V) (now : X) → shows q.tiers now → MissesOne (parts_of q.tiers).drives
     → (marks : List Bool) → length marks ≡ 16 → ((d : ℕ) → d < 16 → slice_index_or marks d true ≡ lost_of (parts_of q.tiers) d)
     → known q.vault → IsUpToDate marks q.keeper q.noted q.batch (recovered (seen q.vault)) → AreLogged seen may_leave marks q.vault
-    → IsPersisted marks (parts_of q.tiers).drives (recovered (seen q.vault)) → Outlasts shows known seen may_leave q (now ∷ []) (now ∷ [])
-settled_begins shows known seen may_leave moment left_since counts_now only_now q now shown one marks long are is_known live logged kept =
+    → IsPersisted marks (parts_of q.tiers).drives (recovered (seen q.vault)) → HasGroups (parts_of q.tiers).groups (length (parts_of q.tiers).drives) (recovered (seen q.vault))
+    → Outlasts shows known seen may_leave q (now ∷ []) (now ∷ [])
+settled_begins shows known seen may_leave moment left_since counts_now only_now q now shown one marks long are is_known live logged kept table =
     begun shows known seen may_leave moment left_since counts_now only_now q (now ∷ []) (now ∷ []) is_known (record {
       lost = marks;
       few = past_all marks long (lost_of (parts_of q.tiers)) are;
       gone = gone_are marks long (lost_of (parts_of q.tiers)) are;
       live = live;
+      table = table;
       low = λ stop. length (seen q.vault).journal;
       logged = logged;
       all = refl;
       opens = λ stop n least most. subst (λ b. OpensBut shows marks (allowed stop (now ∷ []) (now ∷ [])) (parts_of q.tiers).groups (length (parts_of q.tiers).drives) (after (seen q.vault).cells (flat b)))
           (sym (take_all n (seen q.vault).journal least))
           (opens_now shows marks (past_all marks long (lost_of (parts_of q.tiers)) are 16 (omega arith)) (parts_of q.tiers).groups (length (parts_of q.tiers).drives) (allowed stop (now ∷ []) (now ∷ []))
-          q.tiers now (recovered (seen q.vault)) refl refl (gone_are marks long (lost_of (parts_of q.tiers)) are) one shown (allowed_has stop (now ∷ []) (now ∷ []) now (alone now) (alone now)) kept);
+          q.tiers now (recovered (seen q.vault)) refl refl (gone_are marks long (lost_of (parts_of q.tiers)) are) one shown (allowed_has stop (now ∷ []) (now ∷ []) now (alone now) (alone now)) kept table);
     })

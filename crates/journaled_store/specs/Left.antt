@@ -2,6 +2,7 @@
 use Rattle.std.specs.Prelude.{◌≡◌, ◌⊎◌, ◌<◌, ℕ, Bool, true, Some, List, length, slice_get, slice_index, slice_index_or}
 use Rattle.extent_groups.specs.Groups.{Groups}
 use Rattle.extent_groups.specs.Cells.{Cells}
+use Rattle.group_form.specs.Form.{HasGroups}
 use Rattle.unit_store.specs.Views.{DriveView}
 use Rattle.slot_tables.specs.Views.{key_at}
 use Rattle.tiered_array.specs.Matches.{RepresentsTiers}
@@ -35,14 +36,15 @@ pub record HasBoth (tiers : TiersView) (what : Shown) : Type 0 where
   pub holds : Holds tiers what.bytes
   pub keys_are : (block : ℕ) → slice_index what.keys block ≡ key_at tiers.world.array block
 
--- The units of a vault are those of an array that showed this, with these groups and as many drives. What an array shows is given:
--- its bytes (`Holds`), its block map (`HasKeys`), or both (`HasBoth`). Of some drives the vault may have other units, and each of these is absent
--- now or was lost. No two drives of the array were.
+-- The units of a vault are those of an array that showed this, with these groups and as many drives, which the vault's table has. What an
+-- array shows is given: its bytes (`Holds`), its block map (`HasKeys`), or both (`HasBoth`). Of some drives the vault may have other units, and
+-- each of these is absent now or was lost. No two drives of the array were.
 pub record IsLeftOf {X : Type 0} (shows : TiersView → X → Type 0) (what : X) (groups : Groups) (count : ℕ) (absent : List Bool) (c : Cells) : Type 0 where
   pub tiers : TiersView
   pub shown : shows tiers what
   pub groups_are : tiers.world.array.parts.groups ≡ groups
   pub many : length tiers.world.array.parts.drives ≡ count
+  pub table : HasGroups groups count c
   pub one : MissesOne tiers.world.array.parts.drives
   pub lost : List Bool
   pub kept : IsPersisted lost tiers.world.array.parts.drives c

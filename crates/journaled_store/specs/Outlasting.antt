@@ -2,6 +2,7 @@
 use Rattle.std.specs.Prelude.{◌≡◌, ◌<◌, ◌≤◌, ℕ, Bool, true, false, List, length, take, Contains}
 use Rattle.extent_groups.specs.Groups.{Groups}
 use Rattle.extent_groups.specs.Cells.{Cells}
+use Rattle.group_form.specs.Form.{HasGroups}
 use Rattle.extent_groups.specs.Planned.{Intended, after}
 use Rattle.unit_store.specs.Views.{PartsView, lost_of}
 use Rattle.tiered_array.specs.Views.{TiersView}
@@ -37,6 +38,7 @@ pub record OpensBut {X : Type 0} (shows : TiersView → X → Type 0) (lost : Li
   pub shown : shows tiers what
   pub groups_are : tiers.world.array.parts.groups ≡ groups
   pub many : length tiers.world.array.parts.drives ≡ count
+  pub table : HasGroups groups count c
   pub one : MissesOne tiers.world.array.parts.drives
   pub kept : IsPersisted lost tiers.world.array.parts.drives c
   pub gone : (d : ℕ) → d < count → is_lost lost d ≡ true → IsLostIn tiers.world.array.parts.drives d
@@ -70,6 +72,8 @@ pub record Works {V X : Type 0} (shows : TiersView → X → Type 0) (seen : V �
   pub few : (d : ℕ) → 16 ≤ d → is_lost lost d ≡ false
   pub gone : (d : ℕ) → is_lost lost d ≡ true → lost_of (parts_of p.tiers) d ≡ true
   pub live : IsUpToDate lost p.keeper p.noted p.batch (recovered (seen p.vault))
+  -- the vault's table has the array's groups
+  pub table : HasGroups (parts_of p.tiers).groups (length (parts_of p.tiers).drives) (recovered (seen p.vault))
   pub low : Stop → ℕ
   pub logged : (stop : Stop) → IsLogged seen may_leave lost stop p.vault (low stop)
   -- a killed process leaves all batches

@@ -68,10 +68,15 @@ HasMarksAfter marks batch c = after c batch 16 0 ≡ Some marks
 pub record HasMarks (drives : List DriveView) (marks : List ℕ) : Type 0 where
   pub each : (d : ℕ) (v : DriveView) → slice_get drives d ≡ Some v → slice_get marks d ≡ Some (mark_of v.lost)
 
--- a vault's units and a batch are in step with the drives' saves, and have these marks
+-- the table has the same units but for its marks
+abbrev pub SameTable : Cells → Cells → Type 0
+SameTable c d = (at : ℕ) → c 16 (suc at) ≡ d 16 (suc at)
+
+-- a vault's units and a batch are in step with the drives' saves, and have these marks; of the table the batch writes no other unit
 pub record IsUpToDate (lost : List Bool) (k : Course Units) (marks : List ℕ) (batch : List Intended) (c : Cells) : Type 0 where
   pub step : IsInStep lost k batch c
   pub noted : HasMarksAfter marks batch c
+  pub rest : SameTable (after c batch) c
 
 -- units of a vault that has all that an array's drives hold, and which of them are lost
 pub record IsPersisted (lost : List Bool) (drives : List DriveView) (c : Cells) : Type 0 where
@@ -80,10 +85,11 @@ pub record IsPersisted (lost : List Bool) (drives : List DriveView) (c : Cells) 
   pub noted : c 16 0 ≡ Some marks
   pub reported : HasMarks drives marks
 
--- what a stop leaves: the units of after the first batches of a journal, `low` of them at least, or what the drives hold now
+-- what a stop leaves: the units of after the first batches of a journal, `low` of them at least, or what the drives hold now, with the
+-- table of before but for its marks
 abbrev pub IsBeforeOrNow : List Bool → Image → ℕ → List DriveView → Image → Type 0
 IsBeforeOrNow lost base low drives i = RepresentsSome lost base.cells low base.journal i
-    ⊎ ((c : Cells) × Matches lost c i × IsPersisted lost drives c)
+    ⊎ ((c : Cells) × Matches lost c i × IsPersisted lost drives c × SameTable c (recovered base))
 
 -- what a vault's refusal means for a store
 abbrev pub fault_of : VaultError → StoreFault
@@ -104,11 +110,12 @@ UnlessSync (Err StoreFault.Memory) P = P
 abbrev pub UnlessFailed : Bool → Type 0 → Type 0
 UnlessFailed failed P = failed ≡ false → P
 
--- the journal is empty, and each stop leaves all that the drives hold
-pub record IsEmptied {V : Type 0} (seen : V → Image) (may_leave : V → Stop → Image → Type 0) (lost : List Bool) (vault : V) (drives : List DriveView) : Type 0 where
+-- the journal is empty, and each stop leaves all that the drives hold, with the table of before but for its marks
+pub record IsEmptied {V : Type 0} (seen : V → Image) (may_leave : V → Stop → Image → Type 0) (lost : List Bool) (before : Cells) (vault : V) (drives : List DriveView) : Type 0 where
   pub empty : (seen vault).journal ≡ []
   pub durable : AreLogged seen may_leave lost vault
   pub kept : IsPersisted lost drives (recovered (seen vault))
+  pub rest : SameTable (recovered (seen vault)) before
 
 -- a call says that the journal failed
 abbrev pub is_sync : Result (Unit {0}) StoreFault → Bool

@@ -7,7 +7,7 @@ ghost use Rattle.vault.specs.Images.{Image, Matches, recovered};
 ghost use Rattle.vault.specs.Moments.{LeavesOnly, IsLogged, RepresentsSome};
 ghost use Rattle.vault.specs.declared.store.Stop.{Stop};
 ghost use Rattle.vault.specs.declared.store.Stop.TheVariants.{Killed};
-ghost use Rattle.journaled_store.specs.Steps.{HasDrives, HasMarks, IsBeforeOrNow, IsInStep, IsPersisted, IsUpToDate, HasMarksAfter, UnlessSync, fault_of};
+ghost use Rattle.journaled_store.specs.Steps.{HasDrives, HasMarks, IsBeforeOrNow, IsInStep, IsPersisted, IsUpToDate, HasMarksAfter, SameTable, UnlessSync, fault_of};
 
 use crate::append::append;
 use crate::changes::{Changes, note_lost};
@@ -37,6 +37,7 @@ pub(crate) fn collect<N: Chronicle>(
     ensures step { (lost : List Bool) (c : Cells) → IsInStep lost changes.old.keeper changes.old.batch c
         → IsInStep lost changes.new.keeper changes.new.batch c }
     ensures noted { (c : Cells) → HasMarksAfter changes.old.noted changes.old.batch c → HasMarksAfter changes.new.noted changes.new.batch c }
+    ensures rest { (c : Cells) → SameTable (after c changes.new.batch) (after c changes.old.batch) }
     ensures has { result ≡ true → (lost : List Bool) (c : Cells) → IsInStep lost changes.old.keeper changes.old.batch c
         → HasDrives lost store.old.tiers.world.array.parts.drives (after c changes.new.batch) }
     ensures marks { result ≡ true → HasMarks store.old.tiers.world.array.parts.drives changes.new.noted }
@@ -65,6 +66,8 @@ pub fn publish<N: Chronicle, V: Vault>(
     ensures same { (store.new.tiers ≡ store.old.tiers) × (store.new.size ≡ store.old.size) × (store.new.unsynced ≡ store.old.unsynced) }
     ensures step { V.known vault.old → (lost : List Bool) → IsUpToDate lost changes.old.keeper changes.old.noted changes.old.batch (recovered (V.seen vault.old))
         → UnlessSync result (IsUpToDate lost changes.new.keeper changes.new.noted changes.new.batch (recovered (V.seen vault.new))) }
+    ensures rest { V.known vault.old → (lost : List Bool) → IsUpToDate lost changes.old.keeper changes.old.noted changes.old.batch (recovered (V.seen vault.old))
+        → UnlessSync result (SameTable (recovered (V.seen vault.new)) (recovered (V.seen vault.old))) }
 
     // A kill after Ok leaves all that the drives hold, and which are lost. A loss of power leaves as many batches as it left before.
     ensures kept { V.known vault.old → (lost : List Bool) → IsUpToDate lost changes.old.keeper changes.old.noted changes.old.batch (recovered (V.seen vault.old))

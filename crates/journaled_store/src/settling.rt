@@ -10,6 +10,7 @@ ghost use Rattle.vault.specs.Images.{Image, SameOn, Matches, recovered};
 ghost use Rattle.vault.specs.Moments.{AreLogged, LeavesOnly, IsLogged};
 ghost use Rattle.vault.specs.declared.store.Stop.{Stop};
 ghost use Rattle.journaled_store.specs.Steps.{IsBeforeOrNow, IsEmptied, IsPersisted, IsUpToDate, UnlessFailed, UnlessJournal};
+ghost use Rattle.group_form.specs.Form.{HasGroups};
 ghost use Rattle.journaled_store.specs.Left.{HasBoth};
 ghost use Rattle.journaled_store.specs.Outlasting.{Outlasts, OutlastsSince, point};
 
@@ -70,7 +71,7 @@ impl<N: Chronicle, V: Vault + Drop> JournaledStore<N, V> {
             (IsUpToDate self.new.changes.lost self.old.changes.keeper self.old.changes.noted self.old.changes.batch (recovered (V.seen self.old.vault)))
             → (low : Stop → ℕ) → ((stop : Stop) → UnlessFailed self.old.failed
             (IsLogged V.seen V.may_leave self.new.changes.lost stop self.old.vault (low stop)))
-            → OnOk result (IsEmptied V.seen V.may_leave self.new.changes.lost self.new.vault self.old.store.tiers.world.array.parts.drives) }
+            → OnOk result (IsEmptied V.seen V.may_leave self.new.changes.lost (recovered (V.seen self.old.vault)) self.new.vault self.old.store.tiers.world.array.parts.drives) }
         ensures step { V.known self.old.vault
             → UnlessFailed self.old.failed
             (IsUpToDate self.new.changes.lost self.old.changes.keeper self.old.changes.noted self.old.changes.batch (recovered (V.seen self.old.vault)))
@@ -90,9 +91,10 @@ impl<N: Chronicle, V: Vault + Drop> JournaledStore<N, V> {
             → (stop : Stop) → LeavesOnly V.moment V.left_since stop self.old.vault self.new.vault
             (IsBeforeOrNow self.new.changes.lost (V.seen self.old.vault) (low stop) self.old.store.tiers.world.array.parts.drives) }
 
-        // After Ok any stop leaves what the store shows, also where drives that were absent when the array was opened are lost only
-        // since.
+        // After Ok any stop leaves what the store shows, if the table has the array's groups, also where drives that were absent when
+        // the array was opened are lost only since.
         ensures begins { V.known self.old.vault → (what : Shown) → HasBoth self.old.store.tiers what
+            → HasGroups self.old.store.tiers.world.array.parts.groups (length self.old.store.tiers.world.array.parts.drives) (recovered (V.seen self.old.vault))
             → UnlessFailed self.old.failed
             (IsUpToDate self.new.changes.lost self.old.changes.keeper self.old.changes.noted self.old.changes.batch (recovered (V.seen self.old.vault)))
             → (low : Stop → ℕ) → ((stop : Stop) → UnlessFailed self.old.failed

@@ -10,7 +10,7 @@ ghost use Rattle.vault.specs.Images.{Image, recovered};
 ghost use Rattle.vault.specs.Moments.{LeavesOnly, IsLogged, RepresentsSome};
 ghost use Rattle.vault.specs.declared.store.Stop.{Stop};
 ghost use Rattle.vault.specs.declared.store.Stop.TheVariants.{Killed};
-ghost use Rattle.journaled_store.specs.Steps.{IsBeforeOrNow, IsPersisted, IsUpToDate, UnlessFailed, is_sync};
+ghost use Rattle.journaled_store.specs.Steps.{IsBeforeOrNow, IsPersisted, IsUpToDate, SameTable, UnlessFailed, is_sync};
 ghost use Rattle.journaled_store.specs.Left.{HasBoth, HasKeys, IsOneLost, MissesOne};
 ghost use Rattle.journaled_store.specs.Outlasting.{Outlasts, OutlastsSince, Works, point};
 
@@ -139,6 +139,10 @@ impl<N: Chronicle, V: Vault + Drop> JournaledStore<N, V> {
             (recovered (V.seen self.old.vault)))
             → UnlessFailed self.new.failed (IsUpToDate lost self.new.changes.keeper self.new.changes.noted self.new.changes.batch
             (recovered (V.seen self.new.vault))) }
+        ensures rest { V.known self.old.vault → (lost : List Bool)
+            → UnlessFailed self.old.failed (IsUpToDate lost self.old.changes.keeper self.old.changes.noted self.old.changes.batch
+            (recovered (V.seen self.old.vault)))
+            → UnlessFailed self.new.failed (SameTable (recovered (V.seen self.new.vault)) (recovered (V.seen self.old.vault))) }
         ensures killed { V.known self.old.vault → (lost : List Bool)
             → UnlessFailed self.old.failed (IsLogged V.seen V.may_leave lost Killed self.old.vault (length (Image.journal (V.seen self.old.vault))))
             → UnlessFailed self.new.failed (IsLogged V.seen V.may_leave lost Killed self.new.vault (length (Image.journal (V.seen self.new.vault)))) }
@@ -195,6 +199,10 @@ impl<N: Chronicle, V: Vault + Drop> JournaledStore<N, V> {
             (recovered (V.seen self.old.vault)))
             → UnlessFailed self.new.failed (IsUpToDate lost self.new.changes.keeper self.new.changes.noted self.new.changes.batch
             (recovered (V.seen self.new.vault))) }
+        ensures rest { V.known self.old.vault → (lost : List Bool)
+            → UnlessFailed self.old.failed (IsUpToDate lost self.old.changes.keeper self.old.changes.noted self.old.changes.batch
+            (recovered (V.seen self.old.vault)))
+            → UnlessFailed self.new.failed (SameTable (recovered (V.seen self.new.vault)) (recovered (V.seen self.old.vault))) }
         ensures killed { V.known self.old.vault → (lost : List Bool)
             → UnlessFailed self.old.failed (IsLogged V.seen V.may_leave lost Killed self.old.vault (length (Image.journal (V.seen self.old.vault))))
             → UnlessFailed self.new.failed (IsLogged V.seen V.may_leave lost Killed self.new.vault (length (Image.journal (V.seen self.new.vault)))) }

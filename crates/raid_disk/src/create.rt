@@ -2,18 +2,22 @@
 use crate::disk_files::DiskFiles;
 use crate::folder::{Folder, Name};
 use crate::identity::new_identity;
-use crate::opened::{file_bytes, header_of, layout_of};
+use crate::opened::{DiskVault, file_bytes, groups_of, header_of, layout_of};
+use crate::pairs::{Pair, Pairs, join_pairs};
 use crate::table::text_of;
 use crate::trouble::{Trouble, unwritten};
 use disk_shape::{Plan, plan_disk};
+use extents::DRIVES;
 use file_vault::{
-    FileVault, Header, JOURNAL, Layout, RealFiles, SECOND, Twin, TwinFiles, write_header,
+    FileVault, Layout, RealFiles, StampedFiles, TABLE_FILE, TABLE_SECOND, Twin, write_header,
 };
+use group_form::write_groups;
+use std::alloc::Global;
 use std::fs::{self, File, OpenOptions};
 use std::io;
 use std::io::Write;
 use uuid::Uuid;
-use vault::TABLE;
+use vault::{Batch, TABLE, keep, settle};
 
 // Opens a file that isn't there, for reading too.
 fn make_file(rt: &HostRuntime, folder: Folder<'_>, name: Name) -> Result<File, Trouble> {
@@ -30,7 +34,7 @@ fn make_file(rt: &HostRuntime, folder: Folder<'_>, name: Name) -> Result<File, T
     }
 }
 
-// Makes a file of zeros, which are a drive's blank units, no lost drives, and an empty journal.
+// Makes a file of zeros, over which a vault writes blank units, no lost drives, and an empty journal.
 fn make_zeros(
     rt: &HostRuntime,
     folder: Folder<'_>,
@@ -80,9 +84,13 @@ fn is_there(rt: &HostRuntime, folder: Folder<'_>, name: Name) -> Result<bool, Tr
 // Refuses a folder that has a file of a disk.
 fn look(rt: &HostRuntime, folder: Folder<'_>, drives: u8) -> Result<(), Trouble> {
     for name in [
+        Name::Places,
         Name::Table,
+        Name::TableCopy,
         Name::Fresh,
-        Name::State,
+        Name::OneState,
+        Name::State(Twin::First),
+        Name::State(Twin::Second),
         Name::OneJournal,
         Name::Journal(Twin::First),
         Name::Journal(Twin::Second),
@@ -99,7 +107,7 @@ fn look(rt: &HostRuntime, folder: Folder<'_>, drives: u8) -> Result<(), Trouble>
     Ok(())
 }
 
-// Makes the files of the drives and the state, and both of the journal.
+// Makes the files of the drives, and both of the state and of the journal.
 fn make_files(
     rt: &HostRuntime,
     folder: Folder<'_>,
@@ -111,12 +119,15 @@ fn make_files(
         let bytes = file_bytes(layout, drive);
         files.put(drive, make_zeros(rt, folder, Name::Drive(drive), bytes)?)?;
     }
-    let bytes = file_bytes(layout, TABLE);
-    files.put(TABLE, make_zeros(rt, folder, Name::State, bytes)?)?;
-    let bytes = file_bytes(layout, JOURNAL);
-    for twin in [Twin::First, Twin::Second] {
-        let file = make_zeros(rt, folder, Name::Journal(twin), bytes)?;
-        files.put(twin.number(), file)?;
+    for pair in [Pair::State, Pair::Journal] {
+        let bytes = match pair {
+            Pair::State => TABLE_FILE,
+            Pair::Journal => file_bytes(layout, pair.number(Twin::First)),
+        };
+        for twin in [Twin::First, Twin::Second] {
+            let file = make_zeros(rt, folder, pair.name(twin), bytes)?;
+            files.put(pair.number(twin), file)?;
+        }
     }
     Ok(files)
 }
@@ -128,7 +139,7 @@ fn mark_files(
     identity: Uuid,
     drives: u8,
 ) -> Result<(), Trouble> {
-    for number in 0..SECOND + 1 {
+    for number in 0..TABLE_SECOND + 1 {
         if number < drives || number >= TABLE {
             if write_header(files, &header_of(layout, number, identity.into_bytes())).is_err() {
                 return Err(Trouble::Unwritten(number));
@@ -138,7 +149,19 @@ fn mark_files(
     Ok(())
 }
 
-// Writes the table under its first name, and renames it once all else is durable.
+// Writes the table's copy, once all that was made is durable.
+fn make_copy(rt: &HostRuntime, folder: Folder<'_>, text: &str) -> Result<(), Trouble> {
+    if let Err(error) = folder.sync(rt) {
+        return Err(unwritten(error, Name::Folder));
+    }
+    let mut file = make_file(rt, folder, Name::TableCopy)?;
+    match written(&mut file, text) {
+        Ok(()) => Ok(()),
+        Err(error) => Err(unwritten(error, Name::TableCopy)),
+    }
+}
+
+// Writes the table's copy, and the table under its first name, and renames it once all else is durable.
 fn make_table(
     rt: &HostRuntime,
     folder: Folder<'_>,
@@ -146,6 +169,7 @@ fn make_table(
     plan: &Plan,
 ) -> Result<(), Trouble> {
     let text = text_of(rt.alloc(), identity, plan)?;
+    make_copy(rt, folder, &text)?;
     let mut file = make_file(rt, folder, Name::Fresh)?;
     if let Err(error) = written(&mut file, &text) {
         return Err(unwritten(error, Name::Fresh));
@@ -164,6 +188,44 @@ fn make_table(
     }
 }
 
+// Writes the places of drives' files, if some were given.
+fn make_places(rt: &HostRuntime, folder: Folder<'_>) -> Result<(), Trouble> {
+    if folder.places.is_empty() {
+        return Ok(());
+    }
+    let text = drive_places::text_of(rt.alloc(), folder.places)?;
+    let mut file = make_file(rt, folder, Name::Places)?;
+    match written(&mut file, &text) {
+        Ok(()) => Ok(()),
+        Err(error) => Err(unwritten(error, Name::Places)),
+    }
+}
+
+// Makes the entries of the folders durable in which the drives' files are.
+fn sync_places(rt: &HostRuntime, folder: Folder<'_>, drives: u8) -> Result<(), Trouble> {
+    for drive in 0..drives {
+        if let Err(error) = folder.sync_above(rt, Name::Drive(drive)) {
+            return Err(unwritten(error, Name::Drive(drive)));
+        }
+    }
+    Ok(())
+}
+
+// Puts the groups of a new disk into its vault's table.
+fn write_table(alloc: Global, vault: DiskVault, plan: &Plan) -> Result<(), Trouble> {
+    let mut vault = vault;
+    let (groups, _extents) = groups_of(alloc, plan)?;
+    let mut batch = Batch::new(alloc);
+    write_groups(alloc, &mut batch, &groups, plan.drives)?;
+    if let Err(error) = keep(&mut vault, &batch) {
+        return Err(Trouble::Vault(error));
+    }
+    match settle(&mut vault, &mut batch, &[false; DRIVES]) {
+        Ok(()) => Ok(()),
+        Err(error) => Err(Trouble::Vault(error)),
+    }
+}
+
 /// Makes a disk of `size` bytes, all zero, in blocks of `block` bytes. What an attempt that failed or was stopped has made stays, and
 /// is in the way of the next one.
 pub(crate) fn create_disk(
@@ -177,6 +239,9 @@ pub(crate) fn create_disk(
         Ok(plan) => plan,
         Err(fault) => return Err(Trouble::Shape(fault)),
     };
+    if folder.places.len() > usize::from(drives) {
+        return Err(Trouble::Places);
+    }
     let number = new_identity(rt)?;
     let identity = Uuid::from_bytes(number);
     let layout = layout_of(&plan);
@@ -187,12 +252,16 @@ pub(crate) fn create_disk(
         looks: false,
     };
     mark_files(&mut files, &layout, identity, drives)?;
-    let Ok(twins) = TwinFiles::open(files) else {
-        return Err(Trouble::NoJournal);
+    let mut pairs = Pairs::new();
+    let Ok(files) = StampedFiles::open(join_pairs(files, &mut pairs)?) else {
+        return Err(Trouble::NoState);
     };
-    if let Err((error, _files)) = FileVault::create(rt.alloc(), twins, layout) {
-        return Err(Trouble::Vault(error));
+    match FileVault::create(rt.alloc(), files, layout) {
+        Ok(vault) => write_table(rt.alloc(), vault, &plan)?,
+        Err((error, _files)) => return Err(Trouble::Vault(error)),
     }
+    make_places(rt, folder)?;
+    sync_places(rt, folder, drives)?;
     make_table(rt, folder, identity, &plan)?;
     Ok(0)
 }

@@ -3,10 +3,16 @@
 
 mod create;
 mod disk_files;
+mod drawing;
+mod drives;
 mod folder;
 mod identity;
-mod journals;
+mod mending;
+mod notes;
 mod opened;
+mod pairs;
+mod places;
+mod progress;
 mod replace;
 mod scrub;
 mod serve;
@@ -30,7 +36,7 @@ const WRONG_WORDS: u8 = 2;
 fn main(rt: HostRuntime) -> ExitCode {
     let words = match words_of(&rt) {
         Ok(words) => words,
-        Err(error) => return ended(&rt, Err(Trouble::of_words(error)), Folder { name: "" }),
+        Err(error) => return ended(&rt, Err(Trouble::of_words(error)), named("")),
     };
     match matches_of(rt.alloc(), &words) {
         Ok(matches) => run(&rt, &matches),
@@ -41,11 +47,21 @@ fn main(rt: HostRuntime) -> ExitCode {
 // Prints what clap says of the words, and ends with its status.
 fn refused(rt: &HostRuntime, error: &clap::Error) -> ExitCode {
     if error.kind() == clap::error::ErrorKind::OutOfMemory {
-        return ended(rt, Err(Trouble::Memory), Folder { name: "" });
+        return ended(rt, Err(Trouble::Memory), named(""));
     }
     // Nothing is left to do where the text can't be written.
     let _ = error.print(rt);
     ExitCode::from(if error.use_stderr() { WRONG_WORDS } else { 0 })
+}
+
+// A folder of which nothing but the name is known.
+fn named(name: &str) -> Folder<'_> {
+    Folder {
+        name,
+        places: &[],
+        others: &[],
+        without: None,
+    }
 }
 
 // Ends with a status, or says what is wrong and ends with its status.
@@ -68,15 +84,73 @@ fn run<'w>(rt: &HostRuntime, matches: &ArgMatches<'w>) -> ExitCode {
     let Some(name) = given.get_str("folder") else {
         return ExitCode::from(WRONG_WORDS);
     };
-    let folder = Folder { name };
-    let done = match verb {
+    match places::owned(rt, given.get_strs("drive")) {
+        Ok(paths) => run_placed(rt, verb, given, name, &paths),
+        Err(trouble) => ended(rt, Err(trouble), named(name)),
+    }
+}
+
+// Does what the words ask for, with these paths of drives' files.
+fn run_placed<'w>(
+    rt: &HostRuntime,
+    verb: &str,
+    given: &ArgMatches<'w>,
+    name: &str,
+    paths: &[String],
+) -> ExitCode {
+    let found = match verb {
+        "create" => places::places_from(rt, paths),
+        _ => places::read_places(rt, named(name)),
+    };
+    let places = match found {
+        Ok(places) => places,
+        Err(trouble) => return ended(rt, Err(trouble), named(name)),
+    };
+    let folder = Folder {
+        name,
+        places: &places,
+        others: paths,
+        without: None,
+    };
+    ended(rt, carry_out(rt, verb, given, folder), folder)
+}
+
+// Carries out a command. Where a drive's file fails while it is read, the command is tried once more without that drive.
+fn carry_out<'w>(
+    rt: &HostRuntime,
+    verb: &str,
+    given: &ArgMatches<'w>,
+    folder: Folder<'_>,
+) -> Result<u8, Trouble> {
+    let done = carry_out_once(rt, verb, given, folder);
+    let failed = match &done {
+        Err(trouble) => trouble.failed_drive(),
+        Ok(_) => None,
+    };
+    let number = given.get_one::<u8>("number");
+    match verb {
+        "create" => done,
+        "replace" if failed != number => done,
+        _ if failed.is_some() => carry_out_once(rt, verb, given, folder.without(failed)),
+        _ => done,
+    }
+}
+
+// Carries out a command.
+fn carry_out_once<'w>(
+    rt: &HostRuntime,
+    verb: &str,
+    given: &ArgMatches<'w>,
+    folder: Folder<'_>,
+) -> Result<u8, Trouble> {
+    match verb {
         "create" => create_from(rt, given, folder),
         "serve" => serve_from(rt, given, folder),
         "replace" => replace_from(rt, given, folder),
-        "scrub" => scrub::scrub(rt, folder, given.get_flag("json")),
+        "scrub" => scrub::scrub(rt, folder, given.get_flag("json"), given.get_flag("accept")),
+        "picture" => drawing::print_picture(rt, folder),
         _ => status::show(rt, folder, given.get_flag("json")),
-    };
-    ended(rt, done, folder)
+    }
 }
 
 // Makes the disk that the words describe.

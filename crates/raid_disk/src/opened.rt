@@ -3,16 +3,22 @@ ghost use Rattle.std.specs.Prelude.{◌≡◌, ◌<◌};
 ghost use Rattle.extent_groups.specs.Groups.{Agree};
 
 use crate::disk_files::DiskFiles;
+use crate::drives::{Drives, open_drives};
 use crate::folder::{Folder, Name};
-use crate::journals::{Journals, open_journals};
+use crate::notes::{note_drives, note_marked};
+use crate::pairs::{Pairs, open_pairs};
 use crate::table::{Table, table_in};
 use crate::trouble::{Trouble, unread};
-use array_recovery::{RecoveryFault, open_store};
+use array_recovery::{RecoveryFault, find, open_store};
 use cached_drive::Saved;
 use disk_shape::{Plan, class_of, member_at};
 use extent_groups::{GroupRefusal, GroupTable, Member, Place, are_there};
 use extents::{DRIVES, ExtentTable};
-use file_vault::{FileVault, Header, Layout, RealFiles, TwinFiles, read_header};
+use file_vault::{
+    FileVault, Files, Header, Layout, PairedFiles, RealFiles, StampedFiles, TABLE_SECOND, Verdict,
+    judge, read_generation,
+};
+use group_form::{FormFault, find_groups};
 use history::{Chronicle, Opened};
 use journaled_store::JournaledStore;
 use std::alloc::{AllocError, Global};
@@ -22,7 +28,7 @@ use std::io::Read;
 use vault::TABLE;
 
 /// The vault of a disk.
-pub(crate) type DiskVault = FileVault<TwinFiles<DiskFiles>>;
+pub(crate) type DiskVault = FileVault<StampedFiles<PairedFiles<DiskFiles>>>;
 
 /// What a command does with a disk.
 #[derive(Clone, Copy, Debug, PartialEq, Eq)]
@@ -38,9 +44,11 @@ pub(crate) enum Use {
 pub(crate) struct Disk<N: Chronicle> {
     pub(crate) table: Table,
     pub(crate) store: JournaledStore<N, DiskVault>,
-    /// What was found of the journal's files.
-    pub(crate) journals: Journals,
-    /// The table's file, which is locked as long as it is open.
+    /// What was found of the drives' files.
+    pub(crate) drives: Drives,
+    /// What was found of the state's files, and of the journal's.
+    pub(crate) pairs: Pairs,
+    /// The folder, which is locked as long as it is open.
     pub(crate) file: File,
 }
 
@@ -65,20 +73,16 @@ pub(crate) fn file_bytes(layout: &Layout, number: u8) -> u64 {
         drive: number,
         address: layout.count(number),
     };
-    layout.offset(past)
+    // No file is as long as one without an offset.
+    layout.offset(past).unwrap_or(u64::MAX)
 }
 
-// Opens the table's file, and locks it.
-fn lock_table(rt: &HostRuntime, folder: Folder<'_>, usage: Use) -> Result<File, Trouble> {
-    let path = folder.path(rt.alloc(), Name::Table)?;
-    let opened = OpenOptions::new()
-        .read(true)
-        .write(usage == Use::Serves)
-        .open(rt, &path);
-    let file = match opened {
+// Opens the folder, and locks it: a lock on a file would go with the file.
+fn lock_folder(rt: &HostRuntime, folder: Folder<'_>, usage: Use) -> Result<File, Trouble> {
+    let file = match folder.open(rt) {
         Ok(file) => file,
         Err(error) if error.kind() == io::ErrorKind::NotFound => return Err(Trouble::NoDisk),
-        Err(error) => return Err(unread(error, Name::Table)),
+        Err(error) => return Err(unread(error, Name::Folder)),
     };
     let locked = match usage {
         Use::Serves => file.try_lock(),
@@ -87,17 +91,33 @@ fn lock_table(rt: &HostRuntime, folder: Folder<'_>, usage: Use) -> Result<File, 
     match locked {
         Ok(()) => Ok(file),
         Err(TryLockError::WouldBlock) => Err(Trouble::Busy),
-        Err(TryLockError::Error(error)) => Err(unread(error, Name::Table)),
+        Err(TryLockError::Error(error)) => Err(unread(error, Name::Folder)),
     }
 }
 
-// Reads the table.
-fn read_table(rt: &HostRuntime, file: &mut File) -> Result<Table, Trouble> {
+// Reads one of the table's files.
+fn read_one(rt: &HostRuntime, folder: Folder<'_>, name: Name) -> Result<Table, Trouble> {
+    let Some(mut file) = open_file(rt, folder, name, Use::Looks)? else {
+        return Err(Trouble::NoDisk);
+    };
     let mut text = String::new(rt.alloc());
     match file.read_to_string(&mut text) {
         Ok(_) => table_in(rt.alloc(), &text),
         Err(error) if error.kind() == io::ErrorKind::InvalidData => Err(Trouble::NoTable),
-        Err(error) => Err(unread(error, Name::Table)),
+        Err(error) => Err(unread(error, name)),
+    }
+}
+
+// Reads the table, or its copy where the table is missing, isn't one, or can't be read.
+fn read_table(rt: &HostRuntime, folder: Folder<'_>) -> Result<Table, Trouble> {
+    match read_one(rt, folder, Name::Table) {
+        Err(trouble @ (Trouble::NoDisk | Trouble::NoTable | Trouble::Read(_, _))) => {
+            match read_one(rt, folder, Name::TableCopy) {
+                Ok(table) => Ok(table),
+                Err(_) => Err(trouble),
+            }
+        }
+        read => read,
     }
 }
 
@@ -120,92 +140,59 @@ pub(crate) fn open_file(
     }
 }
 
-// Opens a file without which there is no disk.
-fn open_needed(
-    rt: &HostRuntime,
-    folder: Folder<'_>,
-    name: Name,
-    usage: Use,
-) -> Result<File, Trouble> {
-    match open_file(rt, folder, name, usage)? {
-        Some(file) => Ok(file),
-        None => Err(Trouble::Needed(name)),
-    }
-}
-
-// Tests the length of a drive's file.
-fn test_length(file: &File, drive: u8, needs: u64) -> Result<(), Trouble> {
-    match file.metadata() {
-        Ok(data) if data.len() == needs => Ok(()),
-        Ok(data) => Err(Trouble::Length(drive, data.len(), needs)),
-        Err(error) => Err(unread(error, Name::Drive(drive))),
-    }
-}
-
-// Opens the files of a disk, but for the journal's. Says which drives have none.
+// Opens the files of a disk's drives. Says what was found of them.
 fn open_files(
     rt: &HostRuntime,
     folder: Folder<'_>,
-    plan: &Plan,
+    table: &Table,
     layout: &Layout,
     usage: Use,
-) -> Result<(DiskFiles, [bool; DRIVES]), Trouble> {
-    let mut absent = [false; DRIVES];
-    let mut files = RealFiles::new(rt.alloc());
-    files.put(TABLE, open_needed(rt, folder, Name::State, usage)?)?;
-    for drive in 0..plan.drives {
-        match open_file(rt, folder, Name::Drive(drive), usage)? {
-            Some(file) => {
-                test_length(&file, drive, file_bytes(layout, drive))?;
-                files.put(drive, file)?;
-            }
-            None => absent[usize::from(drive % 16)] = true,
-        }
-    }
+) -> Result<(DiskFiles, Drives), Trouble> {
     let looks = usage == Use::Looks;
-    Ok((DiskFiles { files, looks }, absent))
+    let mut files = DiskFiles {
+        files: RealFiles::new(rt.alloc()),
+        looks,
+    };
+    let drives = open_drives(rt, folder, &mut files, layout, table)?;
+    Ok((files, drives))
 }
 
 /// What a file of a disk says of itself.
 pub(crate) fn header_of(layout: &Layout, number: u8, identity: [u8; 16]) -> Header {
+    // Both files of the state have the same.
+    let like = if number == TABLE_SECOND {
+        TABLE
+    } else {
+        number
+    };
     Header {
         identity,
         number,
-        unit_bytes: layout.size(number),
-        count: layout.count(number),
+        unit_bytes: layout.size(like),
+        count: layout.count(like),
     }
 }
 
-// Tests that a file is what its name says.
-fn test_header(
-    files: &mut DiskFiles,
+// Notes which drives' files are older copies.
+fn note_old<F: Files>(
+    files: &mut F,
     layout: &Layout,
-    number: u8,
     table: &Table,
+    drives: &mut Drives,
 ) -> Result<(), Trouble> {
-    let Ok(found) = read_header(files, number) else {
-        return Err(Trouble::Unread(number));
+    let Ok(Some(generation)) = read_generation(files, TABLE) else {
+        return Err(Trouble::NoState);
     };
-    if found == Some(header_of(layout, number, table.identity)) {
-        Ok(())
-    } else {
-        Err(Trouble::Foreign(number))
-    }
-}
-
-// Tests each file that is there, but for the journal's.
-fn test_headers(
-    files: &mut DiskFiles,
-    layout: &Layout,
-    absent: &[bool; DRIVES],
-    table: &Table,
-) -> Result<(), Trouble> {
     for drive in 0..table.plan.drives {
-        if !absent[usize::from(drive % 16)] {
-            test_header(files, layout, drive, table)?;
+        if drives.is_there(drive) {
+            let expected = header_of(layout, drive, table.identity);
+            match judge(files, &expected, generation) {
+                Ok(verdict) => drives.set_old(drive, verdict != Verdict::Good),
+                Err(_) => return Err(Trouble::Unread(drive)),
+            }
         }
     }
-    test_header(files, layout, TABLE, table)
+    Ok(())
 }
 
 // The extents of a group.
@@ -242,7 +229,7 @@ fn enter(
     }
 }
 
-/// The groups of a plan, and the owners of the extents.
+/// The groups of a new disk, by its plan, and the owners of the extents.
 pub(crate) fn groups_of(alloc: Global, plan: &Plan) -> Result<(GroupTable, ExtentTable), Trouble> {
     let mut groups = GroupTable::new(alloc, &plan.shape)?;
     let mut extents = ExtentTable::new(alloc, plan.drives, &plan.shape)?;
@@ -255,12 +242,28 @@ pub(crate) fn groups_of(alloc: Global, plan: &Plan) -> Result<(GroupTable, Exten
     Ok((groups, extents))
 }
 
+/// The groups that a disk's table has, and the owners of the extents.
+pub(crate) fn groups_in(
+    alloc: Global,
+    vault: &mut DiskVault,
+    plan: &Plan,
+) -> Result<(GroupTable, ExtentTable), Trouble> {
+    match find_groups(alloc, vault, &plan.shape) {
+        Ok(found) if found.drives == plan.drives => Ok((found.groups, found.extents)),
+        Ok(_) | Err(FormFault::Misfit) => Err(Trouble::Unsound),
+        Err(FormFault::Memory) => Err(Trouble::Memory),
+        Err(FormFault::Vault(error)) => Err(Trouble::Vault(error)),
+        Err(FormFault::Missing) => Err(Trouble::Unread(TABLE)),
+    }
+}
+
 /// Why a disk can't be opened.
 pub(crate) fn trouble_of(fault: RecoveryFault) -> Trouble {
     match fault {
         RecoveryFault::Memory => Trouble::Memory,
         RecoveryFault::Vault(error) => Trouble::Vault(error),
         RecoveryFault::Missing { drive, .. } => Trouble::Unread(drive),
+        RecoveryFault::Rotten { drive, address } => Trouble::Rotten(drive, address),
         RecoveryFault::Gone(slot) => Trouble::Gone(slot),
         _ => Trouble::Unsound,
     }
@@ -271,21 +274,21 @@ pub(crate) fn trouble_of(fault: RecoveryFault) -> Trouble {
 pub(crate) struct OpenFiles {
     pub(crate) table: Table,
     pub(crate) vault: DiskVault,
-    /// The drives without a file.
-    pub(crate) absent: [bool; DRIVES],
-    pub(crate) journals: Journals,
-    /// The table's file, which is locked as long as it is open.
+    /// What was found of the drives' files.
+    pub(crate) drives: Drives,
+    pub(crate) pairs: Pairs,
+    /// The folder, which is locked as long as it is open.
     pub(crate) file: File,
 }
 
-/// Opens a disk's table, and locks it.
+/// Locks a disk, and reads its table.
 pub(crate) fn open_table(
     rt: &HostRuntime,
     folder: Folder<'_>,
     usage: Use,
 ) -> Result<(File, Table), Trouble> {
-    let mut file = lock_table(rt, folder, usage)?;
-    let table = read_table(rt, &mut file)?;
+    let file = lock_folder(rt, folder, usage)?;
+    let table = read_table(rt, folder)?;
     Ok((file, table))
 }
 
@@ -298,26 +301,64 @@ pub(crate) fn open_vault(
     table: Table,
 ) -> Result<OpenFiles, Trouble> {
     let layout = layout_of(&table.plan);
-    let (mut files, absent) = open_files(rt, folder, &table.plan, &layout, usage)?;
-    test_headers(&mut files, &layout, &absent, &table)?;
-    let (twins, journals) = open_journals(rt, folder, files, &layout, &table, usage)?;
-    let vault = match FileVault::open(rt.alloc(), twins, layout) {
+    let (files, mut drives) = open_files(rt, folder, &table, &layout, usage)?;
+    // Nothing is left to do where standard error can't be written.
+    let _ = note_drives(rt, folder, &drives, table.plan.drives);
+    let (mut files, pairs) = open_pairs(rt, folder, files, &layout, &table, usage)?;
+    note_old(&mut files, &layout, &table, &mut drives)?;
+    let Ok(files) = StampedFiles::open(files) else {
+        return Err(Trouble::NoState);
+    };
+    let vault = match FileVault::open(rt.alloc(), files, layout) {
         Ok(vault) => vault,
         Err((error, _files)) => return Err(Trouble::Vault(error)),
     };
     Ok(OpenFiles {
         table,
         vault,
-        absent,
-        journals,
+        drives,
+        pairs,
         file,
     })
+}
+
+// Names the drives whose files are there and that are marked as lost, of a disk that can't be opened.
+fn name_marked(
+    rt: &HostRuntime,
+    folder: Folder<'_>,
+    vault: DiskVault,
+    plan: &Plan,
+    drives: &Drives,
+) -> Result<(), Trouble> {
+    let mut vault = vault;
+    let absent = drives.absent();
+    let found = match find(rt.alloc(), &mut vault, &plan.shape, plan.drives, &absent) {
+        Ok(found) => found,
+        Err(fault) => return Err(trouble_of(fault)),
+    };
+    for drive in 0..plan.drives {
+        let spot = usize::from(drive % 16);
+        if found.lost[spot] && drives.is_there(drive) {
+            // Nothing is left to do where standard error can't be written.
+            let _ = note_marked(rt, folder, drive);
+        }
+    }
+    Ok(())
+}
+
+// How many units so many bytes are; at least one.
+fn units_in(bytes: u64, plan: &Plan) -> u64 {
+    bytes
+        .checked_div(plan.shape.unit_bytes() as u64)
+        .unwrap_or(1)
+        .max(1)
 }
 
 /// Opens a disk whose files are open, with all that its journal has, which is settled from so many bytes of units on. A drive without
 /// a file is lost.
 pub(crate) fn open_array<N: Chronicle>(
     rt: &HostRuntime,
+    folder: Folder<'_>,
     files: OpenFiles,
     journal: u64,
     opened: Opened<Saved>,
@@ -327,30 +368,33 @@ pub(crate) fn open_array<N: Chronicle>(
     let alloc = rt.alloc();
     let table = files.table;
     let plan = table.plan;
-    let (groups, extents) = groups_of(alloc, &plan)?;
-    let units = journal
-        .checked_div(plan.shape.unit_bytes() as u64)
-        .unwrap_or(1)
-        .max(1);
+    let mut vault = files.vault;
+    let (groups, extents) = groups_in(alloc, &mut vault, &plan)?;
+    let units = units_in(journal, &plan);
     let store = open_store::<N, DiskVault>(
         alloc,
-        files.vault,
+        vault,
         opened,
         &plan.shape,
         groups,
         extents,
         plan.drives,
         plan.size,
-        &files.absent,
+        &files.drives.absent(),
         units,
     );
     match store {
         Ok(store) => Ok(Disk {
             table,
             store,
-            journals: files.journals,
+            drives: files.drives,
+            pairs: files.pairs,
             file: files.file,
         }),
+        Err((RecoveryFault::Gone(slot), vault)) => {
+            name_marked(rt, folder, vault, &plan, &files.drives)?;
+            Err(Trouble::Gone(slot))
+        }
         Err((fault, _vault)) => Err(trouble_of(fault)),
     }
 }
@@ -367,5 +411,5 @@ pub(crate) fn open_disk<N: Chronicle>(
 {
     let (file, table) = open_table(rt, folder, usage)?;
     let files = open_vault(rt, folder, usage, file, table)?;
-    open_array::<N>(rt, files, journal, opened)
+    open_array::<N>(rt, folder, files, journal, opened)
 }

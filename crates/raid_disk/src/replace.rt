@@ -3,16 +3,20 @@ ghost use Rattle.std.specs.Prelude.{◌≡◌};
 
 use crate::create::zeroed;
 use crate::disk_files::DiskFiles;
+use crate::drives::Drives;
 use crate::folder::{Folder, Name};
 use crate::opened::{
-    Disk, Use, file_bytes, groups_of, header_of, layout_of, open_disk, open_vault,
+    Disk, Use, file_bytes, groups_in, header_of, layout_of, open_disk, open_vault,
 };
+use crate::progress;
 use crate::table::Table;
 use crate::trouble::{Trouble, unwritten};
 use cached_drive::Saved;
-use drive_rebuild::{Watch, replace_drive};
+use drive_places::{Sight, Verdict};
+use drive_rebuild::{RebuildFault, Watch, replace_drive};
 use file_vault::{Files, RealFiles, write_header};
 use history::{Chronicle, Opened};
+use std::alloc::AllocError;
 use std::fs::{self, File, OpenOptions};
 use std::io;
 use std::marker::Brand;
@@ -21,7 +25,19 @@ use std::marker::Brand;
 #[derive(Drop)]
 struct Progress<'a> {
     rt: &'a HostRuntime,
+    folder: Folder<'a>,
+    number: u8,
     tenths: u64,
+}
+
+// Writes for `status` how far the replacement is.
+fn say_percent(progress: &Progress<'_>, percent: u64, units: u32) -> Result<(), AllocError> {
+    let number = progress.number;
+    let text = format!(in progress.rt.alloc();
+        "drive {number} is being replaced: {percent} percent of {units} units are written\n"
+    )?;
+    progress::say(progress.rt, progress.folder, &text);
+    Ok(())
 }
 
 impl<'a> Watch for Progress<'a> {
@@ -34,6 +50,7 @@ impl<'a> Watch for Progress<'a> {
             let percent = tenths.saturating_mul(10);
             // Nothing is left to do where standard error can't be written.
             let _ = eprintln!(self.rt; "raid_disk: {percent} percent of {of} units are written");
+            let _ = say_percent(self, percent, of);
         }
     }
 }
@@ -55,23 +72,42 @@ fn test_lost<N: Chronicle>(disk: &Disk<N>, number: u8) -> Result<(), Trouble> {
     Ok(())
 }
 
-// Settles a disk of which this drive alone is lost: the table marks it then. Keeps the disk locked.
+// What is at the own place of a lost drive, where the new file may be put in its stead. That another drive's file isn't there, and none
+// of this drive elsewhere, is tested.
+fn own_place<N: Chronicle>(disk: &Disk<N>, number: u8) -> Result<Sight, Trouble> {
+    let drives = &disk.drives;
+    if drives.verdict(number) == Verdict::Doubled {
+        return Err(Trouble::Doubled(number));
+    }
+    if drives.elsewhere(number).is_some() {
+        return Err(Trouble::Elsewhere(number));
+    }
+    match drives.sights.get(usize::from(number)) {
+        Some(Sight::Drive(other)) if *other != number => Err(Trouble::Occupied(number, *other)),
+        Some(Sight::Again) => Err(Trouble::Elsewhere(number)),
+        Some(sight) => Ok(*sight),
+        None => Ok(Sight::Absent),
+    }
+}
+
+// Settles a disk of which this drive alone is lost: the table marks it then. Says what is at its place. Keeps the disk locked.
 fn mark_lost<N: Chronicle>(
     rt: &HostRuntime,
     folder: Folder<'_>,
     number: u8,
     opened: Opened<Saved>,
-) -> Result<(File, Table), Trouble>
+) -> Result<(File, Table, Sight), Trouble>
     requires { opened ≡ N.chronicle }
 {
     let mut disk = open_disk::<N>(rt, folder, Use::Serves, 0, opened)?;
     test_lost(&disk, number)?;
+    let sight = own_place(&disk, number)?;
     if disk.store.settle().is_err() {
         return Err(Trouble::Sync);
     }
     // A drive that failed in this run is lost since.
     test_lost(&disk, number)?;
-    Ok((disk.file, disk.table))
+    Ok((disk.file, disk.table, sight))
 }
 
 // Makes a file of zeros with a drive's header, which isn't the drive's yet.
@@ -109,23 +145,86 @@ fn make_fresh(
     Ok(())
 }
 
+// Renames a file.
+fn rename(rt: &HostRuntime, folder: Folder<'_>, from: Name, to: Name) -> Result<(), Trouble> {
+    let old = folder.path(rt.alloc(), from)?;
+    let new = folder.path(rt.alloc(), to)?;
+    match fs::rename(rt, &old, &new) {
+        Ok(()) => Ok(()),
+        Err(error) => Err(unwritten(error, to)),
+    }
+}
+
+// Whether there is a file, or anything else, of this name.
+fn is_there(rt: &HostRuntime, folder: Folder<'_>, name: Name) -> Result<bool, Trouble> {
+    let path = folder.path(rt.alloc(), name)?;
+    match fs::symlink_metadata(rt, &path) {
+        Ok(_) => Ok(true),
+        Err(error) if error.kind() == io::ErrorKind::NotFound => Ok(false),
+        Err(error) => Err(unwritten(error, name)),
+    }
+}
+
+fn tell_kept(rt: &HostRuntime, folder: Folder<'_>, number: u8) -> io::Result<()> {
+    let drive = folder.path(rt.alloc(), Name::Drive(number))?;
+    let old = folder.path(rt.alloc(), Name::OldDrive(number))?;
+    eprintln!(rt; "raid_disk: what was at {drive} is kept as {old}")
+}
+
+// Keeps what is at a drive's place under another name, unless it is this drive's file, or nothing.
+fn keep_old(rt: &HostRuntime, folder: Folder<'_>, number: u8, sight: Sight) -> Result<(), Trouble> {
+    if sight == Sight::Drive(number) || !is_there(rt, folder, Name::Drive(number))? {
+        return Ok(());
+    }
+    if is_there(rt, folder, Name::OldDrive(number))? {
+        return Err(Trouble::OldThere(number));
+    }
+    rename(rt, folder, Name::Drive(number), Name::OldDrive(number))?;
+    // Nothing is left to do where standard error can't be written.
+    let _ = tell_kept(rt, folder, number);
+    Ok(())
+}
+
 // Gives a drive that is marked a file of zeros, in one piece.
 fn put_fresh(
     rt: &HostRuntime,
     folder: Folder<'_>,
     table: &Table,
     number: u8,
+    sight: Sight,
 ) -> Result<(), Trouble> {
     make_fresh(rt, folder, table, number)?;
-    let fresh = folder.path(rt.alloc(), Name::FreshDrive(number))?;
-    let drive = folder.path(rt.alloc(), Name::Drive(number))?;
-    if let Err(error) = fs::rename(rt, &fresh, &drive) {
-        return Err(unwritten(error, Name::Drive(number)));
-    }
-    match folder.sync(rt) {
+    keep_old(rt, folder, number, sight)?;
+    rename(rt, folder, Name::FreshDrive(number), Name::Drive(number))?;
+    match folder.sync_above(rt, Name::Drive(number)) {
         Ok(()) => Ok(()),
         Err(error) => Err(unwritten(error, Name::Folder)),
     }
+}
+
+// Tests that each drive has a file, also the one that is replaced.
+fn test_files(drives: &Drives, count: u8, number: u8) -> Result<(), Trouble> {
+    for drive in 0..count {
+        // The new file has no generation yet: it gets one as it is made durable.
+        let is_old = drive != number && drives.is_old(drive);
+        if drives.verdict(drive) != Verdict::Present || is_old {
+            return Err(if drive == number {
+                Trouble::NewFails(drive)
+            } else {
+                Trouble::OtherLost(drive)
+            });
+        }
+    }
+    Ok(())
+}
+
+// The trouble of a drive that can't be replaced, whose file is there.
+fn trouble_of(fault: RebuildFault, number: u8) -> Trouble {
+    let trouble = Trouble::of_rebuild(fault);
+    if trouble.failed_drive() == Some(number) {
+        return Trouble::NewFails(number);
+    }
+    trouble
 }
 
 // Replaces a drive that is marked and has a file.
@@ -138,13 +237,14 @@ fn rebuild(
 ) -> Result<(), Trouble> {
     let plan = table.plan;
     let mut files = open_vault(rt, folder, Use::Serves, file, table)?;
-    for drive in 0..plan.drives {
-        if files.absent[usize::from(drive % 16)] {
-            return Err(Trouble::OtherLost(drive));
-        }
-    }
-    let (groups, extents) = groups_of(rt.alloc(), &plan)?;
-    let mut progress = Progress { rt, tenths: 0 };
+    test_files(&files.drives, plan.drives, number)?;
+    let (groups, extents) = groups_in(rt.alloc(), &mut files.vault, &plan)?;
+    let mut progress = Progress {
+        rt,
+        folder,
+        number,
+        tenths: 0,
+    };
     match replace_drive(
         rt.alloc(),
         &mut files.vault,
@@ -156,7 +256,7 @@ fn rebuild(
         number,
     ) {
         Ok(()) => Ok(()),
-        Err(fault) => Err(Trouble::of_rebuild(fault)),
+        Err(fault) => Err(trouble_of(fault, number)),
     }
 }
 
@@ -168,9 +268,11 @@ fn tell(rt: &HostRuntime, number: u8) -> io::Result<()> {
 /// all is done.
 pub(crate) fn replace(rt: &HostRuntime, folder: Folder<'_>, number: u8) -> Result<u8, Trouble> {
     let opened = Opened::new(rt.alloc())?;
-    let (file, table) = mark_lost::<Brand>(rt, folder, number, opened)?;
-    put_fresh(rt, folder, &table, number)?;
-    rebuild(rt, folder, file, table, number)?;
+    let (file, table, sight) = mark_lost::<Brand>(rt, folder, number, opened)?;
+    put_fresh(rt, folder, &table, number, sight)?;
+    let rebuilt = rebuild(rt, folder.without(None), file, table, number);
+    progress::end(rt, folder);
+    rebuilt?;
     match tell(rt, number) {
         Ok(()) => Ok(0),
         Err(error) => Err(Trouble::Output(error)),

@@ -2,7 +2,8 @@
 ghost use Rattle.std.specs.Prelude.{◌≡◌};
 
 use crate::folder::Folder;
-use crate::opened::{OpenFiles, Use, groups_of, open_array, open_table, open_vault, trouble_of};
+use crate::mending::{accept_disk, mend_disk};
+use crate::opened::{OpenFiles, Use, groups_in, open_array, open_table, open_vault, trouble_of};
 use crate::trouble::Trouble;
 use array_recovery::{Found, find};
 use cached_drive::Saved;
@@ -21,6 +22,10 @@ struct Report {
     drives: u8,
     /// The units' headers make an array.
     are_headers_sound: bool,
+    /// Units that weren't as their digests say, and are written again.
+    mended: u32,
+    /// Units that weren't as their digests say, and are taken as they are.
+    accepted: u32,
 }
 
 // Whether a drive is lost.
@@ -53,13 +58,13 @@ fn without_lost(found: Found) -> Vec<MemDrive> {
 // Tests the slots of a disk.
 fn test_slots(rt: &HostRuntime, files: &mut OpenFiles) -> Result<Report, Trouble> {
     let plan = files.table.plan;
-    let (groups, extents) = groups_of(rt.alloc(), &plan)?;
+    let (groups, extents) = groups_in(rt.alloc(), &mut files.vault, &plan)?;
     let found = match find(
         rt.alloc(),
         &mut files.vault,
         &plan.shape,
         plan.drives,
-        &files.absent,
+        &files.drives.absent(),
     ) {
         Ok(found) => found,
         Err(fault) => return Err(trouble_of(fault)),
@@ -78,6 +83,8 @@ fn test_slots(rt: &HostRuntime, files: &mut OpenFiles) -> Result<Report, Trouble
             lost,
             drives: plan.drives,
             are_headers_sound: true,
+            mended: 0,
+            accepted: 0,
         }),
         Err(fault) => Err(Trouble::of_rebuild(fault)),
     }
@@ -94,7 +101,7 @@ fn test_disk<N: Chronicle>(
     let (file, table) = open_table(rt, folder, Use::Looks)?;
     let mut files = open_vault(rt, folder, Use::Looks, file, table)?;
     let mut report = test_slots(rt, &mut files)?;
-    match open_array::<N>(rt, files, 0, opened) {
+    match open_array::<N>(rt, folder, files, 0, opened) {
         Ok(_disk) => {}
         Err(Trouble::Unsound | Trouble::Gone(_)) => report.are_headers_sound = false,
         Err(trouble) => return Err(trouble),
@@ -103,6 +110,14 @@ fn test_disk<N: Chronicle>(
 }
 
 fn print(rt: &HostRuntime, report: &Report) -> io::Result<()> {
+    let mended = report.mended;
+    if mended > 0 {
+        println!(rt; "{mended} units weren't as their digests say, and are written again")?;
+    }
+    let accepted = report.accepted;
+    if accepted > 0 {
+        println!(rt; "{accepted} units weren't as their digests say, and are taken as they are")?;
+    }
     for slot in report.findings.named.iter() {
         let group = *slot / 128;
         let index = *slot % 128;
@@ -132,7 +147,11 @@ fn print_json(rt: &HostRuntime, report: &Report) -> io::Result<()> {
     let slots = report.findings.slots;
     let unsound = report.findings.unsound;
     let headers = report.are_headers_sound;
-    print!(rt; "{{\"slots\":{slots},\"unsound\":{unsound},\"headers\":{headers},\"named\":[")?;
+    let accepted = report.accepted;
+    let mended = report.mended;
+    print!(rt;
+        "{{\"mended\":{mended},\"accepted\":{accepted},\"slots\":{slots},\"unsound\":{unsound},\"headers\":{headers},\"named\":["
+    )?;
     let mut comma = "";
     for slot in report.findings.named.iter() {
         let group = *slot / 128;
@@ -151,10 +170,39 @@ fn print_json(rt: &HostRuntime, report: &Report) -> io::Result<()> {
     println!(rt; "]}}")
 }
 
-/// Tests each slot of a disk, and whether the headers make an array. The status is 1 where something is wrong, or a drive is lost.
-pub(crate) fn scrub(rt: &HostRuntime, folder: Folder<'_>, json: bool) -> Result<u8, Trouble> {
+fn test_once(rt: &HostRuntime, folder: Folder<'_>) -> Result<Report, Trouble> {
     let opened = Opened::new(rt.alloc())?;
-    let report = test_disk::<Brand>(rt, folder, opened)?;
+    test_disk::<Brand>(rt, folder, opened)
+}
+
+// Writes units again that aren't as their digests say, and tests all slots. What can't be computed is taken as it is, if that was asked
+// for.
+fn test_mended(rt: &HostRuntime, folder: Folder<'_>, accepts: bool) -> Result<Report, Trouble> {
+    let mended = mend_disk(rt, folder);
+    let (mended, accepted) = match mended {
+        Err(Trouble::RottenAndLost(_) | Trouble::Gone(_)) if accepts => {
+            (0, accept_disk(rt, folder)?)
+        }
+        mended => (mended?, 0),
+    };
+    let mut report = test_once(rt, folder)?;
+    report.mended = mended;
+    report.accepted = accepted;
+    Ok(report)
+}
+
+/// Compares each unit with its digest, and writes those again that differ; tests each slot of a disk, and whether the headers make an
+/// array. The status is 1 where something is or was wrong, or a drive is lost.
+pub(crate) fn scrub(
+    rt: &HostRuntime,
+    folder: Folder<'_>,
+    json: bool,
+    accepts: bool,
+) -> Result<u8, Trouble> {
+    let report = match test_once(rt, folder) {
+        Err(Trouble::Rotten(_, _)) => test_mended(rt, folder, accepts)?,
+        tested => tested?,
+    };
     let printed = if json {
         print_json(rt, &report)
     } else {
@@ -164,7 +212,7 @@ pub(crate) fn scrub(rt: &HostRuntime, folder: Folder<'_>, json: bool) -> Result<
         return Err(Trouble::Output(error));
     }
     let is_sound = report.findings.unsound == 0 && report.are_headers_sound;
-    Ok(if is_sound && lost_count(&report) == 0 {
+    Ok(if is_sound && report.mended == 0 && report.accepted == 0 && lost_count(&report) == 0 {
         0
     } else {
         1

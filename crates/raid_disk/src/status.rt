@@ -1,13 +1,18 @@
 //! What a disk has, and how full it is.
 ghost use Rattle.std.specs.Prelude.{◌≡◌};
 
+use crate::drives::{Drives, path_at};
 use crate::folder::Folder;
-use crate::opened::{Disk, Use, open_disk};
+use crate::opened::{Disk, DiskVault, Use, open_disk};
+use crate::pairs::Pair;
+use crate::progress;
 use crate::trouble::Trouble;
 use cached_drive::{CachedDrive, Saved};
+use drive_places::Verdict;
 use extent_groups::{Class, GROUPS, SLOTS};
-use file_vault::Twin;
 use history::{Chronicle, Opened};
+use journaled_store::JournaledStore;
+use std::alloc::{AllocError, Global};
 use std::io;
 use std::marker::Brand;
 use step_core::{Array, Plain};
@@ -49,7 +54,7 @@ fn level_of<N: Chronicle>(array: &Array<CachedDrive<N>, Plain>, class: Class) ->
     level
 }
 
-// How many drives are missing.
+// How many drives are lost.
 fn missing_in<N: Chronicle>(array: &Array<CachedDrive<N>, Plain>) -> u8 {
     let mut missing = 0u8;
     for drive in 0..array.drive_count() {
@@ -60,7 +65,25 @@ fn missing_in<N: Chronicle>(array: &Array<CachedDrive<N>, Plain>) -> u8 {
     missing
 }
 
-fn print<N: Chronicle>(rt: &HostRuntime, disk: &Disk<N>) -> io::Result<()> {
+// Prints the word for a drive's state, and where its file is, if it isn't at its own place.
+fn print_drive<N: Chronicle>(
+    rt: &HostRuntime,
+    folder: Folder<'_>,
+    disk: &Disk<N>,
+    drive: u8,
+) -> io::Result<()> {
+    let is_lost = disk.store.world().array().is_lost(drive);
+    let state = word_of(&disk.drives, drive, is_lost);
+    match disk.drives.elsewhere(drive) {
+        Some(index) => {
+            let path = path_at(rt.alloc(), folder, disk.table.plan.drives, index)?;
+            println!(rt; "drive{drive} {state} at {path}")
+        }
+        None => println!(rt; "drive{drive} {state}"),
+    }
+}
+
+fn print<N: Chronicle>(rt: &HostRuntime, folder: Folder<'_>, disk: &Disk<N>) -> io::Result<()> {
     let array = disk.store.world().array();
     let plan = &disk.table.plan;
     let size = plan.size;
@@ -68,12 +91,14 @@ fn print<N: Chronicle>(rt: &HostRuntime, disk: &Disk<N>) -> io::Result<()> {
     let blocks = plan.shape.blocks;
     println!(rt; "size {size} bytes: {blocks} blocks of {block}")?;
     for drive in 0..array.drive_count() {
-        let state = word_of(array, drive);
-        println!(rt; "drive{drive} {state}")?;
+        print_drive(rt, folder, disk, drive)?;
     }
-    for (name, twin) in [("journal0", Twin::First), ("journal1", Twin::Second)] {
-        let state = disk.journals.state(twin).word();
-        println!(rt; "{name} {state}")?;
+    for (name, pair) in [("state", Pair::State), ("journal", Pair::Journal)] {
+        let found = disk.pairs.of(pair);
+        let first = found.first.word();
+        let second = found.second.word();
+        println!(rt; "{name}0 {first}")?;
+        println!(rt; "{name}1 {second}")?;
     }
     for (name, class) in [("mirrored", Class::Mirrored), ("parity", Class::Parity)] {
         let level = level_of(array, class);
@@ -86,21 +111,40 @@ fn print<N: Chronicle>(rt: &HostRuntime, disk: &Disk<N>) -> io::Result<()> {
     }
     let missing = missing_in(array);
     match missing {
-        0 => println!(rt; "no drive is missing"),
+        0 => println!(rt; "no drive is lost"),
         1 => println!(rt;
-            "one drive is missing: all can be read, and a second loss may not be survived"
+            "one drive is lost: all can be read, and a second loss may not be survived"
         ),
-        _ => println!(rt; "{missing} drives are missing"),
+        _ => println!(rt; "{missing} drives are lost"),
     }
 }
 
-// The word for a drive's state.
-fn word_of<N: Chronicle>(array: &Array<CachedDrive<N>, Plain>, drive: u8) -> &'static str {
-    if array.is_lost(drive) {
-        "missing"
-    } else {
-        "present"
+// The word for a drive's state: that of its file, or `lost` where that is there and isn't used.
+fn word_of(drives: &Drives, drive: u8, is_lost: bool) -> &'static str {
+    match drives.verdict(drive) {
+        Verdict::Present if is_lost => "lost",
+        verdict => verdict.word(),
     }
+}
+
+/// What a server's disk is like, for those who can't open it meanwhile.
+pub(crate) fn served_text<N: Chronicle>(
+    alloc: Global,
+    store: &JournaledStore<N, DiskVault>,
+    drives: &Drives,
+) -> Result<String, AllocError> {
+    let array = store.world().array();
+    let mut text = String::new(alloc);
+    write!(text, "served\n")?;
+    for drive in 0..array.drive_count() {
+        let word = word_of(drives, drive, array.is_lost(drive));
+        write!(text, "drive{drive} {word}\n")?;
+    }
+    match missing_in(array) {
+        0 => write!(text, "{}", progress::FINE)?,
+        missing => write!(text, "{missing} of the drives lost\n")?,
+    }
+    Ok(text)
 }
 
 fn print_json<N: Chronicle>(rt: &HostRuntime, disk: &Disk<N>) -> io::Result<()> {
@@ -112,13 +156,17 @@ fn print_json<N: Chronicle>(rt: &HostRuntime, disk: &Disk<N>) -> io::Result<()> 
     print!(rt; "{{\"size\":{size},\"block\":{block},\"blocks\":{blocks},\"drives\":[")?;
     let mut comma = "";
     for drive in 0..array.drive_count() {
-        let word = word_of(array, drive);
+        let word = word_of(&disk.drives, drive, array.is_lost(drive));
         print!(rt; "{comma}\"{word}\"")?;
         comma = ",";
     }
-    let first = disk.journals.state(Twin::First).word();
-    let second = disk.journals.state(Twin::Second).word();
-    print!(rt; "],\"journals\":[\"{first}\",\"{second}\"]")?;
+    print!(rt; "]")?;
+    for (name, pair) in [("states", Pair::State), ("journals", Pair::Journal)] {
+        let found = disk.pairs.of(pair);
+        let first = found.first.word();
+        let second = found.second.word();
+        print!(rt; ",\"{name}\":[\"{first}\",\"{second}\"]")?;
+    }
     for (name, class) in [("mirrored", Class::Mirrored), ("parity", Class::Parity)] {
         let Level {
             groups,
@@ -144,20 +192,24 @@ fn show_opened<N: Chronicle>(
     let printed = if json {
         print_json(rt, &disk)
     } else {
-        print(rt, &disk)
+        print(rt, folder, &disk)
     };
     match printed {
         Ok(()) => {
             let missing = missing_in(disk.store.world().array());
-            let whole = missing == 0 && disk.journals.are_present();
+            let whole = missing == 0 && disk.pairs.are_present();
             Ok(if whole { 0 } else { 1 })
         }
         Err(error) => Err(Trouble::Output(error)),
     }
 }
 
-/// Prints a disk's sizes, drives and levels. The status is 1 where a drive or a file of the journal is missing, older or fails.
+/// Prints a disk's sizes, drives and levels, or what another process does with it. The status is 1 where a drive is lost, or a file of
+/// the state or the journal is missing, older or fails.
 pub(crate) fn show(rt: &HostRuntime, folder: Folder<'_>, json: bool) -> Result<u8, Trouble> {
     let opened = Opened::new(rt.alloc())?;
-    show_opened::<Brand>(rt, folder, json, opened)
+    match show_opened::<Brand>(rt, folder, json, opened) {
+        Err(Trouble::Busy) => progress::show(rt, folder, json),
+        shown => shown,
+    }
 }

@@ -1,6 +1,6 @@
 //! The table of a disk, a text of eight lines:
 //!
-//!     raid_disk 4
+//!     raid_disk 5
 //!     identity UUID
 //!     size BYTES
 //!     block BYTES
@@ -10,7 +10,7 @@
 //!     mirrored M
 //!
 //! The identity is in each other file too. Size, block and drives are as given to `create`; segments, groups and mirrored groups
-//! follow from them. It is written once.
+//! follow from them. It is written once, in two files.
 use crate::trouble::Trouble;
 use disk_shape::{Plan, plan_disk};
 use std::alloc::{AllocError, Global};
@@ -27,7 +27,7 @@ pub(crate) fn text_of(alloc: Global, identity: Uuid, plan: &Plan) -> Result<Stri
     let mut buffer = Uuid::encode_buffer();
     let number: &str = identity.hyphenated().encode_lower(&mut buffer);
     format!(in alloc;
-        "raid_disk 4\nidentity {number}\nsize {size}\nblock {block}\ndrives {drives}\nsegments {segments}\ngroups {groups}\nmirrored {mirrored}\n"
+        "raid_disk 5\nidentity {number}\nsize {size}\nblock {block}\ndrives {drives}\nsegments {segments}\ngroups {groups}\nmirrored {mirrored}\n"
     )
 }
 
@@ -55,7 +55,7 @@ fn number_after(line: &str, word: &str) -> Option<u64> {
 // The identity and the plan for which the text's lines ask, if they are a table's.
 fn lines_in(text: &str) -> Option<(Uuid, Plan)> {
     let mut lines = text.split("\n");
-    if lines.next() != Some("raid_disk 4") {
+    if lines.next() != Some("raid_disk 5") {
         return None;
     }
     let Ok(identity) = Uuid::parse_str(after_word(lines.next()?, "identity")?) else {
@@ -75,8 +75,10 @@ fn lines_in(text: &str) -> Option<(Uuid, Plan)> {
 
 /// The table that a text spells: exactly the text of its identity and its plan.
 pub(crate) fn table_in(alloc: Global, text: &str) -> Result<Table, Trouble> {
-    if text.starts_with("raid_disk 2\n") || text.starts_with("raid_disk 3\n") {
-        return Err(Trouble::Earlier);
+    for earlier in ["raid_disk 2\n", "raid_disk 3\n", "raid_disk 4\n"] {
+        if text.starts_with(earlier) {
+            return Err(Trouble::Earlier);
+        }
     }
     let Some((identity, plan)) = lines_in(text) else {
         return Err(Trouble::NoTable);

@@ -3,7 +3,7 @@ use crate::folder::{Folder, Name};
 use crate::opened::trouble_of;
 use disk_shape::ShapeFault;
 use drive_rebuild::RebuildFault;
-use file_vault::{JOURNAL, SECOND, Twin};
+use file_vault::{JOURNAL, SECOND, TABLE_SECOND, Twin};
 use nbd_serve::End;
 use std::alloc::{AllocError, AllocFailed};
 use std::io;
@@ -25,8 +25,6 @@ pub(crate) enum Trouble {
     NoTable,
     /// Another process has the disk.
     Busy,
-    /// The bytes of a drive's file, and those that it should have.
-    Length(u8, u64, u64),
     /// No drive that is there has what lies in this slot.
     Gone(u16),
     /// The units' headers contradict one another, or the groups don't fit.
@@ -40,10 +38,10 @@ pub(crate) enum Trouble {
     Unwritten(u8),
     /// The file of this number isn't one of this disk, or is another one of it.
     Foreign(u8),
-    /// This file isn't there, and nothing can be opened without it.
-    Needed(Name),
     /// The table is of an earlier version.
     Earlier,
+    /// Neither file of the state can be read and written, or the newer one can't.
+    NoState,
     /// Neither file of the journal can be read and written, or the newer one can't.
     NoJournal,
     /// This file of the system's has no number.
@@ -62,8 +60,28 @@ pub(crate) enum Trouble {
     NotLost(u8),
     /// Another drive is lost than the one that is to be replaced.
     OtherLost(u8),
+    /// More than one file is this drive's.
+    Doubled(u8),
+    /// This drive's file is at another place than its own.
+    Elsewhere(u8),
+    /// The place of the first drive has the file of the second.
+    Occupied(u8, u8),
+    /// What was at the place of this drive has a name that another file has.
+    OldThere(u8),
+    /// The new file of this drive can't be read or written.
+    NewFails(u8),
+    /// The text of places isn't one.
+    NoPlaces,
+    /// A path that was given can't be a place.
+    Path,
+    /// More places were given than drives.
+    Places,
     /// This slot's units contradict one another: the new ones, too, so that the drive stays lost.
     Contradicts(u16),
+    /// The unit of this drive at this address isn't as its digest says.
+    Rotten(u8, u32),
+    /// Units aren't as their digests say, and can't be computed, since this drive is lost.
+    RottenAndLost(u8),
 }
 
 impl Trouble {
@@ -91,12 +109,13 @@ impl Trouble {
     pub(crate) fn status(&self) -> u8 {
         match self {
             Trouble::Memory | Trouble::Vault(VaultError::Memory) => 4,
-            Trouble::Size => 2,
+            Trouble::Size | Trouble::Path | Trouble::Places => 2,
             Trouble::Words(_)
             | Trouble::Read(_, _)
             | Trouble::Write(_, _)
             | Trouble::Unread(_)
             | Trouble::Unwritten(_)
+            | Trouble::NewFails(_)
             | Trouble::Vault(_)
             | Trouble::Output(_)
             | Trouble::Stream(_)
@@ -120,6 +139,9 @@ impl Trouble {
             Trouble::NoTable => eprintln!(rt; "raid_disk: {at}/table isn't the table of a disk"),
             Trouble::Earlier => eprintln!(rt;
                 "raid_disk: {at} is a disk of an earlier version: copy its bytes to a new disk with the program that made it"
+            ),
+            Trouble::NoState => eprintln!(rt;
+                "raid_disk: neither {at}/state0 nor {at}/state1 can be read and written, or the newer one can't: without it nothing can be read"
             ),
             Trouble::NoJournal => eprintln!(rt;
                 "raid_disk: neither {at}/journal0 nor {at}/journal1 can be read and written, or the newer one can't: without it nothing can be read"
@@ -160,12 +182,6 @@ impl Trouble {
                     "raid_disk: {path} is there already: nothing was made; remove what an earlier attempt has left, or name another folder"
                 )
             }
-            Trouble::Length(drive, has, needs) => {
-                let path = folder.path(rt.alloc(), Name::Drive(*drive))?;
-                eprintln!(rt;
-                    "raid_disk: {path} has {has} bytes, and a drive of this disk {needs}: without the file the drive is lost"
-                )
-            }
             Trouble::Read(name, error) => {
                 let path = folder.path(rt.alloc(), *name)?;
                 eprintln!(rt; "raid_disk: {path} can't be opened or read: {error}")
@@ -173,10 +189,6 @@ impl Trouble {
             Trouble::Write(name, error) => {
                 let path = folder.path(rt.alloc(), *name)?;
                 eprintln!(rt; "raid_disk: {path} can't be written: {error}")
-            }
-            Trouble::Needed(name) => {
-                let path = folder.path(rt.alloc(), *name)?;
-                eprintln!(rt; "raid_disk: {path} isn't there: without it nothing can be read")
             }
             Trouble::NoNumber(name) => {
                 let path = folder.path(rt.alloc(), *name)?;
@@ -193,12 +205,12 @@ impl Trouble {
             Trouble::Foreign(number) => {
                 let path = folder.path(rt.alloc(), name_of(*number))?;
                 eprintln!(rt;
-                    "raid_disk: {path} is of another disk, or another file of this one: without it the drive is lost"
+                    "raid_disk: {path} is of another disk, or another file of this one: take it away"
                 )
             }
             Trouble::Vault(VaultError::Drive(drive)) => {
                 let path = folder.path(rt.alloc(), Name::Drive(*drive))?;
-                eprintln!(rt; "raid_disk: {path} can't be read: without the file the drive is lost")
+                eprintln!(rt; "raid_disk: {path} can't be read")
             }
             Trouble::Vault(_) => {
                 let path = folder.path(rt.alloc(), Name::Folder)?;
@@ -230,7 +242,85 @@ impl Trouble {
                 let path = folder.path(rt.alloc(), Name::Drive(*drive))?;
                 eprintln!(rt; "raid_disk: {path} is lost too: no other drive can be replaced")
             }
+            _ => self.report_place(rt, folder),
+        }
+    }
+}
+
+impl Trouble {
+    // Says what is wrong with the places of drives' files, or why a lost drive's can't have a new file.
+    fn report_place(&self, rt: &HostRuntime, folder: Folder<'_>) -> io::Result<()> {
+        let at = folder.name;
+        match self {
+            Trouble::Path => eprintln!(rt; "raid_disk: PATH isn't the path of a file"),
+            Trouble::Places => eprintln!(rt; "raid_disk: more paths are given than drives"),
+            Trouble::NoPlaces => eprintln!(rt;
+                "raid_disk: {at}/places isn't a list of places: a line for a drive is drive NUMBER PATH, one at most for each"
+            ),
+            Trouble::Doubled(drive) => eprintln!(rt;
+                "raid_disk: drive {drive} has more than one file: take away all but one, or all"
+            ),
+            Trouble::Elsewhere(drive) => {
+                let path = folder.path(rt.alloc(), Name::Drive(*drive))?;
+                eprintln!(rt;
+                    "raid_disk: drive {drive} has a file at another place than {path}: move it there, or take it away"
+                )
+            }
+            Trouble::Occupied(drive, other) => {
+                let path = folder.path(rt.alloc(), Name::Drive(*drive))?;
+                let own = folder.path(rt.alloc(), Name::Drive(*other))?;
+                eprintln!(rt; "raid_disk: {path} is drive {other}'s file: move it to {own}")
+            }
+            _ => self.report_new(rt, folder),
+        }
+    }
+
+    // Says why a new file isn't put at a drive's place, or isn't the drive's.
+    fn report_new(&self, rt: &HostRuntime, folder: Folder<'_>) -> io::Result<()> {
+        match self {
+            Trouble::NewFails(drive) => {
+                let path = folder.path(rt.alloc(), Name::Drive(*drive))?;
+                eprintln!(rt;
+                    "raid_disk: {path} was made and can't be read or written: drive {drive} stays lost"
+                )
+            }
+            Trouble::OldThere(drive) => {
+                let path = folder.path(rt.alloc(), Name::Drive(*drive))?;
+                let old = folder.path(rt.alloc(), Name::OldDrive(*drive))?;
+                eprintln!(rt;
+                    "raid_disk: {path} would be kept as {old}, which is there already: take one of them away"
+                )
+            }
+            _ => self.report_rotten(rt, folder),
+        }
+    }
+
+    // Says which units aren't as their digests say.
+    fn report_rotten(&self, rt: &HostRuntime, folder: Folder<'_>) -> io::Result<()> {
+        match self {
+            Trouble::Rotten(drive, address) => {
+                let path = folder.path(rt.alloc(), name_of(*drive))?;
+                eprintln!(rt;
+                    "raid_disk: {path}: unit {address} isn't as its digest says: scrub or serve write it again, if no drive is lost"
+                )
+            }
+            Trouble::RottenAndLost(drive) => {
+                let path = folder.path(rt.alloc(), Name::Drive(*drive))?;
+                eprintln!(rt;
+                    "raid_disk: {path} is lost, and units of other drives aren't as their digests say: scrub --accept takes them as they are"
+                )
+            }
             _ => Ok(()),
+        }
+    }
+
+    /// The drive whose file failed while it was read.
+    pub(crate) fn failed_drive(&self) -> Option<u8> {
+        match self {
+            Trouble::Vault(VaultError::Drive(drive)) | Trouble::Unread(drive) if *drive < TABLE => {
+                Some(*drive)
+            }
+            _ => None,
         }
     }
 }
@@ -238,7 +328,8 @@ impl Trouble {
 // The file of a number.
 fn name_of(number: u8) -> Name {
     match number {
-        TABLE => Name::State,
+        TABLE => Name::State(Twin::First),
+        TABLE_SECOND => Name::State(Twin::Second),
         JOURNAL => Name::Journal(Twin::First),
         SECOND => Name::Journal(Twin::Second),
         drive => Name::Drive(drive),

@@ -10,6 +10,23 @@ fn folder<'a>(alloc: Global) -> Arg<'a> {
         .help("the disk's folder, with its table and a file for each drive")
 }
 
+// Paths of drives' files.
+fn drive<'a>(alloc: Global, help: &'a str) -> Arg<'a> {
+    Arg::new(alloc, "drive")
+        .long("drive")
+        .value_name("PATH")
+        .action(ArgAction::Append)
+        .help(help)
+}
+
+// Where to look besides for the drives' files.
+fn others<'a>(alloc: Global) -> Arg<'a> {
+    drive(
+        alloc,
+        "another path where a drive's file may be; may be given more than once",
+    )
+}
+
 fn create<'a>(alloc: Global) -> Result<Command<'a>, AllocError> {
     let size = Arg::new(alloc, "size")
         .long("size")
@@ -33,7 +50,11 @@ fn create<'a>(alloc: Global) -> Result<Command<'a>, AllocError> {
         .arg(folder(alloc))?
         .arg(size)?
         .arg(block)?
-        .arg(drives)
+        .arg(drives)?
+        .arg(drive(
+            alloc,
+            "the file of drive 0, then that of drive 1, ..; the others' are in the folder",
+        ))
 }
 
 fn replace<'a>(alloc: Global) -> Result<Command<'a>, AllocError> {
@@ -45,7 +66,8 @@ fn replace<'a>(alloc: Global) -> Result<Command<'a>, AllocError> {
     Command::new(alloc, "replace")
         .about("makes the file of a lost drive again, with its units, from the other drives")
         .arg(folder(alloc))?
-        .arg(number)
+        .arg(number)?
+        .arg(others(alloc))
 }
 
 // A command that prints what a disk has.
@@ -57,7 +79,8 @@ fn looks<'a>(alloc: Global, name: &'a str, about: &'a str) -> Result<Command<'a>
     Command::new(alloc, name)
         .about(about)
         .arg(folder(alloc))?
-        .arg(json)
+        .arg(json)?
+        .arg(others(alloc))
 }
 
 /// What the words ask for, as clap reads them.
@@ -70,17 +93,27 @@ pub(crate) fn matches_of<'a>(alloc: Global, words: &'a [String]) -> Result<ArgMa
     let serve = Command::new(alloc, "serve")
         .about("serves the disk to one NBD client, on standard input and output")
         .arg(folder(alloc))?
-        .arg(journal)?;
+        .arg(journal)?
+        .arg(others(alloc))?;
+    let accept = Arg::new(alloc, "accept")
+        .long("accept")
+        .action(ArgAction::SetTrue)
+        .help("takes units that aren't as their digests say, and can't be computed, as they are");
     let scrub = looks(
         alloc,
         "scrub",
-        "reads every unit, and compares copies, parity and headers",
-    )?;
+        "compares every unit with its digest, writes those again that differ, and compares copies, parity and headers",
+    )?
+    .arg(accept)?;
     let status = looks(
         alloc,
         "status",
         "prints drives, groups, and how full the two levels are",
     )?;
+    let picture = Command::new(alloc, "picture")
+        .about("draws the drives with their groups and units, in SVG")
+        .arg(folder(alloc))?
+        .arg(others(alloc))?;
     let program = Command::new(alloc, "raid_disk")
         .about("A disk on files, which reads as before when one of them is lost.")
         .no_binary_name(true)
@@ -90,6 +123,7 @@ pub(crate) fn matches_of<'a>(alloc: Global, words: &'a [String]) -> Result<ArgMa
         .subcommand(serve)?
         .subcommand(replace(alloc)?)?
         .subcommand(scrub)?
-        .subcommand(status)?;
+        .subcommand(status)?
+        .subcommand(picture)?;
     program.try_get_matches_from(words)
 }

@@ -6,6 +6,8 @@ mod bytes;
 #[cfg(test)]
 mod flushes;
 #[cfg(test)]
+mod groups;
+#[cfg(test)]
 mod journaled;
 #[cfg(test)]
 mod model;

@@ -17,7 +17,7 @@ use journaled_store::JournaledStore;
 use std::alloc::Global;
 use std::marker::Brand;
 use std::process::Abort;
-use vault::{Batch, Stop, TABLE, Vault, settle};
+use vault::{Batch, Stop, TABLE, UnitRead, Vault, settle};
 
 type Store<N> = JournaledStore<N, FileVault<MemFiles>>;
 
@@ -80,7 +80,11 @@ fn new_files(rt: &impl Abort, alloc: Global, plan: &Plan) -> MemFiles {
     let Ok(vault) = FileVault::create(alloc, files, layout_of(plan)) else {
         panic!(rt; "not made")
     };
-    vault.into_files()
+    // Without the calls of it, which each read would look through.
+    let Ok(files) = vault.into_files().left(Stop::Killed, 0) else {
+        panic!(rt; "no memory")
+    };
+    files
 }
 
 // The bytes after the first requests.
@@ -230,7 +234,7 @@ fn lost_in(rt: &impl Abort, alloc: Global, vault: FileVault<MemFiles>) -> Option
         address: 0,
     };
     let read = vault.read_unit(place, &mut marks);
-    assert!(rt; read == Ok(true));
+    assert!(rt; read == Ok(UnitRead::Whole));
     marks.iter().position(|mark| *mark != 0)
 }
 

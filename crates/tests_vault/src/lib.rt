@@ -4,6 +4,10 @@
 #[cfg(test)]
 mod records;
 #[cfg(test)]
+mod rot;
+#[cfg(test)]
+mod stamps;
+#[cfg(test)]
 mod story;
 #[cfg(test)]
 mod tests;

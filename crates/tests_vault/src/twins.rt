@@ -35,7 +35,8 @@ fn made(rt: &impl Abort, alloc: Global) -> Result<MemFiles, Fail> {
     };
     assert!(rt; twins.found() == Found::Pair);
     match FileVault::create(alloc, twins, layout()) {
-        Ok(vault) => Ok(vault.into_files().into_files()),
+        // Without the calls of it, which each read would look through.
+        Ok(vault) => Ok(vault.into_files().into_files().left(Stop::Killed, 0)?),
         Err(_) => panic!(rt; "not made"),
     }
 }

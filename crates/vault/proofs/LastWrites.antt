@@ -1,5 +1,5 @@
 -- Of writes that are made from the last one on back, each place's last one is enough.
-use Rattle.std.proofs.Common.{◌≡◌, ◌≤◌, ◌<◌, ◌⊎◌, inl, inr, ℕ, zero, suc, Bool, true, Some, List, [], ◌∷◌, ◌++◌, sym, ◌∙◌, ap, subst, arith, length, drop}
+use Rattle.std.proofs.Common.{◌≡◌, ◌≤◌, ◌<◌, ◌⊎◌, inl, inr, ℕ, zero, suc, ◌+◌, ◌*◌, ◌/◌, ◌%◌, Bool, true, false, Some, List, [], ◌∷◌, ◌++◌, sym, ◌∙◌, ap, subst, arith, length, drop}
 use Rattle.std.specs.Prelude.{◌↔◌, slice_get, slice_set}
 use Rattle.std.proofs.lemmas.Bool.{true≢false}
 use Rattle.std.proofs.lemmas.Option.{none-some, same_Some}
@@ -35,6 +35,23 @@ put_more marks place low room x = (
     | inr is ↦ subst (λ y. Has (slice_set marks (spot place) true) y) is (low, get-set_same marks (spot place) true room)
   ]),
 )
+
+-- a place out of the set
+pub take_out : (marks : List Bool) (place : Place) → place.drive ≤ 16 → spot place < length marks → (x : Place) → Has (slice_set marks (spot place) false) x ↔ (Has marks x × (place ≡ x → ⊥))
+take_out marks place low room x = (
+  (λ has. elim (same_or_not (spot x) (spot place)) [
+    | inl is ↦ absurd (true≢false (sym (same_Some _ _ (sym (get-set_same marks (spot place) false room) ∙ ap (slice_get (slice_set marks (spot place) false)) (sym is) ∙ has.1))))
+    | inr ne ↦ ((has.0, sym (get-set_other marks (spot place) (spot x) false ne) ∙ has.1), λ same. ne (ap spot (sym same)))
+  ]),
+  (λ both. (both.0.0, get-set_other marks (spot place) (spot x) false (λ is. both.1 (same_spot place x low both.0.0 (sym is))) ∙ both.0.1)),
+)
+
+-- a mark is that of a place
+pub marked_place : (marks : List Bool) (s : ℕ) → slice_get marks s ≡ Some true → (x : Place) × ((x.drive ≤ 16) × (slice_get marks (spot x) ≡ Some true))
+marked_place marks s e =
+    let x : Place = record { drive = s % 17; address = s / 17 } in
+    let back : s ≡ s / 17 * 17 + s % 17 = omega arith in
+    (x, (omega arith, subst (λ k. slice_get marks k ≡ Some true) back e))
 
 -- the places of no writes, and of one more before others
 pub no_places : (marks : List Bool) → marks ≡ [] → HasPlaces marks []

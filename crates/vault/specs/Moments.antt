@@ -1,9 +1,11 @@
 -- What calls of a vault leave at any moment, and what stops make of unfinished ones.
-use Rattle.std.specs.Prelude.{◌≡◌, ◌≢◌, ◌⊎◌, ◌<◌, ◌≤◌, ℕ, Bool, true, false, Some, List, [], ◌∷◌, ◌++◌, length, take, is_some, Result, IsErrOf}
+use Rattle.std.specs.Prelude.{◌≡◌, ◌≢◌, ◌⊎◌, ◌<◌, ◌≤◌, ℕ, Bool, true, false, Some, List, [], ◌∷◌, ◌++◌, length, take, is_some, Result, IsErrOf, ⊤}
 use Rattle.extent_groups.specs.declared.place.Place.{Place}
 use Rattle.extent_groups.specs.Cells.{Cells, held}
 use Rattle.extent_groups.specs.Planned.{Intended, after}
 use Rattle.vault.specs.declared.store.Stop.{Stop}
+use Rattle.vault.specs.declared.store.UnitRead.{UnitRead}
+use Rattle.vault.specs.declared.store.UnitRead.TheVariants.{Whole, Absent, Rotten}
 use Rattle.vault.specs.declared.store.VaultError.{VaultError}
 use Rattle.vault.specs.declared.store.VaultError.TheVariants.{Memory, Misfit, Journal, Drive}
 use Rattle.vault.specs.Images.{Image, Alike, SameUnits, SameOn, Matches, with_write, recovered, flat, is_lost}
@@ -91,10 +93,36 @@ pub record IsUnchanged {V : Type 0} (seen : V → Image) (may_leave : V → Stop
   pub finds : seen new ≡ seen old
   pub leaves : (stop : Stop) → Within (may_leave new stop) (may_leave old stop)
 
--- what a read of a place's unit answers: there it is, or none of this length is there
-abbrev pub IsUnitAt : Cells → Place → List ℕ → Bool → Type 0
-IsUnitAt c place out true = held c place ≡ Some out
-IsUnitAt c place out false = (unit : List ℕ) → held c place ≡ Some unit → length unit ≢ length out
+-- whether a unit of this length is at a place, and that unit
+abbrev pub IsThere : Cells → Place → List ℕ → Bool → Type 0
+IsThere c place out true = held c place ≡ Some out
+IsThere c place out false = (unit : List ℕ) → held c place ≡ Some unit → length unit ≢ length out
+
+-- What a read of a place's unit answers: there it is, none of this length is there, or one of this length is there that isn't as
+-- its digest says. Of a rotten unit's bytes nothing is said.
+abbrev pub IsUnitAt : Cells → Place → List ℕ → UnitRead → Type 0
+IsUnitAt c place out Whole = IsThere c place out true
+IsUnitAt c place out Absent = IsThere c place out false
+IsUnitAt c place out Rotten = (unit : List ℕ) × (held c place ≡ Some unit) × (length unit ≡ length out)
+
+-- the answer by whether a unit of this length is there, where none is rotten
+abbrev pub read_of : Bool → UnitRead
+read_of true = Whole
+read_of false = Absent
+
+-- a read tells whether the unit is attested: one that is whole is, a rotten one isn't
+abbrev pub IsAsAttested : Type 0 → UnitRead → Type 0
+IsAsAttested attested Whole = attested
+IsAsAttested attested Absent = ⊤
+IsAsAttested attested Rotten = attested → ⊥
+
+-- no other units are attested after a call
+abbrev pub AttestsNoMore : {V : Type 0} → (V → Place → Type 0) → V → V → Type 0
+AttestsNoMore attested old new = (x : Place) → attested new x → attested old x
+
+-- after a write no other units are attested, but for the one that is written
+abbrev pub AttestsNoOther : {V : Type 0} → (V → Place → Type 0) → Place → V → V → Type 0
+AttestsNoOther attested place old new = (x : Place) → x ≢ place → attested new x → attested old x
 
 -- a place that one of the writes is for
 abbrev pub IsWrittenTo : List Intended → Place → Type 0

@@ -13,4 +13,5 @@ pub use batch::Batch;
 pub use carry::settle;
 pub use commit::{add, flush, keep};
 pub use memory::MemVault;
-pub use store::{Stop, TABLE, Vault, VaultError};
+pub use places::Places;
+pub use store::{Stop, TABLE, UnitRead, Vault, VaultError};

@@ -1,13 +1,13 @@
 // A vault in memory that keeps its calls. A stop leaves all that the contract of a vault lets it leave.
 ghost use Rattle.std.specs.Prelude.{◌≡◌, ◌++◌, [], ◌∷◌, ◌<◌, ◌≤◌, ◌+◌, ◌^◌, ℕ, List, length, IfOk, OnOk, OnErr, IfErr, ⊤};
 ghost use Rattle.vault.specs.Images.{Image};
-ghost use Rattle.vault.specs.Moments.{IsUnitAt};
+ghost use Rattle.vault.specs.Moments.{IsThere, read_of as the_read_of};
 ghost use Rattle.vault.specs.Replay.{seen_at, seen_after, HasBatchAt, leaves_at, LeftSince, left_now, only_left};
 ghost use Rattle.vault.specs.declared.memory.Call.{Call};
 ghost use Rattle.vault.specs.declared.store.VaultError.TheVariants.{Memory};
 
 use crate::batch::Batch;
-use crate::store::{Vault, VaultError};
+use crate::store::{UnitRead, Vault, VaultError};
 use extent_groups::Place;
 use extents::DRIVES;
 use std::alloc::Global;
@@ -116,7 +116,7 @@ fn find_in(call: &Call, count: usize, index: usize, found: &mut Batch) -> Result
 
 // Whether a unit of this length is at a place after these calls, and that unit.
 fn find_unit(calls: &[Call], place: Place, out: &mut [u8]) -> bool
-    ensures { IsUnitAt (Image.cells (seen_at calls.now)) place out.new result }
+    ensures { IsThere (Image.cells (seen_at calls.now)) place out.new result }
 {
     // At first each place holds a unit without bytes.
     let mut there = out.is_empty();
@@ -128,7 +128,7 @@ fn find_unit(calls: &[Call], place: Place, out: &mut [u8]) -> bool
 
 // Whether a unit of this length is at a place after one call more, and that unit.
 fn unit_after(call: &Call, place: Place, there: bool, out: &mut [u8]) -> bool
-    ensures { (calls : List Call) → IsUnitAt (Image.cells (seen_at calls)) place out.old there → IsUnitAt (Image.cells (seen_after call.now (seen_at calls))) place out.new result }
+    ensures { (calls : List Call) → IsThere (Image.cells (seen_at calls)) place out.old there → IsThere (Image.cells (seen_after call.now (seen_at calls))) place out.new result }
 {
     let Call::Unit(at, unit) = call else {
         return there;
@@ -143,10 +143,23 @@ fn unit_after(call: &Call, place: Place, there: bool, out: &mut [u8]) -> bool
     true
 }
 
+// What a read answers, by whether a unit of this length is there.
+fn read_of(there: bool) -> UnitRead
+    ensures { result ≡ the_read_of there }
+{
+    if there {
+        UnitRead::Whole
+    } else {
+        UnitRead::Absent
+    }
+}
+
 impl Vault for MemVault {
     ghost known = { λ m. ⊤ };
 
     ghost seen = { λ m. seen_at m.calls.items };
+
+    ghost attested = { λ m x. ⊤ };
 
     ghost may_leave = { λ m stop i. leaves_at stop m.calls.items i };
 
@@ -169,8 +182,8 @@ impl Vault for MemVault {
         note(&mut self.calls, Call::SyncUnits(*lost))
     }
 
-    fn read_unit(&mut self, place: Place, out: &mut [u8]) -> Result<bool, VaultError> {
-        Ok(find_unit(&self.calls, place, out))
+    fn read_unit(&mut self, place: Place, out: &mut [u8]) -> Result<UnitRead, VaultError> {
+        Ok(read_of(find_unit(&self.calls, place, out)))
     }
 
     fn append(&mut self, batch: &Batch) -> Result<(), VaultError> {

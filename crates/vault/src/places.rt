@@ -1,5 +1,5 @@
-// The places whose last unit is written already, while a journal is settled.
-ghost use Rattle.std.specs.Prelude.{◌≡◌, ◌↔◌, ◌⊎◌, ◌≤◌, ◌+◌, ◌*◌, ℕ, [], length, slice_get, Some, true, IsTrue, OnOk};
+// A set of places: those whose last unit is written already, while a journal is settled, or those whose unit is rotten.
+ghost use Rattle.std.specs.Prelude.{◌≡◌, ◌↔◌, ◌⊎◌, ◌≤◌, ◌+◌, ◌*◌, ℕ, [], length, slice_get, Some, true, IfSome, IsNone, IsSome, IsTrue, OnOk};
 ghost use Rattle.extent_groups.specs.declared.place.Place.{Place};
 ghost use Rattle.vault.specs.Marks.{spot as spot_of, Has};
 
@@ -9,7 +9,7 @@ use std::alloc::{AllocError, Global};
 
 /// A set of places of drives and of the table. Marks, so that neither a test nor a new place searches.
 #[derive(Drop)]
-pub(crate) struct Places {
+pub struct Places {
     /// A mark for each drive and the table at address 0, then at address 1, and so on, so that there are marks only up to the
     /// greatest address that was put.
     marks: Vec<bool>,
@@ -43,9 +43,17 @@ fn make_marks(marks: &mut Vec<bool>, count: usize) -> Result<(), AllocError>
     Ok(())
 }
 
+// The first spot with a mark.
+fn first_mark(marks: &[bool]) -> Option<usize>
+    ensures some { IfSome result (λ spot. slice_get marks.now spot ≡ Some true) }
+    ensures none { IsNone result → (k : ℕ) → slice_get marks.now k ≡ Some true → ⊥ }
+{
+    marks.iter().position(|mark| *mark)
+}
+
 impl Places {
     /// No places.
-    pub(crate) fn new(alloc: Global) -> Places
+    pub fn new(alloc: Global) -> Places
         ensures { result.marks.items ≡ [] }
     {
         Places {
@@ -54,7 +62,7 @@ impl Places {
     }
 
     /// Whether a place is in the set.
-    pub(crate) fn has(&self, place: Place) -> bool
+    pub fn has(&self, place: Place) -> bool
         ensures { IsTrue result ↔ Has self.now.marks.items place }
     {
         if place.drive > TABLE {
@@ -64,7 +72,7 @@ impl Places {
     }
 
     /// Puts a place into the set. False if out of memory, and for a drive number past the table's.
-    pub(crate) fn put(&mut self, place: Place) -> bool
+    pub fn put(&mut self, place: Place) -> bool
         ensures { IsTrue result → (x : Place) → Has self.new.marks.items x ↔ (Has self.old.marks.items x ⊎ (place ≡ x)) }
     {
         // Else its mark would be that of another place.
@@ -77,5 +85,31 @@ impl Places {
         }
         self.marks[spot] = true;
         true
+    }
+
+    /// Takes a place out of the set.
+    pub fn take(&mut self, place: Place)
+        ensures { (x : Place) → Has self.new.marks.items x ↔ (Has self.old.marks.items x × (place ≡ x → ⊥)) }
+    {
+        let spot = spot(place);
+        if place.drive > TABLE || spot >= self.marks.len() {
+            return;
+        }
+        self.marks[spot] = false;
+    }
+
+    /// The place of the set with the lowest address, and of these that with the lowest drive number; none if there is no place. Goes
+    /// over all marks.
+    #[tactic(auto, using(crate::proofs::LastWrites::marked_place))]
+    pub fn first(&self) -> Option<Place>
+        ensures some { IsSome result → (x : Place) × Has self.now.marks.items x }
+        ensures none { IsNone result → (x : Place) → Has self.now.marks.items x → ⊥ }
+    {
+        let spot = first_mark(&self.marks)?;
+        let drives = TABLE as usize + 1;
+        Some(Place {
+            drive: (spot % drives) as u8,
+            address: u32::try_from(spot / drives).unwrap_or(u32::MAX),
+        })
     }
 }

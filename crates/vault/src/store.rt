@@ -1,7 +1,8 @@
 // What outlives a stop: the units of all drives, and a journal of batches.
 ghost use Rattle.std.specs.Prelude.{◌≡◌, ◌≤◌, ◌<◌, ◌++◌, [], ◌∷◌, ℕ, Some, length, slice_get, false, IfOk, OnOk, IsErrOf};
+ghost use Rattle.extent_groups.specs.declared.place.Place.{Place};
 ghost use Rattle.vault.specs.Images.{Image, Alike, with_write, with_journal, is_lost};
-ghost use Rattle.vault.specs.Moments.{Elapses, HasCause, IsRejected, IsMisfit, IsUnchanged, HasJournal, HasUnitsAtStop, Torn, torn_at, written_at, has_batch, with_or_without, more_batches, emptied, no_drive, Within, IsUnitAt};
+ghost use Rattle.vault.specs.Moments.{Elapses, HasCause, IsRejected, IsMisfit, IsUnchanged, HasJournal, HasUnitsAtStop, Torn, torn_at, written_at, has_batch, with_or_without, more_batches, emptied, no_drive, Within, IsUnitAt, IsAsAttested, AttestsNoMore, AttestsNoOther};
 ghost use Rattle.vault.specs.declared.store.Stop.{Stop};
 ghost use Rattle.vault.specs.declared.store.Stop.TheVariants.{Killed};
 ghost use Rattle.vault.specs.declared.store.VaultError.TheVariants.{Memory};
@@ -22,6 +23,17 @@ pub enum Stop {
     Killed,
     /// The machine ends. Of all that wasn't synced any part may be there.
     PowerLost,
+}
+
+/// What a read of a unit finds.
+#[derive(Clone, Copy, Debug, PartialEq, Eq)]
+pub enum UnitRead {
+    /// The unit, as its digest says.
+    Whole,
+    /// No unit of this length is at the place.
+    Absent,
+    /// The unit isn't as its digest says. The bytes that were read are not to be used.
+    Rotten,
 }
 
 /// Why a call of a vault fails.
@@ -61,6 +73,10 @@ pub trait Vault {
     /// The units and the journal that its calls find.
     ghost seen: { Self → Image };
 
+    /// The unit at a place is as its digest says. Of a drive that returns what was last written, nothing, or bytes whose digest
+    /// differs, an attested unit is the last written.
+    ghost attested: { Self → Place → Type 0 };
+
     /// What a stop of a kind at this moment may leave.
     ghost may_leave: { Self → Stop → Image → Type 0 };
 
@@ -78,6 +94,8 @@ pub trait Vault {
     fn write_unit(&mut self, place: Place, unit: &[u8]) -> Result<(), VaultError>
         ensures stays { known self.old → known self.new }
         ensures written { known self.old → OnOk result (Alike (seen self.new) (with_write (seen self.old) place unit.now)) }
+        ensures attests { known self.old → OnOk result (attested self.new place) }
+        ensures others { known self.old → AttestsNoOther attested place self.old self.new }
         ensures misfit { known self.old → IsErrOf result VaultError.Misfit → IsMisfit (Image.cells (seen self.old)) place unit.now }
         ensures torn { known self.old → Torn place (seen self.old) (seen self.new) }
         ensures killed { known self.old → OnOk result (Within (may_leave self.new Killed) (written_at place unit.now (may_leave self.old Killed))) }
@@ -88,16 +106,20 @@ pub trait Vault {
     /// Makes the units of all drives that aren't lost durable, and the table.
     fn sync_units(&mut self, lost: &[bool; DRIVES]) -> Result<(), VaultError>
         ensures stays { known self.old → known self.new }
+        ensures attests { known self.old → AttestsNoMore attested self.old self.new }
         ensures seen { known self.old → seen self.new ≡ seen self.old }
         ensures durable { known self.old → OnOk result ((stop : Stop) → HasUnitsAtStop lost.now (Image.cells (seen self.old)) (may_leave self.new stop)) }
         ensures time { known self.old → (stop : Stop) → Elapses (moment self.old) (moment self.new) (left_since self.old stop) (left_since self.new stop)
             (may_leave self.old stop) (may_leave self.new stop) }
         ensures cause { known self.old → HasCause (λ d. is_lost lost.now d ≡ false) (faults self.old) (faults self.new) result };
 
-    /// Reads the unit at a place; false where no unit of this length is there.
-    fn read_unit(&mut self, place: Place, out: &mut [u8]) -> Result<bool, VaultError>
+    /// Reads the unit at a place, and compares it with its digest.
+    fn read_unit(&mut self, place: Place, out: &mut [u8]) -> Result<UnitRead, VaultError>
         ensures stays { known self.old → known self.new }
-        ensures found { known self.old → IfOk result (λ there. IsUnitAt (Image.cells (seen self.old)) place out.new there) }
+        ensures attests { known self.old → AttestsNoMore attested self.old self.new }
+        ensures lasts { known self.old → AttestsNoMore attested self.new self.old }
+        ensures found { known self.old → IfOk result (λ read. IsUnitAt (Image.cells (seen self.old)) place out.new read) }
+        ensures attested { known self.old → IfOk result (λ read. IsAsAttested (attested self.old place) read) }
         ensures seen { known self.old → seen self.new ≡ seen self.old }
         ensures time { known self.old → (stop : Stop) → Elapses (moment self.old) (moment self.new) (left_since self.old stop) (left_since self.new stop)
             (may_leave self.old stop) (may_leave self.new stop) }
@@ -107,6 +129,7 @@ pub trait Vault {
     /// nothing changes; with `Journal` a stop may leave the batch or not.
     fn append(&mut self, batch: &Batch) -> Result<(), VaultError>
         ensures stays { known self.old → known self.new }
+        ensures attests { known self.old → AttestsNoMore attested self.old self.new }
         ensures appended { known self.old → OnOk result (Alike (seen self.new) (with_journal (seen self.old) (Image.journal (seen self.old) ++ batch.now ∷ []))) }
         ensures killed { known self.old → OnOk result (Within (may_leave self.new Killed) (has_batch (seen self.old) batch.now (may_leave self.old Killed))) }
         ensures refused { known self.old → IsRejected result → IsUnchanged seen may_leave self.old self.new }
@@ -117,6 +140,7 @@ pub trait Vault {
     /// Makes the journal durable.
     fn sync_journal(&mut self) -> Result<(), VaultError>
         ensures stays { known self.old → known self.new }
+        ensures attests { known self.old → AttestsNoMore attested self.old self.new }
         ensures seen { known self.old → seen self.new ≡ seen self.old }
         ensures durable { known self.old → OnOk result ((stop : Stop) → HasJournal (Image.journal (seen self.old)) (may_leave self.new stop)) }
         ensures time { known self.old → (stop : Stop) → Elapses (moment self.old) (moment self.new) (left_since self.old stop) (left_since self.new stop)
@@ -127,6 +151,7 @@ pub trait Vault {
     /// stop may leave the journal or an empty one.
     fn clear(&mut self) -> Result<(), VaultError>
         ensures stays { known self.old → known self.new }
+        ensures attests { known self.old → AttestsNoMore attested self.old self.new }
         ensures cleared { known self.old → OnOk result (Alike (seen self.new) (with_journal (seen self.old) [])) }
         ensures durable { known self.old → OnOk result ((stop : Stop) → HasJournal [] (may_leave self.new stop)) }
         ensures refused { known self.old → IsRejected result → IsUnchanged seen may_leave self.old self.new }
@@ -137,6 +162,7 @@ pub trait Vault {
     /// How many batches the journal has.
     fn batches(&mut self) -> Result<usize, VaultError>
         ensures stays { known self.old → known self.new }
+        ensures attests { known self.old → AttestsNoMore attested self.old self.new }
         ensures count { known self.old → IfOk result (λ count. count ≡ length (Image.journal (seen self.old))) }
         ensures seen { known self.old → seen self.new ≡ seen self.old }
         ensures time { known self.old → (stop : Stop) → Elapses (moment self.old) (moment self.new) (left_since self.old stop) (left_since self.new stop)
@@ -146,6 +172,7 @@ pub trait Vault {
     /// Reads a batch of the journal, the first of them at 0. Of an index past the last, any.
     fn read_batch(&mut self, index: usize, batch: &mut Batch) -> Result<(), VaultError>
         ensures stays { known self.old → known self.new }
+        ensures attests { known self.old → AttestsNoMore attested self.old self.new }
         ensures batch { known self.old → index < length (Image.journal (seen self.old)) → OnOk result (slice_get (Image.journal (seen self.old)) index ≡ Some batch.new) }
         ensures seen { known self.old → seen self.new ≡ seen self.old }
         ensures time { known self.old → (stop : Stop) → Elapses (moment self.old) (moment self.new) (left_since self.old stop) (left_since self.new stop)

@@ -3,16 +3,16 @@ use Rattle.std.specs.Prelude.{slice_get}
 use Rattle.extent_groups.specs.Cells.{Cells}
 use Rattle.extent_groups.specs.Planned.{after}
 use Rattle.vault.specs.Images.{Image, flat}
-use Rattle.array_recovery.specs.Found.{IsTable}
-use Rattle.array_recovery.proofs.Reading.{read_call, unit_found}
+use Rattle.array_recovery.specs.Found.{AreMarksIf}
+use Rattle.rotten_units.proofs.Reading.{read_call}
 use Rattle.array_recovery.proofs.Replaying.{after_batch}
 use Rattle.array_recovery.proofs.marks.read_marks.Goals as goal
 
-pub returns-in_err-read_unit-clause-read : goal.returns-in_err-read_unit-clause-read
-returns-in_err-read_unit-clause-read g c = λ known. record { finds = c.read_unit.ensures.seen known; time = c.read_unit.ensures.time known }
+pub returns-in_err-read-clause-read : goal.returns-in_err-read-clause-read
+returns-in_err-read-clause-read g c = λ known. record { finds = c.read_unit.ensures.seen known; time = c.read_unit.ensures.time known }
 
-pub returns-then-not-branch-clause-read : goal.returns-then-not-branch-clause-read
-returns-then-not-branch-clause-read g c = λ known. record { finds = c.read_unit.ensures.seen known; time = c.read_unit.ensures.time known }
+pub returns-in_err-known-clause-read : goal.returns-in_err-known-clause-read
+returns-in_err-known-clause-read g c = λ known. record { finds = c.read_unit.ensures.seen known; time = c.read_unit.ensures.time known }
 
 pub returns-in_err-count-clause-read : goal.returns-in_err-count-clause-read
 returns-in_err-count-clause-read g c = λ known.
@@ -27,7 +27,7 @@ loop-index-init g c = record {
       let now = c.read_unit.ensures.stays known in
       read_call g.V.Vault.seen g.V.Vault.may_leave g.V.Vault.moment g.V.Vault.left_since c.args.vault.now c.read_unit.new.self c.batches.new.self
       (record { finds = c.read_unit.ensures.seen known; time = c.read_unit.ensures.time known }) (c.batches.ensures.seen now) (c.batches.ensures.time now);
-  marks = λ known. unit_found (Image.cells (g.V.Vault.seen c.args.vault.now)) (record { drive = 16; address = 0 }) c.read_unit.new.out c.in_ok-read_unit.field-0 c.if-not-branch.false (c.in_ok-read_unit.ensures.found known);
+  marks = λ known. c.in_ok-known.ensures (Image.cells (g.V.Vault.seen c.args.vault.now)) c.read_unit.new.out (c.in_ok-read.ensures.found known);
 }
 
 pub returns-in_err-read_batch-clause-read : goal.returns-in_err-read_batch-clause-read
@@ -60,6 +60,6 @@ loop-index-preserved g c = record {
       omega (arith, c.loop-index-test.true, c.in_ok-count.ensures.count (c.read_unit.ensures.stays known), same, first) in
       let at : slice_get base.journal i ≡ Some c.read_batch.new.batch =
       subst (λ (s : Image). slice_get s.journal i ≡ Some c.read_batch.new.batch) finds (c.in_ok-read_batch.ensures.batch now inside) in
-      subst (λ (e : Cells). IsTable c.mark_batch.new.marks e) (sym (after_batch base.cells base.journal i c.read_batch.new.batch at))
+      subst (λ (e : Cells). AreMarksIf c.mark_batch.new.is_known c.mark_batch.new.marks e) (sym (after_batch base.cells base.journal i c.read_batch.new.batch at))
       (c.in_ok-mark_batch.ensures (after base.cells (flat (take i base.journal))) (c.loop-index.invariant.marks known));
 }

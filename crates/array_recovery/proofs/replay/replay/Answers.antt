@@ -1,10 +1,12 @@
-use Rattle.std.proofs.Common.{◌≡◌, ◌<◌, Some, length, take, sym, subst, ap, arith}
+use Rattle.std.proofs.Common.{◌≡◌, ◌<◌, inl, Some, length, take, sym, subst, ap, arith}
 use Rattle.std.specs.Prelude.{slice_get}
 use Rattle.extent_groups.specs.Cells.{Cells}
 use Rattle.extent_groups.specs.Planned.{after}
 use Rattle.vault.specs.Images.{Image, flat}
+use Rattle.vault.specs.Marks.{Has}
 use Rattle.array_recovery.specs.Found.{HaveUnits}
-use Rattle.array_recovery.proofs.Reading.{read_call}
+use Rattle.rotten_units.proofs.Reading.{read_call}
+use Rattle.array_recovery.proofs.Patched.{takes_batch}
 use Rattle.array_recovery.proofs.Replaying.{after_batch}
 use Rattle.array_recovery.proofs.replay.replay.Goals as goal
 
@@ -16,7 +18,8 @@ loop-index-init g c = record {
   stays = λ known. c.batches.ensures.stays known;
   read = λ known. record { finds = c.batches.ensures.seen known; time = c.batches.ensures.time known };
   formed = λ count size formed. formed;
-  units = λ known count size formed have. have;
+  units = λ known count size cells formed have. have;
+  taken = λ known x was. inl was;
 }
 
 pub returns-in_err-read_batch-clause-read : goal.returns-in_err-read_batch-clause-read
@@ -39,7 +42,7 @@ loop-index-preserved g c = record {
       read_call g.V.Vault.seen g.V.Vault.may_leave g.V.Vault.moment g.V.Vault.left_since c.args.vault.now c.loop-index.vault c.read_batch.new.self (c.loop-index.invariant.read known)
       (c.read_batch.ensures.seen now) (c.read_batch.ensures.time now);
   formed = λ count size formed. c.replay_batch.ensures.formed count size (c.loop-index.invariant.formed count size formed);
-  units = λ known count size formed have.
+  units = λ known count size cells formed have.
       let now = c.loop-index.invariant.stays known in
       let base = g.V.Vault.seen c.args.vault.now in
       let i = c.loop-index.index in
@@ -49,7 +52,19 @@ loop-index-preserved g c = record {
       omega (arith, c.loop-index-test.true, c.in_ok-count.ensures.count known, same) in
       let at : slice_get base.journal i ≡ Some c.read_batch.new.batch =
       subst (λ (s : Image). slice_get s.journal i ≡ Some c.read_batch.new.batch) finds (c.in_ok-read_batch.ensures.batch now inside) in
-      subst (λ (e : Cells). HaveUnits c.args.lost.now e c.replay_batch.new.caches) (sym (after_batch base.cells base.journal i c.read_batch.new.batch at))
-      (c.in_ok-replay_batch.ensures.units count size (after base.cells (flat (take i base.journal))) (c.loop-index.invariant.formed count size formed)
-      (c.loop-index.invariant.units known count size formed have));
+      subst (λ (e : Cells). HaveUnits c.args.lost.now e c.replay_batch.new.caches) (sym (after_batch cells base.journal i c.read_batch.new.batch at))
+      (c.in_ok-replay_batch.ensures.units count size (after cells (flat (take i base.journal))) (c.loop-index.invariant.formed count size formed)
+      (c.loop-index.invariant.units known count size cells formed have));
+  taken = λ known.
+      let now = c.loop-index.invariant.stays known in
+      let base = g.V.Vault.seen c.args.vault.now in
+      let i = c.loop-index.index in
+      let finds : g.V.Vault.seen c.loop-index.vault ≡ base = (c.loop-index.invariant.read known).finds in
+      let same = ap (λ (s : Image). length s.journal) finds in
+      let inside : i < length (Image.journal (g.V.Vault.seen c.loop-index.vault)) =
+      omega (arith, c.loop-index-test.true, c.in_ok-count.ensures.count known, same) in
+      let at : slice_get base.journal i ≡ Some c.read_batch.new.batch =
+      subst (λ (s : Image). slice_get s.journal i ≡ Some c.read_batch.new.batch) finds (c.in_ok-read_batch.ensures.batch now inside) in
+      takes_batch (Has c.args.rotten.now.marks.items) (Has c.loop-index.rotten.marks.items) (Has c.replay_batch.new.rotten.marks.items) base.journal i c.read_batch.new.batch at
+      (c.loop-index.invariant.taken known) c.in_ok-replay_batch.ensures.taken;
 }

@@ -4,7 +4,8 @@ use Rattle.std.proofs.lemmas.Option.{slice_get_read}
 use Rattle.extents.specs.Condition.{Held}
 use Rattle.extents.specs.Units.{AreUnitsSized}
 use Rattle.extents.specs.declared.mem_drive.Condition.TheVariants.{Present}
-use Rattle.array_recovery.proofs.Loading.{get_is, formed_set, units_set, unit_size}
+use Rattle.rotten_units.proofs.Loading.{get_is, unit_size}
+use Rattle.array_recovery.proofs.Loading.{formed_set, units_set}
 use Rattle.array_recovery.proofs.replay.replay_unit.Goals as goal
 
 pub returns-clause-formed : goal.returns-clause-formed

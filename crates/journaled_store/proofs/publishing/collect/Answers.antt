@@ -1,9 +1,9 @@
-use Rattle.std.proofs.Common.{◌≤◌, arith, sym, subst, ◌∙◌, refl}
+use Rattle.std.proofs.Common.{◌≤◌, suc, arith, sym, subst, ◌∙◌, refl}
 use Rattle.history.specs.Entries.{Course}
 use Rattle.cached_drive.specs.Saving.{Units}
 use Rattle.journaled_store.specs.Steps.{IsInStep}
 use Rattle.journaled_store.proofs.Leading.{shown_has}
-use Rattle.journaled_store.proofs.Noting.{leads_noted, table_step, table_noted, table_has, shown_marks}
+use Rattle.journaled_store.proofs.Noting.{leads_noted, other_table, table_step, table_noted, table_has, shown_marks}
 use Rattle.journaled_store.proofs.Batching.{when_ok}
 use Rattle.journaled_store.proofs.publishing.collect.Goals as goal
 
@@ -23,6 +23,12 @@ returns-clause-noted g c d noted =
     let now = c.note_lost.new.changes in
     table_noted mid.noted now.noted mid.batch now.batch d c.note_lost.ensures.batch c.note_lost.ensures.same
     (leads_noted old.keeper mid.keeper old.batch mid.batch old.noted mid.noted d c.visit_drives.ensures.leads noted)
+
+pub returns-clause-rest : goal.returns-clause-rest
+returns-clause-rest g c d at =
+    let mid = c.visit_drives.new.visitor in
+    let now = c.note_lost.new.changes in
+    other_table mid.batch now.batch now.noted d at c.note_lost.ensures.batch ∙ c.visit_drives.ensures.leads.others d 16 (suc at) (omega arith)
 
 pub returns-clause-has : goal.returns-clause-has
 returns-clause-has g c is lost d step =

@@ -1,6 +1,7 @@
 use Rattle.std.proofs.Common.{arith, refl, sym, []}
 use Rattle.std.proofs.lemmas.Bool.{false≢true}
 use Rattle.file_vault.specs.Vaults.{plan_of}
+use Rattle.file_vault.proofs.Blanks.{blank_attested}
 use Rattle.file_vault.proofs.Puts.{sound_seen}
 use Rattle.file_vault.proofs.Places.{sound_as}
 use Rattle.file_vault.proofs.JournalCalls.{all_durable}
@@ -14,8 +15,11 @@ returns-in-Ok-clause-known g c = λ known. record {
   failed = λ broken. absurd (false≢true broken);
 }
 
-pub returns-in-Ok-clause-cells : goal.returns-in-Ok-clause-cells
-returns-in-Ok-clause-cells g c = λ known. c.in-Ok.ensures.cells known (plan_of c.args.layout)
+pub returns-in-Ok-clause-blank : goal.returns-in-Ok-clause-blank
+returns-in-Ok-clause-blank g c = λ known. c.in-Ok.ensures.blank known
+
+pub returns-in-Ok-clause-attested : goal.returns-in-Ok-clause-attested
+returns-in-Ok-clause-attested g c = λ known x. blank_attested (plan_of c.args.layout) (g.F.Files.seen c.begin.new.files) x (c.in-Ok.ensures.blank known x)
 
 pub returns-in-Ok-clause-empty : goal.returns-in-Ok-clause-empty
 returns-in-Ok-clause-empty g c = λ known. sound_seen g.F.Files.seen g.F.Files.may_leave c.begin.new.files [] [] 4096 0 (c.in-Ok.ensures.kept known)

@@ -7,7 +7,7 @@ use Rattle.file_vault.specs.Vaults.{plan_of}
 use Rattle.file_vault.proofs.Places.{sound_as}
 use Rattle.file_vault.proofs.Lifts.{lifted}
 use Rattle.file_vault.proofs.Puts.{put_sound}
-use Rattle.file_vault.proofs.JournalCalls.{append_to, append_killed, appended}
+use Rattle.file_vault.proofs.JournalCalls.{append_to, append_killed, appended, attested_but}
 use Rattle.file_vault.proofs.over_files.FileVaultVault.append.Goals as goal
 
 pub returns-in-Ok-clause-stays : goal.returns-in-Ok-clause-stays
@@ -88,3 +88,9 @@ returns-in-Err-clause-time g c = λ known stop.
     } in
     lifted (plan_of c.args.self.now.layout) _ _ _ _ _ _ _ (c.write_at.ensures.time known.files_known stop)
     (append_to (plan_of c.args.self.now.layout) g.F.Files.seen g.F.Files.may_leave c.args.self.now.files c.args.self.now.places.items some.batches c.args.self.now.end c.args.self.now.durable c.deref.result.now c.args.batch.now may stop)
+
+pub returns-in-Ok-clause-attests : goal.returns-in-Ok-clause-attests
+returns-in-Ok-clause-attests g c = λ known. attested_but (plan_of c.args.self.now.layout) (g.F.Files.seen c.args.self.now.files) (g.F.Files.seen c.write_at.new.self) ((c.write_at.ensures.mixed known.files_known).others)
+
+pub returns-in-Err-clause-attests : goal.returns-in-Err-clause-attests
+returns-in-Err-clause-attests g c = λ known. attested_but (plan_of c.args.self.now.layout) (g.F.Files.seen c.args.self.now.files) (g.F.Files.seen c.write_at.new.self) ((c.write_at.ensures.mixed known.files_known).others)

@@ -4,7 +4,7 @@ use Rattle.file_vault.specs.Vaults.{plan_of}
 use Rattle.file_vault.proofs.Places.{sound_as}
 use Rattle.file_vault.proofs.Lifts.{lifted, at_once}
 use Rattle.file_vault.proofs.Ended.{empty_sound, empty_read}
-use Rattle.file_vault.proofs.JournalCalls.{all_durable, clear_to, cleared}
+use Rattle.file_vault.proofs.JournalCalls.{all_durable, clear_to, cleared, attested_but}
 use Rattle.file_vault.proofs.over_files.FileVaultVault.clear.Goals as goal
 
 pub returns-then-self-clause-time : goal.returns-then-self-clause-time
@@ -48,3 +48,9 @@ returns-in-Ok-clause-time g c = λ known stop.
 pub returns-in-Err-clause-time : goal.returns-in-Err-clause-time
 returns-in-Err-clause-time g c = λ known stop.
     lifted (plan_of c.args.self.now.layout) _ _ _ _ _ _ _ (c.end_at.ensures.time known.files_known stop) (clear_to (plan_of c.args.self.now.layout) (g.F.Files.may_leave c.args.self.now.files stop))
+
+pub returns-in-Ok-clause-attests : goal.returns-in-Ok-clause-attests
+returns-in-Ok-clause-attests g c = λ known. attested_but (plan_of c.args.self.now.layout) (g.F.Files.seen c.args.self.now.files) (g.F.Files.seen c.end_at.new.files) (c.end_at.ensures.others known.files_known)
+
+pub returns-in-Err-clause-attests : goal.returns-in-Err-clause-attests
+returns-in-Err-clause-attests g c = λ known. attested_but (plan_of c.args.self.now.layout) (g.F.Files.seen c.args.self.now.files) (g.F.Files.seen c.end_at.new.files) (c.end_at.ensures.others known.files_known)

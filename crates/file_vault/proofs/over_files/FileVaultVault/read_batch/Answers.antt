@@ -1,3 +1,4 @@
+use Rattle.file_vault.proofs.Units.{attested_seen}
 use Rattle.std.proofs.Common.{Some, refl, sym, ◌∙◌, ap, arith}
 use Rattle.std.proofs.lemmas.Result.{on_ok_weaker}
 use Rattle.file_vault.specs.Folders.{Folder}
@@ -48,3 +49,9 @@ returns-clause-cause g c = λ known low.
     (omega (arith, c.if-index-len.false, c.len.ensures, c.args.self.now.places.ok.0)) c.deref.ensures.value c.deref-2.ensures.value c.place_at.ensures c.saturating_add-body.ensures c.place_at-2.ensures
     c.saturating_sub-length.ensures (c.deref-3.ensures.value ∙ c.in_ok-read_body.ensures.bytes known.files_known) in
     memory_cause _ _ _ c.decode_into.result ((c.read_body.ensures.cause known.files_known).later) (c.decode_into.ensures.is read.0)
+
+pub returns-in_err-read_body-clause-attests : goal.returns-in_err-read_body-clause-attests
+returns-in_err-read_body-clause-attests g c = λ known. attested_seen (plan_of c.args.self.now.layout) (g.F.Files.seen c.args.self.now.files) (g.F.Files.seen c.read_body.new.files) (c.read_body.ensures.seen known.files_known)
+
+pub returns-clause-attests : goal.returns-clause-attests
+returns-clause-attests g c = λ known. attested_seen (plan_of c.args.self.now.layout) (g.F.Files.seen c.args.self.now.files) (g.F.Files.seen c.read_body.new.files) (c.read_body.ensures.seen known.files_known)

@@ -1,3 +1,4 @@
+use Rattle.file_vault.proofs.Units.{attested_seen}
 use Rattle.std.proofs.Common.{arith, rules, refl, sym, ◌∙◌, ap}
 use Rattle.std.proofs.lemmas.Bool.{true≢false}
 use Rattle.file_vault.specs.Folders.{Folder}
@@ -68,3 +69,9 @@ pub returns-in-Err-clause-time : goal.returns-in-Err-clause-time
 returns-in-Err-clause-time g c = λ known stop.
     lifted (plan_of c.args.self.now.layout) _ _ _ _ _ _ _ (c.sync.ensures.time known.files_known stop)
     (λ h was. more_not (image_of (plan_of c.args.self.now.layout) (g.F.Files.seen c.args.self.now.files)) (λ j. left_of (plan_of c.args.self.now.layout) (g.F.Files.may_leave c.args.self.now.files stop) j) _ (h, was, refl))
+
+pub returns-in-Ok-clause-attests : goal.returns-in-Ok-clause-attests
+returns-in-Ok-clause-attests g c = λ known. attested_seen (plan_of c.args.self.now.layout) (g.F.Files.seen c.args.self.now.files) (g.F.Files.seen c.sync.new.self) (c.sync.ensures.seen known.files_known)
+
+pub returns-in-Err-clause-attests : goal.returns-in-Err-clause-attests
+returns-in-Err-clause-attests g c = λ known. attested_seen (plan_of c.args.self.now.layout) (g.F.Files.seen c.args.self.now.files) (g.F.Files.seen c.sync.new.self) (c.sync.ensures.seen known.files_known)

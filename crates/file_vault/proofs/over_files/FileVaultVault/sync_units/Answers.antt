@@ -1,3 +1,4 @@
+use Rattle.file_vault.proofs.Units.{attested_seen}
 use Rattle.std.proofs.Common.{rules, refl, ◌∙◌, ap, arith}
 use Rattle.vault.proofs.Carried.{cause_passed}
 use Rattle.file_vault.specs.Folders.{Folder}
@@ -62,3 +63,12 @@ returns-in-Err-clause-time g c = λ known stop.
     let first = c.sync_drives.ensures.time is stop in
     lifted (plan_of c.args.self.now.layout) _ _ _ _ (g.F.Files.may_leave c.args.self.now.files stop) _ _
     (both_elapse _ _ _ _ _ _ _ _ _ _ _ first (c.sync.ensures.time (c.sync_drives.ensures.stays is) stop) (λ h d. d) (λ h there. first.ends h there)) (λ h was. (h, was, refl))
+
+pub returns-in_err-sync_drives-clause-attests : goal.returns-in_err-sync_drives-clause-attests
+returns-in_err-sync_drives-clause-attests g c = λ known. attested_seen (plan_of c.args.self.now.layout) (g.F.Files.seen c.args.self.now.files) (g.F.Files.seen c.sync_drives.new.files) (c.sync_drives.ensures.seen known.files_known)
+
+pub returns-in-Ok-clause-attests : goal.returns-in-Ok-clause-attests
+returns-in-Ok-clause-attests g c = λ known. attested_seen (plan_of c.args.self.now.layout) (g.F.Files.seen c.args.self.now.files) (g.F.Files.seen c.sync.new.self) (c.sync.ensures.seen (c.sync_drives.ensures.stays known.files_known) ∙ c.sync_drives.ensures.seen known.files_known)
+
+pub returns-in-Err-clause-attests : goal.returns-in-Err-clause-attests
+returns-in-Err-clause-attests g c = λ known. attested_seen (plan_of c.args.self.now.layout) (g.F.Files.seen c.args.self.now.files) (g.F.Files.seen c.sync.new.self) (c.sync.ensures.seen (c.sync_drives.ensures.stays known.files_known) ∙ c.sync_drives.ensures.seen known.files_known)

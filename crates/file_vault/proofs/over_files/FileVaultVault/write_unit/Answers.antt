@@ -3,7 +3,7 @@ use Rattle.vault.specs.declared.store.Stop.TheVariants.{Killed}
 use Rattle.file_vault.specs.Vaults.{plan_of}
 use Rattle.file_vault.proofs.Units.{misfit}
 use Rattle.file_vault.proofs.Lifts.{lifted, at_once, known_on}
-use Rattle.file_vault.proofs.UnitCalls.{other_file, mixed_torn, wrote_alike, torn_to, written_to, none_to, torn_not}
+use Rattle.file_vault.proofs.UnitCalls.{other_file, mixed_torn, mixed_attests, wrote_attests, wrote_alike, torn_to, written_to, none_to, torn_not}
 use Rattle.file_vault.proofs.over_files.FileVaultVault.write_unit.Goals as goal
 
 pub returns-in_default-clause-killed : goal.returns-in_default-clause-killed
@@ -30,23 +30,23 @@ returns-in-Ok-clause-stays g c = λ known.
 
 pub returns-in-Ok-clause-written : goal.returns-in-Ok-clause-written
 returns-in-Ok-clause-written g c = λ known.
-    wrote_alike (plan_of c.args.self.now.layout) c.args.place c.args.unit.now c.offset-offset.result c.offset-offset.ensures (sym c.if-size-unit.false ∙ c.in-Some.ensures.size) c.in-Some.ensures.there.0
+    wrote_alike (plan_of c.args.self.now.layout) c.args.place c.args.unit.now _ c.in_ok-offset.offset c.in_ok-offset.ensures.at (c.deref.ensures.value ∙ c.in_ok-offset.ensures.sealed) (sym c.if-size-unit.false ∙ c.in-Some.ensures.size) c.in-Some.ensures.there.0
     (g.F.Files.seen c.args.self.now.files) (g.F.Files.seen c.write_at.new.self) (c.in-Ok.ensures.wrote known.files_known)
 
 pub returns-in-Ok-clause-torn : goal.returns-in-Ok-clause-torn
 returns-in-Ok-clause-torn g c = λ known.
-    mixed_torn (plan_of c.args.self.now.layout) c.args.place c.args.unit.now c.offset-offset.result c.offset-offset.ensures (sym c.if-size-unit.false ∙ c.in-Some.ensures.size) c.in-Some.ensures.there.0
+    mixed_torn (plan_of c.args.self.now.layout) c.args.place c.args.unit.now _ c.in_ok-offset.offset c.in_ok-offset.ensures.at (c.deref.ensures.value ∙ c.in_ok-offset.ensures.sealed) (sym c.if-size-unit.false ∙ c.in-Some.ensures.size) c.in-Some.ensures.there.0
     (g.F.Files.seen c.args.self.now.files) (g.F.Files.seen c.write_at.new.self) (c.write_at.ensures.mixed known.files_known)
 
 pub returns-in-Ok-clause-killed : goal.returns-in-Ok-clause-killed
 returns-in-Ok-clause-killed g c = λ known.
-    written_to (plan_of c.args.self.now.layout) c.args.place c.args.unit.now c.offset-offset.result c.offset-offset.ensures (sym c.if-size-unit.false ∙ c.in-Some.ensures.size) c.in-Some.ensures.there.0
+    written_to (plan_of c.args.self.now.layout) c.args.place c.args.unit.now _ c.in_ok-offset.offset c.in_ok-offset.ensures.at (c.deref.ensures.value ∙ c.in_ok-offset.ensures.sealed) (sym c.if-size-unit.false ∙ c.in-Some.ensures.size) c.in-Some.ensures.there.0
     (g.F.Files.may_leave c.args.self.now.files Killed) (g.F.Files.may_leave c.write_at.new.self Killed) (c.in-Ok.ensures.killed known.files_known)
 
 pub returns-in-Ok-clause-time : goal.returns-in-Ok-clause-time
 returns-in-Ok-clause-time g c = λ known stop.
     lifted (plan_of c.args.self.now.layout) _ _ _ _ _ _ _ (c.write_at.ensures.time known.files_known stop)
-    (torn_to (plan_of c.args.self.now.layout) c.args.place c.args.unit.now c.offset-offset.result c.offset-offset.ensures (sym c.if-size-unit.false ∙ c.in-Some.ensures.size) c.in-Some.ensures.there.0
+    (torn_to (plan_of c.args.self.now.layout) c.args.place c.args.unit.now _ c.in_ok-offset.offset c.in_ok-offset.ensures.at (c.deref.ensures.value ∙ c.in_ok-offset.ensures.sealed) (sym c.if-size-unit.false ∙ c.in-Some.ensures.size) c.in-Some.ensures.there.0
     (g.F.Files.may_leave c.args.self.now.files stop))
 
 pub returns-in-Err-clause-stays : goal.returns-in-Err-clause-stays
@@ -59,11 +59,29 @@ returns-in-Err-clause-stays g c = λ known.
 
 pub returns-in-Err-clause-torn : goal.returns-in-Err-clause-torn
 returns-in-Err-clause-torn g c = λ known.
-    mixed_torn (plan_of c.args.self.now.layout) c.args.place c.args.unit.now c.offset-offset.result c.offset-offset.ensures (sym c.if-size-unit.false ∙ c.in-Some.ensures.size) c.in-Some.ensures.there.0
+    mixed_torn (plan_of c.args.self.now.layout) c.args.place c.args.unit.now _ c.in_ok-offset.offset c.in_ok-offset.ensures.at (c.deref.ensures.value ∙ c.in_ok-offset.ensures.sealed) (sym c.if-size-unit.false ∙ c.in-Some.ensures.size) c.in-Some.ensures.there.0
     (g.F.Files.seen c.args.self.now.files) (g.F.Files.seen c.write_at.new.self) (c.write_at.ensures.mixed known.files_known)
 
 pub returns-in-Err-clause-time : goal.returns-in-Err-clause-time
 returns-in-Err-clause-time g c = λ known stop.
     lifted (plan_of c.args.self.now.layout) _ _ _ _ _ _ _ (c.write_at.ensures.time known.files_known stop)
-    (torn_to (plan_of c.args.self.now.layout) c.args.place c.args.unit.now c.offset-offset.result c.offset-offset.ensures (sym c.if-size-unit.false ∙ c.in-Some.ensures.size) c.in-Some.ensures.there.0
+    (torn_to (plan_of c.args.self.now.layout) c.args.place c.args.unit.now _ c.in_ok-offset.offset c.in_ok-offset.ensures.at (c.deref.ensures.value ∙ c.in_ok-offset.ensures.sealed) (sym c.if-size-unit.false ∙ c.in-Some.ensures.size) c.in-Some.ensures.there.0
     (g.F.Files.may_leave c.args.self.now.files stop))
+
+pub returns-in_err-offset-clause-time : goal.returns-in_err-offset-clause-time
+returns-in_err-offset-clause-time g c = λ known stop. at_once _ _ _ _ (λ i now. (i, now, torn_not c.args.place i))
+
+pub returns-in-Ok-clause-attests : goal.returns-in-Ok-clause-attests
+returns-in-Ok-clause-attests g c = λ known.
+    wrote_attests (plan_of c.args.self.now.layout) c.args.place c.args.unit.now _ c.in_ok-offset.offset c.in_ok-offset.ensures.at (c.deref.ensures.value ∙ c.in_ok-offset.ensures.sealed) (sym c.if-size-unit.false ∙ c.in-Some.ensures.size) c.in-Some.ensures.there.0
+    (g.F.Files.seen c.args.self.now.files) (g.F.Files.seen c.write_at.new.self) (c.in-Ok.ensures.wrote known.files_known)
+
+pub returns-in-Ok-clause-others : goal.returns-in-Ok-clause-others
+returns-in-Ok-clause-others g c = λ known.
+    mixed_attests (plan_of c.args.self.now.layout) c.args.place c.args.unit.now _ c.in_ok-offset.offset c.in_ok-offset.ensures.at (c.deref.ensures.value ∙ c.in_ok-offset.ensures.sealed) (sym c.if-size-unit.false ∙ c.in-Some.ensures.size) c.in-Some.ensures.there.0
+    (g.F.Files.seen c.args.self.now.files) (g.F.Files.seen c.write_at.new.self) (c.write_at.ensures.mixed known.files_known)
+
+pub returns-in-Err-clause-others : goal.returns-in-Err-clause-others
+returns-in-Err-clause-others g c = λ known.
+    mixed_attests (plan_of c.args.self.now.layout) c.args.place c.args.unit.now _ c.in_ok-offset.offset c.in_ok-offset.ensures.at (c.deref.ensures.value ∙ c.in_ok-offset.ensures.sealed) (sym c.if-size-unit.false ∙ c.in-Some.ensures.size) c.in-Some.ensures.there.0
+    (g.F.Files.seen c.args.self.now.files) (g.F.Files.seen c.write_at.new.self) (c.write_at.ensures.mixed known.files_known)

@@ -28,7 +28,7 @@ returns-clause-sizes g c =
     )
 
 pub returns-clause-step : goal.returns-clause-step
-returns-clause-step g c lost cells live = record { step = c.collect.ensures.step lost cells live.step; noted = c.collect.ensures.noted cells live.noted }
+returns-clause-step g c lost cells live = record { step = c.collect.ensures.step lost cells live.step; noted = c.collect.ensures.noted cells live.noted; rest = λ at. c.collect.ensures.rest cells at ∙ live.rest at }
 
 pub returns-clause-follows : goal.returns-clause-follows
 returns-clause-follows g c F is =

@@ -71,6 +71,7 @@ returns-clause-lasts g c what has =
         stays = e.stays;
         still = λ failed. absurd (true≢false (sym failed ∙ works));
         step = λ known lost live on. unless_sync r _ (e.step known lost (live works)) (sym c.is_sync-self.ensures ∙ on);
+        rest = λ known lost live on. unless_sync r _ (e.rest known lost (live works)) (sym c.is_sync-self.ensures ∙ on);
         killed = λ known lost logged on. unless_sync r _ (e.killed known lost (logged works)) (sym c.is_sync-self.ensures ∙ on);
         logged = λ known lost stop low logged on. (low, omega arith, unless_sync r _ (e.added known lost stop low (logged works)) (sym c.is_sync-self.ensures ∙ on));
         batches = λ known lost live on. unless_sync r _ (e.batches known lost (live works)) (sym c.is_sync-self.ensures ∙ on);
@@ -82,6 +83,7 @@ returns-clause-lasts g c what has =
             stays = e.stays;
             still = λ failed. absurd (true≢false (sym failed ∙ works));
             step = λ known lost live on. unless_sync r _ (e.step known lost (live works)) (sym c.is_sync-self.ensures ∙ on);
+            rest = λ known lost live on. unless_sync r _ (e.rest known lost (live works)) (sym c.is_sync-self.ensures ∙ on);
             killed = λ known lost logged on. unless_sync r _ (e.killed known lost (logged works)) (sym c.is_sync-self.ensures ∙ on);
             logged = λ known lost stop low logged on. (low, omega arith, unless_sync r _ (e.added known lost stop low (logged works)) (sym c.is_sync-self.ensures ∙ on));
             batches = λ known lost live on. unless_sync r _ (e.batches known lost (live works)) (sym c.is_sync-self.ensures ∙ on);
@@ -89,3 +91,13 @@ returns-clause-lasts g c what has =
           }) (c.is_sync-self.ensures ∙ ok_not_sync r ok)
           (λ known lost live. subst (λ (t : TiersView). IsPersisted lost t.world.array.parts.drives (recovered (v.seen c.publish-published.new.vault))) (sym e.same.0) (when_ok r ok (e.kept known lost (live works))))),
     )
+
+pub returns-then-self-clause-rest : goal.returns-then-self-clause-rest
+returns-then-self-clause-rest g c known lost live works at = refl
+
+pub returns-then-has_lost_two-clause-rest : goal.returns-then-has_lost_two-clause-rest
+returns-then-has_lost_two-clause-rest g c known lost live works at = refl
+
+pub returns-clause-rest : goal.returns-clause-rest
+returns-clause-rest g c known lost live on =
+    unless_sync c.publish-published.result _ (c.publish-published.ensures.rest known lost (live c.if-self.false)) (sym c.is_sync-self.ensures ∙ on)

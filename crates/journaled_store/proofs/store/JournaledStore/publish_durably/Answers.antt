@@ -1,4 +1,4 @@
-use Rattle.std.proofs.Common.{[], ◌∷◌, ◌++◌, length, refl, arith, ap, sym, subst, ◌∙◌}
+use Rattle.std.proofs.Common.{[], ◌∷◌, ◌++◌, length, refl, suc, arith, ap, sym, subst, ◌∙◌}
 use Rattle.std.proofs.lemmas.Result.{err_from_is_err_and}
 use Rattle.byte_store.proofs.Lasts.{covering, lasts_after}
 use Rattle.vault.specs.Images.{Image, recovered}
@@ -21,6 +21,10 @@ returns-clause-step g c known lost live works =
     let changes = c.publish.new.self.changes in
     subst (λ (i : Image). IsUpToDate lost changes.keeper changes.noted changes.batch (recovered i)) (sym (c.sync-synced.ensures.seen (c.publish.ensures.stays known)))
     (c.publish.ensures.step known lost live c.in_ok-publish.ensures.works.0)
+
+pub returns-clause-rest : goal.returns-clause-rest
+returns-clause-rest g c known lost live works at =
+    ap (λ (i : Image). recovered i 16 (suc at)) (c.sync-synced.ensures.seen (c.publish.ensures.stays known)) ∙ c.publish.ensures.rest known lost live c.in_ok-publish.ensures.works.0 at
 
 pub returns-clause-flushed : goal.returns-clause-flushed
 returns-clause-flushed g c known lost stop low is =

@@ -11,13 +11,14 @@ use Rattle.unit_store.specs.Views.{lost_of}
 use Rattle.slot_tables.specs.Views.{key_at}
 use Rattle.array_store.specs.Stores.{Follows, IsStoreOf, StoreView}
 use Rattle.byte_store.proofs.Lasts.{lasts_after}
+use Rattle.group_form.specs.Form.{HasGroups}
 use Rattle.journaled_store.specs.Left.{HasBoth}
 use Rattle.journaled_store.specs.Outlasting.{Outlasts, OutlastsSince, Point, point}
 use Rattle.array_store.proofs.Holding.{follows_same}
 use Rattle.journaled_store.proofs.Lasting.{moved_lasts}
 use Rattle.journaled_store.proofs.SettledLasting.{settled_begins, settled_lasts}
 use Rattle.journaled_store.specs.Steps.{IsBeforeOrNow, IsPersisted, IsUpToDate, UnlessFailed, UnlessJournal}
-use Rattle.journaled_store.proofs.Settled.{kept_on, live_on, not_journal, table_there}
+use Rattle.journaled_store.proofs.Settled.{groups_on, kept_on, live_on, not_journal, table_on, table_there, tables_on}
 use Rattle.journaled_store.proofs.store.JournaledStore.settle.Goals as goal
 
 pub returns-in_err-published-clause-bytes : goal.returns-in_err-published-clause-bytes
@@ -67,6 +68,9 @@ returns-in-Ok-clause-settled g c known live low logged =
       kept = subst (λ (s : StoreView). IsPersisted lost s.tiers.world.array.parts.drives (recovered (v.seen c.settle_vault.new.vault))) c.publish_durably-published.ensures.same.0
           (kept_on lost c.publish_durably-published.new.self.store.tiers.world.array.parts.drives mid (recovered (v.seen c.settle_vault.new.vault)) (table_there lost c.settle_vault.ensures.long)
           (c.in-Ok.ensures.units now all) (c.in_ok-published.ensures.kept known lost live));
+      rest = tables_on (recovered (v.seen c.args.self.now.vault)) mid (recovered (v.seen c.settle_vault.new.vault))
+          (table_on lost mid (recovered (v.seen c.settle_vault.new.vault)) (table_there lost c.settle_vault.ensures.long) (c.in-Ok.ensures.units now all))
+          (c.publish_durably-published.ensures.rest known lost live c.in_ok-published.ensures.works.0);
     }
 
 pub returns-in-Ok-clause-step : goal.returns-in-Ok-clause-step
@@ -100,7 +104,12 @@ returns-in-Ok-clause-any_moment g c known live low logged stop =
     (c.publish_durably-published.ensures.any_moment known lost live stop (low stop) (logged stop))
     (c.settle_vault.ensures.any_moment (c.publish_durably-published.ensures.stays known) all stop)
     (λ i now. now)
-    (λ i matches. inr (recovered (v.seen mid), matches, c.in_ok-published.ensures.kept known lost live)))
+    (λ i matches. inr (
+      recovered (v.seen mid),
+      matches,
+      c.in_ok-published.ensures.kept known lost live,
+      c.publish_durably-published.ensures.rest known lost live c.in_ok-published.ensures.works.0,
+    )))
 
 pub returns-in-Err-clause-step : goal.returns-in-Err-clause-step
 returns-in-Err-clause-step g c known live low logged works =
@@ -163,7 +172,12 @@ returns-in-Err-clause-any_moment g c known live low logged stop =
     (c.publish_durably-published.ensures.any_moment known lost live_now stop (low stop) (logged_now stop))
     (c.settle_vault.ensures.any_moment (c.publish_durably-published.ensures.stays known) all stop)
     (λ i now. now)
-    (λ i matches. inr (recovered (v.seen mid), matches, c.in_ok-published.ensures.kept known lost live_now)) in
+    (λ i matches. inr (
+      recovered (v.seen mid),
+      matches,
+      c.in_ok-published.ensures.kept known lost live_now,
+      c.publish_durably-published.ensures.rest known lost live_now c.in_ok-published.ensures.works.0,
+    )) in
     subst (λ (l : List Bool). LeavesOnly v.moment v.left_since stop old c.give_up.new.self.vault (IsBeforeOrNow l (v.seen old) (low stop) c.args.self.now.store.tiers.world.array.parts.drives)) (sym c.give_up.ensures.lost)
     (subst (λ w. LeavesOnly v.moment v.left_since stop old w (IsBeforeOrNow lost (v.seen old) (low stop) c.args.self.now.store.tiers.world.array.parts.drives)) (sym c.give_up.ensures.vault)
     (subst (λ (s : StoreView). LeavesOnly v.moment v.left_since stop old c.settle_vault.new.vault (IsBeforeOrNow lost (v.seen old) (low stop) s.tiers.world.array.parts.drives)) c.publish_durably-published.ensures.same.0 run))
@@ -204,6 +218,7 @@ returns-in-Ok-clause-lasts g c F what is has =
       stays = e.stays;
       still = e.still;
       step = e.step;
+      rest = e.rest;
       killed = e.killed;
       logged = e.logged;
       batches = e.batches;
@@ -234,6 +249,7 @@ returns-in-Err-clause-lasts g c F what is has =
       stays = e.stays;
       still = e.still;
       step = e.step;
+      rest = e.rest;
       killed = e.killed;
       logged = e.logged;
       batches = e.batches;
@@ -250,7 +266,7 @@ returns-in-Err-clause-lasts g c F what is has =
     (moved_lasts HasBoth v.known v.seen v.may_leave v.moment v.left_since g.met.V.Vault.counts_now g.met.V.Vault.only_now mid q c.give_up.ensures.vault follows (λ on. on) c.give_up.ensures.step what what)
 
 pub returns-in-Ok-clause-begins : goal.returns-in-Ok-clause-begins
-returns-in-Ok-clause-begins g c known what has live low logged =
+returns-in-Ok-clause-begins g c known what has groups live low logged =
     let v = g.V.Vault in
     let e = c.publish_durably-published.ensures in
     let same = e.same.0 in
@@ -264,6 +280,9 @@ returns-in-Ok-clause-begins g c known what has live low logged =
     (λ d low. subst (λ (s : StoreView). slice_index_or c.lost-lost.result d true ≡ lost_of s.tiers.world.array.parts d) (sym same) (are d low))
     (n.stays (e.stays known)) (returns-in-Ok-clause-step g c known live low logged o.works.0) done.durable
     (subst (λ (s : StoreView). IsPersisted c.lost-lost.result s.tiers.world.array.parts.drives (recovered (v.seen c.settle_vault.new.vault))) (sym same) done.kept)
+    (subst (λ (s : StoreView). HasGroups s.tiers.world.array.parts.groups (length s.tiers.world.array.parts.drives) (recovered (v.seen c.settle_vault.new.vault))) (sym same)
+    (groups_on c.args.self.now.store.tiers.world.array.parts.groups (length c.args.self.now.store.tiers.world.array.parts.drives) (recovered (v.seen c.args.self.now.vault))
+    (recovered (v.seen c.settle_vault.new.vault)) done.rest groups))
 
 pub returns-in_err-published-clause-keys : goal.returns-in_err-published-clause-keys
 returns-in_err-published-clause-keys g c F is block = ap (λ (s : StoreView). key_at s.tiers.world.array block) c.publish_durably-published.ensures.same.0

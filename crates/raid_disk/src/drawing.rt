@@ -1,0 +1,45 @@
+//! A disk is drawn: what each unit of each drive is.
+ghost use Rattle.std.specs.Prelude.{◌≡◌};
+
+use crate::folder::Folder;
+use crate::opened::{Use, open_disk};
+use crate::trouble::Trouble;
+use cached_drive::Saved;
+use history::{Chronicle, Opened};
+use picture::draw;
+use std::io::Write;
+use std::marker::Brand;
+
+// Draws a disk.
+fn draw_opened<N: Chronicle>(
+    rt: &HostRuntime,
+    folder: Folder<'_>,
+    opened: Opened<Saved>,
+) -> Result<u8, Trouble>
+    requires { opened ≡ N.chronicle }
+{
+    let disk = open_disk::<N>(rt, folder, Use::Looks, 0, opened)?;
+    let array = disk.store.world().array();
+    let Ok(map) = array.map(rt.alloc()) else {
+        return Err(Trouble::Memory);
+    };
+    let lost = array.lost();
+    let drawn = draw(
+        rt.alloc(),
+        array.groups(),
+        array.extents(),
+        &map,
+        &lost,
+        None,
+    )?;
+    match rt.stdout().write_all(drawn.as_bytes()) {
+        Ok(()) => Ok(0),
+        Err(error) => Err(Trouble::Output(error)),
+    }
+}
+
+/// Prints a picture of a disk, in SVG.
+pub(crate) fn print_picture(rt: &HostRuntime, folder: Folder<'_>) -> Result<u8, Trouble> {
+    let opened = Opened::new(rt.alloc())?;
+    draw_opened::<Brand>(rt, folder, opened)
+}

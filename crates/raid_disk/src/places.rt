@@ -1,0 +1,54 @@
+//! The disk's own text of the places of its drives' files.
+use crate::folder::{Folder, Name};
+use crate::trouble::{Trouble, unread};
+use drive_places::places_in;
+use extents::DRIVES;
+use std::{fs, io};
+
+/// The places of drives' files: those of the folder's text, or none where it has no such text.
+pub(crate) fn read_places(rt: &HostRuntime, folder: Folder<'_>) -> Result<Vec<String>, Trouble> {
+    let path = folder.path(rt.alloc(), Name::Places)?;
+    let text = match fs::read_to_string(rt, &path) {
+        Ok(text) => text,
+        Err(error) if error.kind() == io::ErrorKind::NotFound => return Ok(Vec::new(rt.alloc())),
+        Err(error) if error.kind() == io::ErrorKind::InvalidData => return Err(Trouble::NoPlaces),
+        Err(error) => return Err(unread(error, Name::Places)),
+    };
+    match places_in(rt.alloc(), &text, DRIVES as u8)? {
+        Some(places) => Ok(places),
+        None => Err(Trouble::NoPlaces),
+    }
+}
+
+// A path from the root on.
+fn absolute(rt: &HostRuntime, path: &str) -> Result<String, Trouble> {
+    if path.contains("\n") {
+        return Err(Trouble::Path);
+    }
+    match std::path::absolute(rt, path) {
+        Ok(place) => Ok(place.into_string()),
+        Err(error) if error.kind() == io::ErrorKind::OutOfMemory => Err(Trouble::Memory),
+        Err(_) => Err(Trouble::Path),
+    }
+}
+
+/// The places for a new disk, one for each path that was given, as paths from the root on.
+pub(crate) fn places_from(rt: &HostRuntime, paths: &[String]) -> Result<Vec<String>, Trouble> {
+    let mut places = Vec::new(rt.alloc());
+    for index in 0..paths.len() {
+        places.push(absolute(rt, &paths[index])?)?;
+    }
+    Ok(places)
+}
+
+/// Paths that were given as words.
+pub(crate) fn owned(rt: &HostRuntime, words: Option<&[&str]>) -> Result<Vec<String>, Trouble> {
+    let mut paths = Vec::new(rt.alloc());
+    let Some(words) = words else {
+        return Ok(paths);
+    };
+    for index in 0..words.len() {
+        paths.push(String::from_str(rt.alloc(), words[index])?)?;
+    }
+    Ok(paths)
+}

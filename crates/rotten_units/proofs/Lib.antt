@@ -1,0 +1,5 @@
+pub mod Same
+pub mod Writing
+pub mod Reading
+pub mod Loading
+pub mod Once

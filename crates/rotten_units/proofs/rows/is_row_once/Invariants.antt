@@ -1,0 +1,12 @@
+use Rattle.std.proofs.Common.{◌≡◌, ◌<◌, ◌/◌, ℕ, false, Some}
+use Rattle.std.specs.Prelude.{slice_get}
+use Rattle.extent_groups.specs.declared.place.Place.{Place}
+use Rattle.extent_groups.specs.Groups.{members_of}
+use Rattle.extent_groups.specs.Units.{places_of}
+use Rattle.vault.specs.Marks.{Has}
+use Rattle.rotten_units.specs.Rows.{FirstNotesOne}
+use Rattle.rotten_units.proofs.rows.is_row_once.Given as goal
+
+-- of the first members one at most is rotten, and none where none was seen
+abbrev pub invariant-loop-member : goal.invariant-loop-member
+invariant-loop-member l = FirstNotesOne (Has l.rotten.marks.items) (places_of l.groups.segments (members_of l.groups (l.slot / 128)) l.at.offset) l.member l.seen

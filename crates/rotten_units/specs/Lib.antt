@@ -1,0 +1,3 @@
+pub mod Loaded
+pub mod Rows
+pub mod Written

@@ -1,0 +1,109 @@
+// The groups of a disk are found again in its vault's table.
+use crate::recovered::groups_of;
+use crate::rig::plan_of;
+use disk_shape::Plan;
+use extent_groups::{GROUPS, GroupTable, Place};
+use extents::{DRIVES, Shape};
+use group_form::{FORM_BYTES, FORM_UNITS, FormFault, find_groups, write_groups};
+use std::alloc::Global;
+use std::process::Abort;
+use vault::{Batch, MemVault, TABLE, Vault, keep, settle};
+
+// A vault with zeros in the table.
+fn blank(rt: &impl Abort, alloc: Global) -> MemVault {
+    let mut vault = MemVault::new(alloc);
+    let mut written = true;
+    for address in 0..u32::from(FORM_UNITS) + 1 {
+        let place = Place {
+            drive: TABLE,
+            address,
+        };
+        written &= vault.write_unit(place, &[0; FORM_BYTES]).is_ok();
+    }
+    assert!(rt; written);
+    vault
+}
+
+// The table has these groups and no others, and this number of drives.
+fn test_found(
+    rt: &impl Abort,
+    alloc: Global,
+    vault: &mut MemVault,
+    shape: &Shape,
+    groups: &GroupTable,
+    drives: u8,
+) {
+    let Ok(found) = find_groups(alloc, vault, shape) else {
+        panic!(rt; "no groups")
+    };
+    assert!(rt; found.drives == drives);
+    for group in 0..GROUPS as u16 {
+        assert!(rt; found.groups.class_of(group) == groups.class_of(group));
+        assert!(rt; found.groups.members(group) == groups.members(group));
+    }
+}
+
+// Puts groups into the journal.
+fn put(rt: &impl Abort, alloc: Global, vault: &mut MemVault, groups: &GroupTable, drives: u8) {
+    let mut batch = Batch::new(alloc);
+    let put = write_groups(alloc, &mut batch, groups, drives).is_ok();
+    assert!(rt; put && keep(vault, &batch).is_ok());
+}
+
+fn none_of(rt: &impl Abort, alloc: Global, plan: &Plan) -> GroupTable {
+    let Ok(groups) = GroupTable::new(alloc, &plan.shape) else {
+        panic!(rt; "no memory")
+    };
+    groups
+}
+
+#[test]
+fn groups_are_found_in_the_journal_and_once_it_is_settled(rt: HostRuntime) {
+    let alloc = rt.alloc();
+    let plan = plan_of(&rt, 2_000_000, 64);
+    let (groups, _extents) = groups_of(&rt, alloc, &plan);
+    let mut vault = blank(&rt, alloc);
+    put(&rt, alloc, &mut vault, &groups, plan.drives);
+    test_found(&rt, alloc, &mut vault, &plan.shape, &groups, plan.drives);
+    let mut batch = Batch::new(alloc);
+    assert!(rt; settle(&mut vault, &mut batch, &[false; DRIVES]).is_ok());
+    test_found(&rt, alloc, &mut vault, &plan.shape, &groups, plan.drives);
+}
+
+#[test]
+fn later_groups_are_found_and_none_in_zeros(rt: HostRuntime) {
+    let alloc = rt.alloc();
+    let plan = plan_of(&rt, 100_000, 64);
+    let (mut groups, mut extents) = groups_of(&rt, alloc, &plan);
+    let mut vault = blank(&rt, alloc);
+    test_found(
+        &rt,
+        alloc,
+        &mut vault,
+        &plan.shape,
+        &none_of(&rt, alloc, &plan),
+        0,
+    );
+    put(&rt, alloc, &mut vault, &groups, 6);
+    assert!(rt; groups.agrees(&extents) && groups.take_group(&mut extents, 1).is_ok());
+    put(&rt, alloc, &mut vault, &groups, 7);
+    test_found(&rt, alloc, &mut vault, &plan.shape, &groups, 7);
+}
+
+#[test]
+fn a_table_without_units_or_with_others_has_no_groups(rt: HostRuntime) {
+    let alloc = rt.alloc();
+    let plan = plan_of(&rt, 100_000, 64);
+    let mut none = MemVault::new(alloc);
+    assert!(rt; find_groups(alloc, &mut none, &plan.shape).err() == Some(FormFault::Missing));
+    // A member of a group that has no number of a class.
+    let mut vault = blank(&rt, alloc);
+    let place = Place {
+        drive: TABLE,
+        address: 2,
+    };
+    let mut unit = [0; FORM_BYTES];
+    unit[4] = 1;
+    assert!(rt; vault.write_unit(place, &unit).is_ok());
+    assert!(rt; find_groups(alloc, &mut vault, &plan.shape).err() == Some(FormFault::Misfit));
+}

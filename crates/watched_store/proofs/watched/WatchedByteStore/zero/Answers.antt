@@ -1,0 +1,5 @@
+use Rattle.watched_store.proofs.Through.{through}
+use Rattle.watched_store.proofs.watched.WatchedByteStore.zero.Goals as goal
+
+pub returns-clause-lasts : goal.returns-clause-lasts
+returns-clause-lasts g c F G a b r q s t = through (λ w. w.store) (c.zero.ensures.lasts F G a b r q s t)
