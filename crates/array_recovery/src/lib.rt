@@ -14,4 +14,5 @@ pub use fault::RecoveryFault;
 pub use load::load_drives;
 pub use marks::{lost_drives, read_marks};
 pub use open::open_store;
+pub use rebuild::tiers_of;
 pub use reopen::{Found, find, recover};

@@ -42,8 +42,9 @@ fn fault_of(fault: ScanFault) -> RecoveryFault {
     }
 }
 
-// The array that the parts hold, and what is kept next to it.
-fn tiers_of<D: Drive + Drop>(alloc: Global, parts: Parts<D>) -> Result<Tiers<D>, RecoveryFault>
+/// The array that parts without a note hold, and what is kept next to it: as `header_scan::restart` finds it. Refused with `Gone` where
+/// too many drives are lost to read a slot, with `Unsound` where the headers make no array.
+pub fn tiers_of<D: Drive + Drop>(alloc: Global, parts: Parts<D>) -> Result<Tiers<D>, RecoveryFault>
     requires note { parts.note ≡ None }
     ensures bytes { IfOk result (λ tiers. (was : TiersView) (bytes : List ℕ) → Holds was bytes
         → Outlives was.world.array.parts (view_of D.units D.lost D.failures parts) → Holds tiers bytes) }

@@ -1,4 +1,4 @@
-use Rattle.raid_disk.proofs.serve.serve_disk.Given as goal
+use Rattle.raid_disk.proofs.serve.serve_once.Given as goal
 
 -- the history that was made has its name
 abbrev pub ghosts-serve_opened : goal.ghosts-serve_opened

@@ -1,4 +1,4 @@
-use Rattle.raid_disk.proofs.scrub.scrub.Given as goal
+use Rattle.raid_disk.proofs.scrub.test_once.Given as goal
 
 -- the history that was made has its name
 abbrev pub ghosts-test_disk : goal.ghosts-test_disk
