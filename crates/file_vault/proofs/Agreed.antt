@@ -5,7 +5,7 @@ use Rattle.vault.specs.declared.store.Stop.{Stop}
 use Rattle.vault.specs.Moments.{Within}
 use Rattle.extent_groups.proofs.Places.{get-set_same, get-set_other}
 use Rattle.file_vault.specs.Folders.{Bytes, Folder, part, Mixed, mixed_at}
-use Rattle.file_vault.specs.Generations.{code, stamp_offset, HasGeneration, is_some_true, is_marked, IsCurrent, AgreeIn, AgreeAtStops, AreCurrentAtStops, AreKept}
+use Rattle.file_vault.specs.Generations.{code, stamp_offset, HasGeneration, is_some_true, is_flagged, IsCurrent, AgreeIn, AgreeAtStops, AreCurrentAtStops, AreKept}
 use Rattle.file_vault.proofs.Puts.{below_or}
 use Rattle.file_vault.proofs.Stamps.{mixed_from, mixed_on, mixed_other}
 
@@ -17,10 +17,10 @@ same_or P d e here there = elim (below_or e d) [
 ]
 
 -- marks
-pub marked_same : (marks : List Bool) (d : ℕ) → d < length marks → is_marked (slice_set marks d true) d ≡ true
+pub marked_same : (marks : List Bool) (d : ℕ) → d < length marks → is_flagged (slice_set marks d true) d ≡ true
 marked_same marks d low = ap is_some_true (get-set_same marks d true low)
 
-marked_other : (marks : List Bool) (d e : ℕ) → e ≢ d → is_marked (slice_set marks d true) e ≡ is_marked marks e
+marked_other : (marks : List Bool) (d e : ℕ) → e ≢ d → is_flagged (slice_set marks d true) e ≡ is_flagged marks e
 marked_other marks d e ne = ap is_some_true (get-set_other marks d e true ne)
 
 -- a drive's generation is raised; a stop may cut that short
@@ -49,9 +49,9 @@ module _ (d n : ℕ) (current raised : List Bool) (f g : Folder) (low : d < 16) 
   pub agree_raised : HasGeneration g d (suc n) → AgreeIn n (slice_set current d true) (slice_set raised d true) g
   agree_raised has = record {
     table = agree_torn.table;
-    drive = λ e small. same_or (λ e. is_marked (slice_set current d true) e ≡ true → (HasGeneration g e n × HasGeneration g 16 n) ⊎ HasGeneration g e (suc n)) d e
+    drive = λ e small. same_or (λ e. is_flagged (slice_set current d true) e ≡ true → (HasGeneration g e n × HasGeneration g 16 n) ⊎ HasGeneration g e (suc n)) d e
         (λ mark. inr has) (λ ne mark. agree_torn.drive e small (sym (marked_other current d e ne) ∙ mark));
-    next = λ e small. same_or (λ e. is_marked (slice_set raised d true) e ≡ true → HasGeneration g e (suc n)) d e
+    next = λ e small. same_or (λ e. is_flagged (slice_set raised d true) e ≡ true → HasGeneration g e (suc n)) d e
         (λ mark. has) (λ ne mark. agree_torn.next e small (sym (marked_other raised d e ne) ∙ mark));
   }
 
@@ -69,8 +69,8 @@ module _ {F : Type 0} (may_leave : F → Stop → Folder → Type 0) (old new : 
       agree_raised d n current raised from.0 g low (mixed_as from.0 g from.2) (agree stop from.0 from.1) (subst (λ k. HasGeneration g d k) is (has stop g now))
 
 -- the table's generation is raised, once only drives have the mark that have the next
-module _ (n : ℕ) (raised : List Bool) (f g : Folder) (mixed : Mixed 16 (stamp_offset 16) (code 8 (suc n)) f g) (ups : (d : ℕ) → d < 16 → is_marked raised d ≡ true → HasGeneration f d (suc n)) where
-  still : (d : ℕ) → d < 16 → is_marked raised d ≡ true → HasGeneration g d (suc n)
+module _ (n : ℕ) (raised : List Bool) (f g : Folder) (mixed : Mixed 16 (stamp_offset 16) (code 8 (suc n)) f g) (ups : (d : ℕ) → d < 16 → is_flagged raised d ≡ true → HasGeneration f d (suc n)) where
+  still : (d : ℕ) → d < 16 → is_flagged raised d ≡ true → HasGeneration g d (suc n)
   still d small mark = mixed_other 16 n f g mixed d (suc n) (λ e. omega (arith, e, small)) (ups d small mark)
 
   pub agree_table_torn : HasGeneration f 16 n ⊎ HasGeneration f 16 (suc n) → AgreeIn n raised raised g
@@ -80,7 +80,7 @@ module _ (n : ℕ) (raised : List Bool) (f g : Folder) (mixed : Mixed 16 (stamp_
     next = still;
   }
 
-  pub agree_table_raised : (none : List Bool) → ((d : ℕ) → is_marked none d ≡ false) → HasGeneration g 16 (suc n) → AgreeIn (suc n) raised none g
+  pub agree_table_raised : (none : List Bool) → ((d : ℕ) → is_flagged none d ≡ false) → HasGeneration g 16 (suc n) → AgreeIn (suc n) raised none g
   agree_table_raised none is has = record {
     table = inl has;
     drive = λ d small mark. inl (still d small mark, has);
@@ -96,13 +96,13 @@ module _ {F : Type 0} (may_leave : F → Stop → Folder → Type 0) (old new : 
   stops_table_torn stop g now =
       let from = within stop g now in let was = agree stop from.0 from.1 in agree_table_torn n raised from.0 g (table_as from.0 g from.2) was.next was.table
 
-  pub stops_table_raised : (none : List Bool) → ((d : ℕ) → is_marked none d ≡ false) → ((stop : Stop) (g : Folder) → may_leave new stop g → HasGeneration g 16 m) → AgreeAtStops may_leave new m raised none
+  pub stops_table_raised : (none : List Bool) → ((d : ℕ) → is_flagged none d ≡ false) → ((stop : Stop) (g : Folder) → may_leave new stop g → HasGeneration g 16 m) → AgreeAtStops may_leave new m raised none
   stops_table_raised none unmarked has = subst (λ k. AgreeAtStops may_leave new k raised none) (sym is) (λ stop g now.
       let from = within stop g now in let was = agree stop from.0 from.1 in
       agree_table_raised n raised from.0 g (table_as from.0 g from.2) was.next none unmarked (subst (λ k. HasGeneration g 16 k) is (has stop g now)))
 
 -- no marks
-pub none_marked : (count d : ℕ) → is_marked (replicate count false) d ≡ false
+pub none_marked : (count d : ℕ) → is_flagged (replicate count false) d ≡ false
 none_marked zero d = refl
 none_marked (suc count) zero = refl
 none_marked (suc count) (suc d) = none_marked count d
@@ -115,7 +115,7 @@ stops_current may_leave files n current raised agree stop g now d low mark =
 
 -- what is found at first
 pub agree_first : {F : Type 0} (may_leave : F → Stop → Folder → Type 0) (files : F) (n : ℕ) (current none : List Bool) → AreKept may_leave files n current → ((stop : Stop) (g : Folder) → may_leave files stop g → HasGeneration g 16 n)
-    → ((d : ℕ) → is_marked none d ≡ false) → AgreeAtStops may_leave files n current none
+    → ((d : ℕ) → is_flagged none d ≡ false) → AgreeAtStops may_leave files n current none
 agree_first may_leave files n current none kept table unmarked stop g now = record {
   table = inl (table stop g now);
   drive = λ d low mark. ⊎_elim (λ has. inl (has, table stop g now)) (λ up. inr up.1) (kept d low mark stop g now);
@@ -125,7 +125,7 @@ agree_first may_leave files n current none kept table unmarked stop g now = reco
 -- one drive more is found
 pub kept_more : {F : Type 0} (may_leave : F → Stop → Folder → Type 0) (old new : F) (n d : ℕ) (marks : List Bool) (kept : Bool) → d < length marks → AreKept may_leave old n marks → ((stop : Stop) → Within (may_leave new stop) (may_leave old stop))
     → (kept ≡ true → (stop : Stop) (g : Folder) → may_leave new stop g → IsCurrent g d n) → AreKept may_leave new n (slice_set marks d kept)
-kept_more may_leave old new n d marks kept low so_far within is e small = same_or (λ e. is_marked (slice_set marks d kept) e ≡ true → (stop : Stop) (g : Folder) → may_leave new stop g → IsCurrent g e n) d e
+kept_more may_leave old new n d marks kept low so_far within is e small = same_or (λ e. is_flagged (slice_set marks d kept) e ≡ true → (stop : Stop) (g : Folder) → may_leave new stop g → IsCurrent g e n) d e
     (λ mark. is (sym (ap is_some_true (get-set_same marks d kept low)) ∙ mark))
     (λ ne mark stop g now. so_far e small (sym (ap is_some_true (get-set_other marks d e kept ne)) ∙ mark) stop g (within stop g now))
 

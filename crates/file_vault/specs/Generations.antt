@@ -51,15 +51,15 @@ is_some_true None = false
 is_some_true (Some b) = b
 
 -- a drive has a mark
-abbrev pub is_marked : List Bool → ℕ → Bool
-is_marked marks d = is_some_true (slice_get marks d)
+abbrev pub is_flagged : List Bool → ℕ → Bool
+is_flagged marks d = is_some_true (slice_get marks d)
 
 -- The table has this generation, or the next once each drive with the first mark has that. A drive with the first mark has either,
 -- and with the second mark the next.
 pub record AgreeIn (n : ℕ) (current raised : List Bool) (f : Folder) : Type 0 where
   pub table : HasGeneration f 16 n ⊎ HasGeneration f 16 (suc n)
-  pub drive : (d : ℕ) → d < 16 → is_marked current d ≡ true → (HasGeneration f d n × HasGeneration f 16 n) ⊎ HasGeneration f d (suc n)
-  pub next : (d : ℕ) → d < 16 → is_marked raised d ≡ true → HasGeneration f d (suc n)
+  pub drive : (d : ℕ) → d < 16 → is_flagged current d ≡ true → (HasGeneration f d n × HasGeneration f 16 n) ⊎ HasGeneration f d (suc n)
+  pub next : (d : ℕ) → d < 16 → is_flagged raised d ≡ true → HasGeneration f d (suc n)
 
 -- also after each stop
 abbrev pub AgreeAtStops : {F : Type 0} → (F → Stop → Folder → Type 0) → F → ℕ → List Bool → List Bool → Type 0
@@ -67,12 +67,12 @@ AgreeAtStops may_leave files n current raised = (stop : Stop) (g : Folder) → m
 
 -- at a stop a drive with the mark has the generation of the table then, or the next
 abbrev pub AreCurrentAtStops : {F : Type 0} → (F → Stop → Folder → Type 0) → F → List Bool → Type 0
-AreCurrentAtStops may_leave files current = (stop : Stop) (g : Folder) → may_leave files stop g → (d : ℕ) → d < 16 → is_marked current d ≡ true
+AreCurrentAtStops may_leave files current = (stop : Stop) (g : Folder) → may_leave files stop g → (d : ℕ) → d < 16 → is_flagged current d ≡ true
     → (t : ℕ) × HasGeneration g 16 t × (HasGeneration g d t ⊎ HasGeneration g d (suc t))
 
 -- each drive with the mark has this generation or the next, also after each stop
 abbrev pub AreKept : {F : Type 0} → (F → Stop → Folder → Type 0) → F → ℕ → List Bool → Type 0
-AreKept may_leave files n marks = (d : ℕ) → d < 16 → is_marked marks d ≡ true → (stop : Stop) (g : Folder) → may_leave files stop g → IsCurrent g d n
+AreKept may_leave files n marks = (d : ℕ) → d < 16 → is_flagged marks d ≡ true → (stop : Stop) (g : Folder) → may_leave files stop g → IsCurrent g d n
 
 -- files are known, and agree
 abbrev pub AreStamped : {F : Type 0} → (F → Type 0) → (F → Stop → Folder → Type 0) → F → ℕ → List Bool → List Bool → Type 0

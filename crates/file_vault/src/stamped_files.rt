@@ -4,7 +4,7 @@ ghost use Rattle.vault.specs.Moments.{Elapses, Within};
 ghost use Rattle.vault.specs.declared.store.Stop.{Stop};
 ghost use Rattle.file_vault.specs.Folders.{Folder, HasFault, HasFile, mixed_at};
 ghost use Rattle.file_vault.specs.Generations.{code, stamp_offset, HasGeneration, IsCurrent, IsApart, unstamped, unstamped_of};
-ghost use Rattle.file_vault.specs.Generations.{is_marked, AgreeAtStops, AreKept, AreStamped};
+ghost use Rattle.file_vault.specs.Generations.{is_flagged, AgreeAtStops, AreKept, AreStamped};
 
 use crate::files::{FileFault, Files};
 use crate::layout::HEADER;
@@ -154,7 +154,7 @@ impl<F: Files + Drop> StampedFiles<F> {
 
     /// Whether a drive's file has the table's generation or the next. As a law: so it is after each stop.
     pub fn is_current(&self, drive: u8) -> bool
-        ensures marked { result ≡ is_marked self.now.current drive }
+        ensures marked { result ≡ is_flagged self.now.current drive }
         ensures lasts { F.known self.now.files → AgreeAtStops F.may_leave self.now.files self.now.generation self.now.current self.now.raised
             → AreCurrentAtStops F.may_leave self.now.files self.now.current }
     {
@@ -178,7 +178,7 @@ impl<F: Files + Drop> StampedFiles<F> {
         ensures seen { F.known self.old.files → unstamped (F.seen self.new.files) ≡ unstamped (F.seen self.old.files) }
         ensures agree { F.known self.old.files → AgreeAtStops F.may_leave self.old.files self.old.generation self.old.current self.old.raised
             → AgreeAtStops F.may_leave self.new.files self.new.generation self.new.current self.new.raised }
-        ensures marked { OnOk result ((is_marked self.new.current drive ≡ true) × (is_marked self.new.raised drive ≡ true)) }
+        ensures marked { OnOk result ((is_flagged self.new.current drive ≡ true) × (is_flagged self.new.raised drive ≡ true)) }
         ensures durable { F.known self.old.files → OnOk result ((stop : Stop)
             → HasFile drive (unstamped (F.seen self.old.files)) (λ h. unstamped_of (F.may_leave self.new.files stop) h)) }
         ensures time { F.known self.old.files → (stop : Stop) → Elapses (F.moment self.old.files) (F.moment self.new.files)
@@ -268,7 +268,7 @@ impl<F: Files + Drop> Files for StampedFiles<F> {
             → HasFault (F.Files.faults self.old.files + self.old.faults) (F.Files.faults self.new.files + self.new.faults) result }
 
         // A drive's file is raised, and so is the table's.
-        ensures drive { file < 16 → OnOk result ((is_marked self.new.current file ≡ true) × (is_marked self.new.raised file ≡ true)) }
+        ensures drive { file < 16 → OnOk result ((is_flagged self.new.current file ≡ true) × (is_flagged self.new.raised file ≡ true)) }
         ensures table { file ≡ 16 → OnOk result ((self.new.generation ≡ suc self.old.generation) × (self.new.current ≡ self.old.raised)) }
     {
         if file > TABLE {

@@ -1,6 +1,6 @@
 -- What is read of a vault's table.
 use Rattle.std.proofs.Common.{◌≡◌, ◌≢◌, ◌⊎◌, ◌<◌, ◌+◌, inl, inr, ℕ, zero, suc, Option, Some, None, List, [], ◌∷◌, ◌++◌, length, take, slice_get, slice_set, refl, sym, ◌∙◌, ap, subst, arith}
-use Rattle.std.specs.Prelude.{Bool, true, Err, IfOk, Ok, Result, option_map}
+use Rattle.std.specs.Prelude.{true, is_some, Err, IfOk, IfSome, Ok, Result, option_map}
 use Rattle.std.proofs.lemmas.Option.{same_Some, none-some, slice_get_cases, slice_get_within}
 use Rattle.extent_groups.specs.Cells.{Cells, held}
 use Rattle.extent_groups.specs.Groups.{Groups}
@@ -13,7 +13,8 @@ use Rattle.vault.specs.Moments.{Elapses}
 use Rattle.vault.specs.declared.store.Stop.{Stop}
 use Rattle.vault.proofs.Writes.{after_both, flat_last, take_next}
 use Rattle.group_form.specs.Form.{HasGroups, Spells, count_unit, group_unit}
-use Rattle.group_form.specs.Reading.{AreUnitsOf, WasRead}
+use Rattle.group_form.specs.Reading.{AreKnownOf, AreUnitsOf, WasRead}
+use Rattle.group_form.proofs.Writing.{over_there}
 
 -- a write of a batch, by its place and its unit
 abbrev pub write : Place → List ℕ → Intended
@@ -33,10 +34,11 @@ after_batch c batches i batch at =
     ap (λ bs. after c (flat bs)) (take_next batches i batch at) ∙ (ap (λ ws. after c ws) (flat_last (take i batches) batch) ∙ after_both (flat (take i batches)) batch c)
 
 -- a write for another place than those of the units
-pub laid_else : (units : List (List ℕ)) (c : Cells) (place : Place) (unit : List ℕ) → (place.drive ≢ 16) ⊎ ((place.address ≡ 0) ⊎ (length units < place.address))
-    → AreUnitsOf units c → AreUnitsOf units (with_unit c (write place unit))
+pub laid_else : (units : List (Option (List ℕ))) (c : Cells) (place : Place) (unit : List ℕ) → (place.drive ≢ 16) ⊎ ((place.address ≡ 0) ⊎ (length units < place.address))
+    → AreKnownOf units c → AreKnownOf units (with_unit c (write place unit))
 laid_else units c place unit apart are = record {
-  each = λ u x e. write_else c (write place unit) (record { drive = 16; address = suc u }) (λ same. by u (slice_get_within units u x e) same apart) ∙ are.each u x e;
+  each = λ u x e. same u (Some x) e ∙ are.each u x e;
+  there = λ u o e. ap is_some (same u o e) ∙ are.there u o e;
 }
   where
     by : (u : ℕ) → u < length units → place ≡ record { drive = 16; address = suc u } → (place.drive ≢ 16) ⊎ ((place.address ≡ 0) ⊎ (length units < place.address)) → ⊥
@@ -44,42 +46,63 @@ laid_else units c place unit apart are = record {
     by u low same (inr (inl none)) = let a = ap (λ (p : Place). p.address) same in omega (arith, a, none)
     by u low same (inr (inr past)) = let a = ap (λ (p : Place). p.address) same in omega (arith, a, past, low)
 
--- a write for the place of one of the units
-pub laid_here : (units : List (List ℕ)) (c : Cells) (place : Place) (unit : List ℕ) (index : ℕ) → place.drive ≡ 16 → place.address ≡ suc index → index < length units
-    → AreUnitsOf units c → AreUnitsOf (slice_set units index unit) (with_unit c (write place unit))
-laid_here units c place unit index table at low are = record { each = λ u x e. by u x e (same_or_not u index) }
+    same : (u : ℕ) (o : Option (List ℕ)) → slice_get units u ≡ Some o → with_unit c (write place unit) 16 (suc u) ≡ c 16 (suc u)
+    same u o e = write_else c (write place unit) (record { drive = 16; address = suc u }) (λ is. by u (slice_get_within units u o e) is apart)
+
+-- a write for the place of one of the units, which is known then
+pub laid_here : (units : List (Option (List ℕ))) (c : Cells) (place : Place) (unit : List ℕ) (index : ℕ) → place.drive ≡ 16 → place.address ≡ suc index → index < length units
+    → AreKnownOf units c → AreKnownOf (slice_set units index (Some unit)) (with_unit c (write place unit))
+laid_here units c place unit index table at low are = record {
+  each = λ u x e. by u x e (same_or_not u index);
+  there = λ u o e. still u o e (same_or_not u index);
+}
   where
     here : place ≡ record { drive = 16; address = suc index }
     here = ap (λ d. let p : Place = record { drive = d; address = place.address } in p) table ∙ ap (λ a. let p : Place = record { drive = 16; address = a } in p) at
 
-    old : (x : List ℕ) × (slice_get units index ≡ Some x)
+    old : (o : Option (List ℕ)) × (slice_get units index ≡ Some o)
     old = elim (slice_get_cases units index).1 [ inl is ↦ (is.0, is.2) | inr past ↦ (let high = past.0 in absurd (omega (arith, low, high))) ]
 
     written : held (with_unit c (write place unit)) place ≡ Some unit
-    written = write_here c (write place unit) ∙ (ap (λ o. over o unit) (ap (λ p. held c p) here ∙ are.each index old.0 old.1))
+    written = write_here c (write place unit) ∙ (ap (λ o. over o unit) (ap (λ p. held c p) here) ∙ over_there (c 16 (suc index)) unit (are.there index old.0 old.1))
 
-    by : (u : ℕ) (x : List ℕ) → slice_get (slice_set units index unit) u ≡ Some x → (u ≡ index) ⊎ (u ≢ index) → with_unit c (write place unit) 16 (suc u) ≡ Some x
-    by u x e (inl same) = ap (λ k. with_unit c (write place unit) 16 (suc k)) same ∙ (ap (λ (p : Place). held (with_unit c (write place unit)) p) (sym here) ∙ (written
-        ∙ (sym (get-set_same units index unit low) ∙ (ap (λ k. slice_get (slice_set units index unit) k) (sym same) ∙ e))))
-    by u x e (inr ne) =
-        write_else c (write place unit) (record { drive = 16; address = suc u }) (λ same. ne (let a = ap (λ (p : Place). p.address) same in omega (arith, a, at)))
-        ∙ are.each u x (sym (get-set_other units index u unit ne) ∙ e)
+    now : (u : ℕ) → u ≡ index → with_unit c (write place unit) 16 (suc u) ≡ Some unit
+    now u same = ap (λ k. with_unit c (write place unit) 16 (suc k)) same ∙ (ap (λ (p : Place). held (with_unit c (write place unit)) p) (sym here) ∙ written)
 
--- one unit more
-pub units_add : (units : List (List ℕ)) (c : Cells) (unit : List ℕ) → c 16 (suc (length units)) ≡ Some unit → AreUnitsOf units c → AreUnitsOf (units ++ unit ∷ []) c
-units_add units c unit at are = record { each = λ u x e. by units are u x e }
-  where
-    at_end : (xs : List (List ℕ)) (u : ℕ) (x : List ℕ) → slice_get (xs ++ unit ∷ []) u ≡ Some x → (slice_get xs u ≡ Some x) ⊎ ((u ≡ length xs) × (x ≡ unit))
-    at_end [] zero x e = inr (refl, sym (same_Some unit x e))
-    at_end [] (suc u) x e = absurd (none-some x e)
-    at_end (y ∷ ys) zero x e = inl e
-    at_end (y ∷ ys) (suc u) x e = elim (at_end ys u x e) [ inl old ↦ inl old | inr new ↦ inr (ap suc new.0, new.1) ]
+    apart : (u : ℕ) → u ≢ index → with_unit c (write place unit) 16 (suc u) ≡ c 16 (suc u)
+    apart u ne = write_else c (write place unit) (record { drive = 16; address = suc u }) (λ same. ne (let a = ap (λ (p : Place). p.address) same in omega (arith, a, at)))
 
-    by : (xs : List (List ℕ)) → AreUnitsOf units c → (u : ℕ) (x : List ℕ) → slice_get (units ++ unit ∷ []) u ≡ Some x → c 16 (suc u) ≡ Some x
-    by xs are u x e = elim (at_end units u x e) [
-      | inl old ↦ are.each u x old
-      | inr new ↦ ap (λ k. c 16 (suc k)) new.0 ∙ (at ∙ ap Some (sym new.1))
-    ]
+    by : (u : ℕ) (x : List ℕ) → slice_get (slice_set units index (Some unit)) u ≡ Some (Some x) → (u ≡ index) ⊎ (u ≢ index) → with_unit c (write place unit) 16 (suc u) ≡ Some x
+    by u x e (inl same) = now u same ∙ same_Some (Some unit) (Some x) (sym (get-set_same units index (Some unit) low)
+        ∙ (ap (λ k. slice_get (slice_set units index (Some unit)) k) (sym same) ∙ e))
+    by u x e (inr ne) = apart u ne ∙ are.each u x (sym (get-set_other units index u (Some unit) ne) ∙ e)
+
+    still : (u : ℕ) (o : Option (List ℕ)) → slice_get (slice_set units index (Some unit)) u ≡ Some o → (u ≡ index) ⊎ (u ≢ index)
+        → is_some (with_unit c (write place unit) 16 (suc u)) ≡ true
+    still u o e (inl same) = ap is_some (now u same)
+    still u o e (inr ne) = ap is_some (apart u ne) ∙ are.there u o (sym (get-set_other units index u (Some unit) ne) ∙ e)
+
+-- what is last in a list with one more, or before that
+at_end : {X : Type 0} (more : X) (xs : List X) (u : ℕ) (x : X) → slice_get (xs ++ more ∷ []) u ≡ Some x → (slice_get xs u ≡ Some x) ⊎ ((u ≡ length xs) × (x ≡ more))
+at_end more [] zero x e = inr (refl, sym (same_Some more x e))
+at_end more [] (suc u) x e = absurd (none-some x e)
+at_end more (y ∷ ys) zero x e = inl e
+at_end more (y ∷ ys) (suc u) x e = elim (at_end more ys u x e) [ inl old ↦ inl old | inr new ↦ inr (ap suc new.0, new.1) ]
+
+-- one unit more, which may be known
+pub units_add : (units : List (Option (List ℕ))) (c : Cells) (o : Option (List ℕ)) → IfSome o (λ unit. c 16 (suc (length units)) ≡ Some unit)
+    → is_some (c 16 (suc (length units))) ≡ true → AreKnownOf units c → AreKnownOf (units ++ o ∷ []) c
+units_add units c o at is are = record {
+  each = λ u x e. elim (at_end o units u (Some x) e) [
+    | inl old ↦ are.each u x old
+    | inr new ↦ ap (λ k. c 16 (suc k)) new.0 ∙ subst (λ (q : Option (List ℕ)). IfSome q (λ unit. c 16 (suc (length units)) ≡ Some unit)) (sym new.1) at
+  ];
+  there = λ u p e. elim (at_end o units u p e) [ inl old ↦ are.there u p old | inr new ↦ ap (λ k. is_some (c 16 (suc k))) new.0 ∙ is ];
+}
+
+-- the first units are known
+pub record AreFirst (units : List (Option (List ℕ))) (known : List (List ℕ)) : Type 0 where
+  pub each : (u : ℕ) (x : List ℕ) → slice_get known u ≡ Some x → slice_get units u ≡ Some (Some x)
 
 -- what is said where a call succeeds
 pub only_ok : {T E : Type 0} (P Q : T → Type 0) (r : Result T E) → IfOk r P → ((x : T) → P x → IfOk r Q) → IfOk r Q

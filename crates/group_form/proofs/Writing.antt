@@ -9,7 +9,7 @@ use Rattle.vault.proofs.Writes.{after_both, some_after}
 use Rattle.extent_groups.specs.Groups.{Groups}
 use Rattle.group_form.specs.Form.{HasFormPlaces, HasGroups, SameButGroups, count_unit, form_write, group_unit}
 
-over_there : (o : Option (List ℕ)) (unit : List ℕ) → is_some o ≡ true → over o unit ≡ Some unit
+pub over_there : (o : Option (List ℕ)) (unit : List ℕ) → is_some o ≡ true → over o unit ≡ Some unit
 over_there (Some old) unit there = refl
 over_there None unit there = absurd (cc)
 

@@ -12,7 +12,7 @@ pub enum FormFault {
     Memory,
     /// A call of the vault failed.
     Vault(VaultError),
-    /// A unit of the table isn't there, or has another length.
+    /// A unit of the table isn't there, has another length, or is rotten and not written by the journal.
     Missing,
     /// The units spell no groups of these sizes.
     Misfit,

@@ -1,9 +1,9 @@
 // The units of a vault's table that spell the groups.
-ghost use Rattle.std.specs.Prelude.{◌≡◌, suc, Some, IfOk, IfSome, OnOk};
+ghost use Rattle.std.specs.Prelude.{◌≡◌, is_some, suc, true, Some, IfOk, IfSome, OnOk};
 ghost use Rattle.extent_groups.specs.Cells.{Cells};
 ghost use Rattle.extent_groups.specs.Planned.{after, with_unit};
 ghost use Rattle.vault.specs.Images.{Image, recovered};
-ghost use Rattle.group_form.specs.Reading.{AreUnitsOf, WasRead};
+ghost use Rattle.group_form.specs.Reading.{AreKnownOf, AreUnitsOf, WasRead};
 
 use crate::fault::FormFault;
 use crate::spell::{FORM_BYTES, FORM_UNITS};
@@ -11,11 +11,12 @@ use extent_groups::Place;
 use std::alloc::Global;
 use vault::{Batch, TABLE, UnitRead, Vault};
 
-// The unit of an index, as the vault has it without its journal.
-fn load_unit<V: Vault>(vault: &mut V, index: u16) -> Result<[u8; FORM_BYTES], FormFault>
+// The unit of an index, as the vault has it without its journal; none where it is rotten, as a stop leaves it that tore it.
+fn load_unit<V: Vault>(vault: &mut V, index: u16) -> Result<Option<[u8; FORM_BYTES]>, FormFault>
     ensures stays { V.known vault.old → V.known vault.new }
     ensures read { V.known vault.old → WasRead V.seen V.may_leave V.moment V.left_since vault.old vault.new }
-    ensures unit { V.known vault.old → IfOk result (λ unit. Image.cells (V.seen vault.old) 16 (suc index) ≡ Some unit) }
+    ensures unit { V.known vault.old → IfOk result (λ found. IfSome found (λ unit. Image.cells (V.seen vault.old) 16 (suc index) ≡ Some unit)) }
+    ensures there { V.known vault.old → OnOk result (is_some (Image.cells (V.seen vault.old) 16 (suc index)) ≡ true) }
 {
     let place = Place {
         drive: TABLE,
@@ -23,16 +24,21 @@ fn load_unit<V: Vault>(vault: &mut V, index: u16) -> Result<[u8; FORM_BYTES], Fo
     };
     let mut unit = [0u8; FORM_BYTES];
     match vault.read_unit(place, &mut unit)? {
-        UnitRead::Whole => Ok(unit),
-        _ => Err(FormFault::Missing),
+        UnitRead::Whole => Ok(Some(unit)),
+        // A batch of the journal may write it.
+        UnitRead::Rotten => Ok(None),
+        UnitRead::Absent => Err(FormFault::Missing),
     }
 }
 
-// All units, as the vault has them without its journal.
-fn load_units<V: Vault>(alloc: Global, vault: &mut V) -> Result<Vec<[u8; FORM_BYTES]>, FormFault>
+// All units that aren't rotten, as the vault has them without its journal.
+fn load_units<V: Vault>(
+    alloc: Global,
+    vault: &mut V,
+) -> Result<Vec<Option<[u8; FORM_BYTES]>>, FormFault>
     ensures stays { V.known vault.old → V.known vault.new }
     ensures read { V.known vault.old → WasRead V.seen V.may_leave V.moment V.left_since vault.old vault.new }
-    ensures units { V.known vault.old → IfOk result (λ units. AreUnitsOf units.items (Image.cells (V.seen vault.old))) }
+    ensures units { V.known vault.old → IfOk result (λ units. AreKnownOf units.items (Image.cells (V.seen vault.old))) }
 {
     let mut units = Vec::new(alloc);
     for index in 0..FORM_UNITS {
@@ -55,8 +61,12 @@ fn copied(unit: &[u8]) -> Option<[u8; FORM_BYTES]>
 }
 
 // Makes one write.
-fn lay_unit(units: &mut [[u8; FORM_BYTES]], place: Place, unit: &[u8]) -> Result<(), FormFault>
-    ensures { OnOk result ((c : Cells) → AreUnitsOf units.old c → AreUnitsOf units.new (with_unit c (record { place = place; unit = unit.now }))) }
+fn lay_unit(
+    units: &mut [Option<[u8; FORM_BYTES]>],
+    place: Place,
+    unit: &[u8],
+) -> Result<(), FormFault>
+    ensures { OnOk result ((c : Cells) → AreKnownOf units.old c → AreKnownOf units.new (with_unit c (record { place = place; unit = unit.now }))) }
 {
     if place.drive != TABLE || place.address == 0 {
         return Ok(());
@@ -68,13 +78,13 @@ fn lay_unit(units: &mut [[u8; FORM_BYTES]], place: Place, unit: &[u8]) -> Result
     let Some(bytes) = copied(unit) else {
         return Err(FormFault::Missing);
     };
-    units[index] = bytes;
+    units[index] = Some(bytes);
     Ok(())
 }
 
 // Makes a batch's writes.
-fn lay_batch(units: &mut [[u8; FORM_BYTES]], batch: &Batch) -> Result<(), FormFault>
-    ensures { OnOk result ((c : Cells) → AreUnitsOf units.old c → AreUnitsOf units.new (after c batch.now)) }
+fn lay_batch(units: &mut [Option<[u8; FORM_BYTES]>], batch: &Batch) -> Result<(), FormFault>
+    ensures { OnOk result ((c : Cells) → AreKnownOf units.old c → AreKnownOf units.new (after c batch.now)) }
 {
     for index in 0..batch.len() {
         lay_unit(units, batch.place(index), batch.unit(index))?;
@@ -86,12 +96,12 @@ fn lay_batch(units: &mut [[u8; FORM_BYTES]], batch: &Batch) -> Result<(), FormFa
 fn lay_journal<V: Vault>(
     vault: &mut V,
     batch: &mut Batch,
-    units: &mut [[u8; FORM_BYTES]],
+    units: &mut [Option<[u8; FORM_BYTES]>],
 ) -> Result<(), FormFault>
     ensures stays { V.known vault.old → V.known vault.new }
     ensures read { V.known vault.old → WasRead V.seen V.may_leave V.moment V.left_since vault.old vault.new }
     ensures units { V.known vault.old
-        → OnOk result (AreUnitsOf units.old (Image.cells (V.seen vault.old)) → AreUnitsOf units.new (recovered (V.seen vault.old))) }
+        → OnOk result (AreKnownOf units.old (Image.cells (V.seen vault.old)) → AreKnownOf units.new (recovered (V.seen vault.old))) }
 {
     let count = vault.batches()?;
     for index in 0..count {
@@ -101,7 +111,25 @@ fn lay_journal<V: Vault>(
     Ok(())
 }
 
-/// The units of the table that spell the groups, as the vault stands for them.
+// The units, if all are known.
+fn all_known(
+    alloc: Global,
+    units: &[Option<[u8; FORM_BYTES]>],
+) -> Result<Vec<[u8; FORM_BYTES]>, FormFault>
+    ensures { IfOk result (λ known. (c : Cells) → AreKnownOf units.now c → AreUnitsOf known.items c) }
+{
+    let mut known = Vec::new(alloc);
+    for index in 0..units.len() {
+        let Some(unit) = units[index] else {
+            return Err(FormFault::Missing);
+        };
+        known.push(unit)?;
+    }
+    Ok(known)
+}
+
+/// The units of the table that spell the groups, as the vault stands for them. Refused where one is rotten that the journal doesn't
+/// write.
 pub(crate) fn table_units<V: Vault>(
     alloc: Global,
     vault: &mut V,
@@ -113,5 +141,5 @@ pub(crate) fn table_units<V: Vault>(
     let mut batch = Batch::new(alloc);
     let mut units = load_units(alloc, vault)?;
     lay_journal(vault, &mut batch, &mut units)?;
-    Ok(units)
+    all_known(alloc, &units)
 }

@@ -4,7 +4,7 @@ use Rattle.std.specs.Int.{w32, w64, from_le_bytes}
 use Rattle.std.proofs.Common.{refl, sym, ◌∙◌, ap, arith}
 use Rattle.std.proofs.Math.Nat.{mod-lt, mod-eq_of_lt, div-add-mod}
 use Rattle.std.proofs.lemmas.Nat.{from_le_bytes-to_le_bytes_8}
-use Rattle.unit_digest.specs.Digests.{start, word, sums_over, words_of, bytes_of, digest}
+use Rattle.unit_digest.specs.Digests.{start, word, sums_over, words_of, digest_bytes, digest}
 use Rattle.unit_digest.specs.declared.sums.Sums.{Sums}
 
 -- a digest has 32 bytes
@@ -30,7 +30,7 @@ first_same s t unit (suc n) ls lt e =
     first_same s t unit n ls lt (same_rest (sums_over s unit n).first (sums_over t unit n).first (word unit n) (first_small s unit n ls) (first_small t unit n lt) e)
 
 -- the first sum by its bytes
-first_of : (s t : Sums) → s.first < 2 ^ 64 → t.first < 2 ^ 64 → bytes_of s ≡ bytes_of t → s.first ≡ t.first
+first_of : (s t : Sums) → s.first < 2 ^ 64 → t.first < 2 ^ 64 → digest_bytes s ≡ digest_bytes t → s.first ≡ t.first
 first_of s t ls lt e =
     sym (from_le_bytes-to_le_bytes_8 s.first ls) ∙ ap (λ (bytes : List ℕ). from_le_bytes w64 (take 8 bytes)) e ∙ from_le_bytes-to_le_bytes_8 t.first lt
 

@@ -29,9 +29,9 @@ abbrev pub words_of : ℕ → ℕ
 words_of length = if nat_lt (4 * (length / 4)) length then length / 4 + 1 else length / 4
 
 -- sums as bytes
-abbrev pub bytes_of : Sums → List ℕ
-bytes_of s = to_le_bytes w64 s.first ++ (to_le_bytes w64 s.second ++ (to_le_bytes w64 s.third ++ to_le_bytes w64 s.fourth))
+abbrev pub digest_bytes : Sums → List ℕ
+digest_bytes s = to_le_bytes w64 s.first ++ (to_le_bytes w64 s.second ++ (to_le_bytes w64 s.third ++ to_le_bytes w64 s.fourth))
 
 -- the digest of a unit at an address of a drive
 unfoldable pub digest : ℕ → ℕ → List ℕ → List ℕ
-digest drive address unit = bytes_of (sums_over (start drive address) unit (words_of (length unit)))
+digest drive address unit = digest_bytes (sums_over (start drive address) unit (words_of (length unit)))

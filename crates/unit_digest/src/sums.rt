@@ -1,6 +1,6 @@
 // Fletcher-4: four sums of 64 bits, each of the one before it, over words of 32 bits.
 ghost use Rattle.std.specs.Prelude.{◌≡◌};
-ghost use Rattle.unit_digest.specs.Digests.{start as the_start, with_word as the_with_word, bytes_of};
+ghost use Rattle.unit_digest.specs.Digests.{start as the_start, with_word as the_with_word, digest_bytes};
 
 /// The sums over the first words of a unit.
 #[derive(Clone, Copy)]
@@ -47,7 +47,7 @@ impl Sums {
 
     /// The sums as bytes, eight each, the lowest first.
     pub(crate) fn bytes(self) -> [u8; 32]
-        ensures { result ≡ bytes_of self }
+        ensures { result ≡ digest_bytes self }
     {
         let mut bytes = [0; 32];
         bytes[..8].copy_from_slice(&self.first.to_le_bytes());

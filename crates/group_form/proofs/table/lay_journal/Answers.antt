@@ -3,7 +3,7 @@ use Rattle.std.specs.Prelude.{slice_get}
 use Rattle.extent_groups.specs.Cells.{Cells}
 use Rattle.extent_groups.specs.Planned.{after}
 use Rattle.vault.specs.Images.{Image, flat}
-use Rattle.group_form.specs.Reading.{AreUnitsOf}
+use Rattle.group_form.specs.Reading.{AreKnownOf}
 use Rattle.group_form.proofs.Reading.{after_batch, read_call}
 use Rattle.group_form.proofs.table.lay_journal.Goals as goal
 
@@ -46,6 +46,6 @@ loop-index-preserved g c = record {
       omega (arith, c.loop-index-test.true, c.in_ok-count.ensures.count known, same) in
       let at : slice_get base.journal i ≡ Some c.read_batch.new.batch =
       subst (λ (s : Image). slice_get s.journal i ≡ Some c.read_batch.new.batch) finds (c.in_ok-read_batch.ensures.batch now inside) in
-      subst (λ (e : Cells). AreUnitsOf c.lay_batch.new.units e) (sym (after_batch base.cells base.journal i c.read_batch.new.batch at))
+      subst (λ (e : Cells). AreKnownOf c.lay_batch.new.units e) (sym (after_batch base.cells base.journal i c.read_batch.new.batch at))
       (c.in_ok-lay_batch.ensures (after base.cells (flat (take i base.journal))) (c.loop-index.invariant.units known are));
 }

@@ -1,7 +1,8 @@
-use Rattle.std.proofs.Common.{◌≡◌, ◌+◌, slice_get, ◌∷◌, [], ℕ, suc, Some, List, length, length-append, sym, ◌∙◌, ap, subst}
+use Rattle.std.proofs.Common.{◌≡◌, ◌+◌, slice_get, ◌∷◌, [], ℕ, suc, Option, Some, List, length, length-append, sym, ◌∙◌, ap, subst}
+use Rattle.std.specs.Prelude.{is_some, IfSome}
 use Rattle.std.proofs.lemmas.Option.{none-some}
 use Rattle.vault.specs.Images.{Image}
-use Rattle.group_form.specs.Reading.{AreUnitsOf}
+use Rattle.group_form.specs.Reading.{AreKnownOf}
 use Rattle.group_form.proofs.Reading.{read_more, read_none, units_add}
 use Rattle.group_form.proofs.table.load_units.Goals as goal
 
@@ -10,7 +11,10 @@ loop-index-init g c = record {
   stays = λ known. known;
   read = λ known. read_none g.V.Vault.seen g.V.Vault.may_leave g.V.Vault.moment g.V.Vault.left_since c.args.vault.now;
   many = ap length c.new-units.ensures.items;
-  units = λ known. record { each = λ u x e. absurd (none-some x (subst (λ (l : List (List ℕ)). slice_get l u ≡ Some x) c.new-units.ensures.items e)) };
+  units = λ known. record {
+    each = λ u x e. absurd (none-some (Some x) (subst (λ (l : List (Option (List ℕ))). slice_get l u ≡ Some (Some x)) c.new-units.ensures.items e));
+    there = λ u o e. absurd (none-some o (subst (λ (l : List (Option (List ℕ))). slice_get l u ≡ Some o) c.new-units.ensures.items e));
+  };
 }
 
 pub returns-in_err-unit-clause-read : goal.returns-in_err-unit-clause-read
@@ -34,6 +38,12 @@ loop-index-preserved g c =
       many = ap length items ∙ length-append units (unit ∷ []) ∙ ap (λ n. n + 1) inv.many;
       units = λ known.
           let cells = Image.cells (g.V.Vault.seen c.args.vault.now) in
-          subst (λ (l : List (List ℕ)). AreUnitsOf l cells) (sym items)
-          (units_add units cells unit (ap (λ n. cells 16 (suc n)) inv.many ∙ (ap (λ (s : Image). s.cells 16 (suc c.loop-index.index)) (sym (inv.read known).finds) ∙ c.in_ok-unit.ensures.unit (inv.stays known))) (inv.units known));
+          let at = ap (λ (i : Image). i.cells 16 (suc c.loop-index.index)) (inv.read known).finds in
+          let spot = ap (λ n. cells 16 (suc n)) inv.many in
+          let seen = spot ∙ sym at in
+          subst (λ (l : List (Option (List ℕ))). AreKnownOf l cells) (sym items)
+          (units_add units cells unit
+          (subst (λ o. IfSome unit (λ x. o ≡ Some x)) (sym seen) (c.in_ok-unit.ensures.unit (inv.stays known)))
+          (ap is_some seen ∙ c.in_ok-unit.ensures.there (inv.stays known))
+          (inv.units known));
     }

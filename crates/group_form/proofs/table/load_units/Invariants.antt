@@ -1,6 +1,6 @@
 use Rattle.std.proofs.Common.{◌≡◌, length}
 use Rattle.vault.specs.Images.{Image}
-use Rattle.group_form.specs.Reading.{AreUnitsOf, WasRead}
+use Rattle.group_form.specs.Reading.{AreKnownOf, WasRead}
 use Rattle.group_form.proofs.table.load_units.Given as goal
 
 -- the first units are loaded
@@ -9,5 +9,5 @@ invariant-loop-index g l = record {
   stays : g.V.Vault.known l.fn.vault → g.V.Vault.known l.vault;
   read : g.V.Vault.known l.fn.vault → WasRead g.V.Vault.seen g.V.Vault.may_leave g.V.Vault.moment g.V.Vault.left_since l.fn.vault l.vault;
   many : length l.units.items ≡ l.index;
-  units : g.V.Vault.known l.fn.vault → AreUnitsOf l.units.items (Image.cells (g.V.Vault.seen l.fn.vault));
+  units : g.V.Vault.known l.fn.vault → AreKnownOf l.units.items (Image.cells (g.V.Vault.seen l.fn.vault));
 }
