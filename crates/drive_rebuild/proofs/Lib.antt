@@ -1,7 +1,7 @@
-mod Shown
+pub mod Shown
 mod Restated
-mod Rebuilding
-mod Underway
+pub mod Rebuilding
+pub mod Underway
 mod Verified
 mod Replacing
 mod Settling

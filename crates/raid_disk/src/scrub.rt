@@ -143,15 +143,8 @@ fn print(rt: &HostRuntime, report: &Report) -> io::Result<()> {
     }
 }
 
-fn print_json(rt: &HostRuntime, report: &Report) -> io::Result<()> {
-    let slots = report.findings.slots;
-    let unsound = report.findings.unsound;
-    let headers = report.are_headers_sound;
-    let accepted = report.accepted;
-    let mended = report.mended;
-    print!(rt;
-        "{{\"mended\":{mended},\"accepted\":{accepted},\"slots\":{slots},\"unsound\":{unsound},\"headers\":{headers},\"named\":["
-    )?;
+// Prints the slots that are named, for JSON.
+fn print_named(rt: &HostRuntime, report: &Report) -> io::Result<()> {
     let mut comma = "";
     for slot in report.findings.named.iter() {
         let group = *slot / 128;
@@ -159,14 +152,34 @@ fn print_json(rt: &HostRuntime, report: &Report) -> io::Result<()> {
         print!(rt; "{comma}{{\"group\":{group},\"slot\":{index}}}")?;
         comma = ",";
     }
-    print!(rt; "],\"missing\":[")?;
-    comma = "";
+    Ok(())
+}
+
+// Prints the lost drives, for JSON.
+fn print_missing(rt: &HostRuntime, report: &Report) -> io::Result<()> {
+    let mut comma = "";
     for drive in 0..report.drives {
         if is_lost(report, drive) {
             print!(rt; "{comma}{drive}")?;
             comma = ",";
         }
     }
+    Ok(())
+}
+
+fn print_json(rt: &HostRuntime, report: &Report) -> io::Result<()> {
+    let slots = report.findings.slots;
+    let unsound = report.findings.unsound;
+    let headers = report.are_headers_sound;
+    let accepted = report.accepted;
+    let mended = report.mended;
+    print!(rt;
+        "{{\"mended\":{mended},\"accepted\":{accepted},\"slots\":{slots},\"unsound\":{unsound}"
+    )?;
+    print!(rt; ",\"headers\":{headers},\"named\":[")?;
+    print_named(rt, report)?;
+    print!(rt; "],\"missing\":[")?;
+    print_missing(rt, report)?;
     println!(rt; "]}}")
 }
 
