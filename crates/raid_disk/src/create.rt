@@ -58,7 +58,8 @@ pub(crate) fn zeroed(file: &mut File, bytes: u64) -> io::Result<()> {
     file.sync_all()
 }
 
-fn written(file: &mut File, text: &str) -> io::Result<()> {
+/// Writes a text, and makes it durable.
+pub(crate) fn written(file: &mut File, text: &str) -> io::Result<()> {
     file.write_all(text.as_bytes())?;
     file.sync_all()
 }
@@ -72,8 +73,8 @@ fn make_folder(rt: &HostRuntime, folder: Folder<'_>) -> Result<(), Trouble> {
     }
 }
 
-// Whether a file is there.
-fn is_there(rt: &HostRuntime, folder: Folder<'_>, name: Name) -> Result<bool, Trouble> {
+/// Whether a file is there.
+pub(crate) fn is_there(rt: &HostRuntime, folder: Folder<'_>, name: Name) -> Result<bool, Trouble> {
     let path = folder.path(rt.alloc(), name)?;
     match fs::exists(rt, &path) {
         Ok(is_there) => Ok(is_there),
@@ -168,7 +169,7 @@ fn make_table(
     identity: Uuid,
     plan: &Plan,
 ) -> Result<(), Trouble> {
-    let text = text_of(rt.alloc(), identity, plan)?;
+    let text = text_of(rt.alloc(), identity, plan, plan.drives)?;
     make_copy(rt, folder, &text)?;
     let mut file = make_file(rt, folder, Name::Fresh)?;
     if let Err(error) = written(&mut file, &text) {
@@ -244,7 +245,7 @@ pub(crate) fn create_disk(
     }
     let number = new_identity(rt)?;
     let identity = Uuid::from_bytes(number);
-    let layout = layout_of(&plan);
+    let layout = layout_of(&plan, plan.drives);
     make_folder(rt, folder)?;
     look(rt, folder, drives)?;
     let mut files = DiskFiles {

@@ -120,7 +120,7 @@ fn sight_in(
     if !is_of(&header, table) {
         return Ok(Sight::Foreign);
     }
-    if header.number >= table.plan.drives {
+    if header.number >= table.drives {
         return Ok(Sight::NoDrive);
     }
     let expected = header_of(layout, header.number, table.identity);
@@ -174,7 +174,7 @@ fn look_around(
     layout: &Layout,
     table: &Table,
 ) -> Result<Vec<Sight>, Trouble> {
-    let drives = table.plan.drives;
+    let drives = table.drives;
     let mut nodes = Vec::new(rt.alloc());
     let mut sights = Vec::new(rt.alloc());
     for index in 0..usize::from(drives).saturating_add(folder.others.len()) {
@@ -248,7 +248,7 @@ pub(crate) fn open_drives(
     layout: &Layout,
     table: &Table,
 ) -> Result<Drives, Trouble> {
-    let drives = table.plan.drives;
+    let drives = table.drives;
     let mut sights = look_around(rt, folder, layout, table)?;
     for drive in 0..drives {
         if let Choice::At(index) = choose(&sights, drive) {

@@ -1,6 +1,7 @@
 //! A disk on files: made in a folder, served to an NBD client on standard input and output, described, tested and mended.
 #![tactic(auto)]
 
+mod add;
 mod create;
 mod disk_files;
 mod drawing;
@@ -147,6 +148,7 @@ fn carry_out_once<'w>(
         "create" => create_from(rt, given, folder),
         "serve" => serve_from(rt, given, folder),
         "replace" => replace_from(rt, given, folder),
+        "add" => add::add(rt, folder, given.get_str("path")),
         "scrub" => scrub::scrub(rt, folder, given.get_flag("json"), given.get_flag("accept")),
         "picture" => drawing::print_picture(rt, folder),
         _ => status::show(rt, folder, given.get_flag("json")),

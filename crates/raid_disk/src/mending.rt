@@ -18,10 +18,10 @@ fn lost_of(files: &mut OpenFiles, batch: &mut Batch) -> Result<[bool; DRIVES], T
     }
 }
 
-// Refuses to mend where a drive is lost: what it shares with others can't be computed, and its own units may be old.
-fn test_none_lost(files: &mut OpenFiles, batch: &mut Batch) -> Result<(), Trouble> {
+// Refuses to mend where one of the drives is lost: what it shares with others can't be computed, and its own units may be old.
+fn test_none_lost(files: &mut OpenFiles, batch: &mut Batch, drives: u8) -> Result<(), Trouble> {
     let lost = lost_of(files, batch)?;
-    for drive in 0..files.table.plan.drives {
+    for drive in 0..drives {
         if lost[usize::from(drive % 16)] {
             return Err(Trouble::RottenAndLost(drive));
         }
@@ -53,17 +53,24 @@ fn tell(rt: &HostRuntime, folder: Folder<'_>, count: u32) -> io::Result<()> {
 /// Mends the units of a disk of which no drive is lost. Returns how many.
 pub(crate) fn mend_disk(rt: &HostRuntime, folder: Folder<'_>) -> Result<u32, Trouble> {
     let (file, table) = open_table(rt, folder, Use::Serves)?;
-    let plan = table.plan;
     let mut files = open_vault(rt, folder, Use::Serves, file, table)?;
     let mut batch = Batch::new(rt.alloc());
-    test_none_lost(&mut files, &mut batch)?;
+    let table = files.table;
+    let spelled = groups_in(rt.alloc(), &mut files.vault, &table)?;
+    test_none_lost(&mut files, &mut batch, spelled.drives)?;
     // What the journal has isn't rotten once it is at its place.
     if let Err(error) = settle(&mut files.vault, &mut batch, &[false; DRIVES]) {
         return Err(Trouble::Vault(error));
     }
-    let (groups, extents) = groups_in(rt.alloc(), &mut files.vault, &plan)?;
     let vault = &mut files.vault;
-    match mend(rt.alloc(), vault, &plan.shape, groups, extents, plan.drives) {
+    match mend(
+        rt.alloc(),
+        vault,
+        &table.plan.shape,
+        spelled.groups,
+        spelled.extents,
+        spelled.drives,
+    ) {
         Ok(count) => {
             // Nothing is left to do where standard error can't be written.
             let _ = tell(rt, folder, count);
@@ -100,7 +107,7 @@ fn accept_units(
     let plan = files.table.plan;
     let mut unit = vec![in alloc; 0u8; plan.shape.unit_bytes()]?;
     let mut count = 0u32;
-    for drive in 0..plan.drives {
+    for drive in 0..files.table.drives {
         if lost[usize::from(drive % 16)] {
             continue;
         }

@@ -18,7 +18,7 @@ use file_vault::{
     FileVault, Files, Header, Layout, PairedFiles, RealFiles, StampedFiles, TABLE_SECOND, Verdict,
     judge, read_generation,
 };
-use group_form::{FormFault, find_groups};
+use group_form::{FormFault, Spelled, find_groups};
 use history::{Chronicle, Opened};
 use journaled_store::JournaledStore;
 use std::alloc::{AllocError, Global};
@@ -52,11 +52,11 @@ pub(crate) struct Disk<N: Chronicle> {
     pub(crate) file: File,
 }
 
-/// Where units lie in the files of a disk.
-pub(crate) fn layout_of(plan: &Plan) -> Layout {
+/// Where units lie in the files of a disk of so many drives.
+pub(crate) fn layout_of(plan: &Plan, drives: u8) -> Layout {
     let mut counts = [0u32; DRIVES];
     for drive in 0..DRIVES {
-        if drive < usize::from(plan.drives) {
+        if drive < usize::from(drives) {
             counts[drive] = plan.shape.drive_units();
         }
     }
@@ -183,7 +183,7 @@ fn note_old<F: Files>(
     let Ok(Some(generation)) = read_generation(files, TABLE) else {
         return Err(Trouble::NoState);
     };
-    for drive in 0..table.plan.drives {
+    for drive in 0..table.drives {
         if drives.is_there(drive) {
             let expected = header_of(layout, drive, table.identity);
             match judge(files, &expected, generation) {
@@ -242,14 +242,15 @@ pub(crate) fn groups_of(alloc: Global, plan: &Plan) -> Result<(GroupTable, Exten
     Ok((groups, extents))
 }
 
-/// The groups that a disk's table has, and the owners of the extents.
+/// The groups that a disk's vault has, the owners of the extents, and how many drives the array has: those of the text, or one less
+/// where the addition of the last one was stopped.
 pub(crate) fn groups_in(
     alloc: Global,
     vault: &mut DiskVault,
-    plan: &Plan,
-) -> Result<(GroupTable, ExtentTable), Trouble> {
-    match find_groups(alloc, vault, &plan.shape) {
-        Ok(found) if found.drives == plan.drives => Ok((found.groups, found.extents)),
+    table: &Table,
+) -> Result<Spelled, Trouble> {
+    match find_groups(alloc, vault, &table.plan.shape) {
+        Ok(found) if found.drives <= table.drives && found.drives >= table.plan.drives => Ok(found),
         Ok(_) | Err(FormFault::Misfit) => Err(Trouble::Unsound),
         Err(FormFault::Memory) => Err(Trouble::Memory),
         Err(FormFault::Vault(error)) => Err(Trouble::Vault(error)),
@@ -300,10 +301,10 @@ pub(crate) fn open_vault(
     file: File,
     table: Table,
 ) -> Result<OpenFiles, Trouble> {
-    let layout = layout_of(&table.plan);
+    let layout = layout_of(&table.plan, table.drives);
     let (files, mut drives) = open_files(rt, folder, &table, &layout, usage)?;
     // Nothing is left to do where standard error can't be written.
-    let _ = note_drives(rt, folder, &drives, table.plan.drives);
+    let _ = note_drives(rt, folder, &drives, table.drives);
     let (mut files, pairs) = open_pairs(rt, folder, files, &layout, &table, usage)?;
     note_old(&mut files, &layout, &table, &mut drives)?;
     let Ok(files) = StampedFiles::open(files) else {
@@ -328,15 +329,16 @@ fn name_marked(
     folder: Folder<'_>,
     vault: DiskVault,
     plan: &Plan,
+    count: u8,
     drives: &Drives,
 ) -> Result<(), Trouble> {
     let mut vault = vault;
     let absent = drives.absent();
-    let found = match find(rt.alloc(), &mut vault, &plan.shape, plan.drives, &absent) {
+    let found = match find(rt.alloc(), &mut vault, &plan.shape, count, &absent) {
         Ok(found) => found,
         Err(fault) => return Err(trouble_of(fault)),
     };
-    for drive in 0..plan.drives {
+    for drive in 0..count {
         let spot = usize::from(drive % 16);
         if found.lost[spot] && drives.is_there(drive) {
             // Nothing is left to do where standard error can't be written.
@@ -369,16 +371,17 @@ pub(crate) fn open_array<N: Chronicle>(
     let table = files.table;
     let plan = table.plan;
     let mut vault = files.vault;
-    let (groups, extents) = groups_in(alloc, &mut vault, &plan)?;
+    let spelled = groups_in(alloc, &mut vault, &table)?;
+    let count = spelled.drives;
     let units = units_in(journal, &plan);
     let store = open_store::<N, DiskVault>(
         alloc,
         vault,
         opened,
         &plan.shape,
-        groups,
-        extents,
-        plan.drives,
+        spelled.groups,
+        spelled.extents,
+        count,
         plan.size,
         &files.drives.absent(),
         units,
@@ -392,7 +395,7 @@ pub(crate) fn open_array<N: Chronicle>(
             file: files.file,
         }),
         Err((RecoveryFault::Gone(slot), vault)) => {
-            name_marked(rt, folder, vault, &plan, &files.drives)?;
+            name_marked(rt, folder, vault, &plan, count, &files.drives)?;
             Err(Trouble::Gone(slot))
         }
         Err((fault, _vault)) => Err(trouble_of(fault)),

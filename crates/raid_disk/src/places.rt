@@ -20,8 +20,8 @@ pub(crate) fn read_places(rt: &HostRuntime, folder: Folder<'_>) -> Result<Vec<St
     }
 }
 
-// A path from the root on.
-fn absolute(rt: &HostRuntime, path: &str) -> Result<String, Trouble> {
+/// A path from the root on.
+pub(crate) fn absolute(rt: &HostRuntime, path: &str) -> Result<String, Trouble> {
     if path.contains("\n") {
         return Err(Trouble::Path);
     }

@@ -58,7 +58,7 @@ impl<'a> Watch for Progress<'a> {
 // Tests that this drive is lost, and no other.
 fn test_lost<N: Chronicle>(disk: &Disk<N>, number: u8) -> Result<(), Trouble> {
     let array = disk.store.world().array();
-    if number >= disk.table.plan.drives {
+    if number >= array.drive_count() {
         return Err(Trouble::NoDrive(number));
     }
     for drive in 0..array.drive_count() {
@@ -110,14 +110,14 @@ fn mark_lost<N: Chronicle>(
     Ok((disk.file, disk.table, sight))
 }
 
-// Makes a file of zeros with a drive's header, which isn't the drive's yet.
-fn make_fresh(
+/// Makes a file of zeros with a drive's header, which isn't the drive's yet.
+pub(crate) fn make_fresh(
     rt: &HostRuntime,
     folder: Folder<'_>,
     table: &Table,
     number: u8,
 ) -> Result<(), Trouble> {
-    let layout = layout_of(&table.plan);
+    let layout = layout_of(&table.plan, table.drives);
     let name = Name::FreshDrive(number);
     let path = folder.path(rt.alloc(), name)?;
     let made = OpenOptions::new()
@@ -145,8 +145,13 @@ fn make_fresh(
     Ok(())
 }
 
-// Renames a file.
-fn rename(rt: &HostRuntime, folder: Folder<'_>, from: Name, to: Name) -> Result<(), Trouble> {
+/// Renames a file.
+pub(crate) fn rename(
+    rt: &HostRuntime,
+    folder: Folder<'_>,
+    from: Name,
+    to: Name,
+) -> Result<(), Trouble> {
     let old = folder.path(rt.alloc(), from)?;
     let new = folder.path(rt.alloc(), to)?;
     match fs::rename(rt, &old, &new) {
@@ -237,8 +242,8 @@ fn rebuild(
 ) -> Result<(), Trouble> {
     let plan = table.plan;
     let mut files = open_vault(rt, folder, Use::Serves, file, table)?;
-    test_files(&files.drives, plan.drives, number)?;
-    let (groups, extents) = groups_in(rt.alloc(), &mut files.vault, &plan)?;
+    let spelled = groups_in(rt.alloc(), &mut files.vault, &table)?;
+    test_files(&files.drives, spelled.drives, number)?;
     let mut progress = Progress {
         rt,
         folder,
@@ -250,9 +255,9 @@ fn rebuild(
         &mut files.vault,
         &mut progress,
         &plan.shape,
-        groups,
-        extents,
-        plan.drives,
+        spelled.groups,
+        spelled.extents,
+        spelled.drives,
         number,
     ) {
         Ok(()) => Ok(()),

@@ -57,13 +57,14 @@ fn without_lost(found: Found) -> Vec<MemDrive> {
 
 // Tests the slots of a disk.
 fn test_slots(rt: &HostRuntime, files: &mut OpenFiles) -> Result<Report, Trouble> {
-    let plan = files.table.plan;
-    let (groups, extents) = groups_in(rt.alloc(), &mut files.vault, &plan)?;
+    let table = files.table;
+    let plan = table.plan;
+    let spelled = groups_in(rt.alloc(), &mut files.vault, &table)?;
     let found = match find(
         rt.alloc(),
         &mut files.vault,
         &plan.shape,
-        plan.drives,
+        spelled.drives,
         &files.drives.absent(),
     ) {
         Ok(found) => found,
@@ -72,8 +73,8 @@ fn test_slots(rt: &HostRuntime, files: &mut OpenFiles) -> Result<Report, Trouble
     let lost = found.lost;
     let mut parts = Parts {
         shape: plan.shape,
-        groups,
-        extents,
+        groups: spelled.groups,
+        extents: spelled.extents,
         drives: without_lost(found),
         note: None,
     };
@@ -81,7 +82,7 @@ fn test_slots(rt: &HostRuntime, files: &mut OpenFiles) -> Result<Report, Trouble
         Ok(findings) => Ok(Report {
             findings,
             lost,
-            drives: plan.drives,
+            drives: spelled.drives,
             are_headers_sound: true,
             mended: 0,
             accepted: 0,

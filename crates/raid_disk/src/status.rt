@@ -76,7 +76,7 @@ fn print_drive<N: Chronicle>(
     let state = word_of(&disk.drives, drive, is_lost);
     match disk.drives.elsewhere(drive) {
         Some(index) => {
-            let path = path_at(rt.alloc(), folder, disk.table.plan.drives, index)?;
+            let path = path_at(rt.alloc(), folder, disk.table.drives, index)?;
             println!(rt; "drive{drive} {state} at {path}")
         }
         None => println!(rt; "drive{drive} {state}"),

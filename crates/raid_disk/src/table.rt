@@ -1,4 +1,4 @@
-//! The table of a disk, a text of eight lines:
+//! The table of a disk, a text of eight lines, and a ninth where drives were added:
 //!
 //!     raid_disk 5
 //!     identity UUID
@@ -8,16 +8,22 @@
 //!     segments S
 //!     groups G
 //!     mirrored M
+//!     added K
 //!
 //! The identity is in each other file too. Size, block and drives are as given to `create`; segments, groups and mirrored groups
-//! follow from them. It is written once, in two files.
+//! follow from them. It is in two files, and is written when the disk is made and when a drive is added.
 use crate::trouble::Trouble;
 use disk_shape::{Plan, plan_disk};
 use std::alloc::{AllocError, Global};
 use uuid::Uuid;
 
-/// The text of a disk's table.
-pub(crate) fn text_of(alloc: Global, identity: Uuid, plan: &Plan) -> Result<String, AllocError> {
+/// The text of the table of a disk that has so many drives now.
+pub(crate) fn text_of(
+    alloc: Global,
+    identity: Uuid,
+    plan: &Plan,
+    count: u8,
+) -> Result<String, AllocError> {
     let size = plan.size;
     let drives = plan.drives;
     let block = plan.shape.payload;
@@ -26,16 +32,35 @@ pub(crate) fn text_of(alloc: Global, identity: Uuid, plan: &Plan) -> Result<Stri
     let mirrored = plan.mirrored;
     let mut buffer = Uuid::encode_buffer();
     let number: &str = identity.hyphenated().encode_lower(&mut buffer);
-    format!(in alloc;
+    let mut text = format!(in alloc;
         "raid_disk 5\nidentity {number}\nsize {size}\nblock {block}\ndrives {drives}\nsegments {segments}\ngroups {groups}\nmirrored {mirrored}\n"
-    )
+    )?;
+    let added = count.saturating_sub(drives);
+    if added > 0 {
+        write!(text, "added {added}\n")?;
+    }
+    Ok(text)
 }
 
 /// What a table says.
 #[derive(Clone, Copy)]
 pub(crate) struct Table {
     pub(crate) identity: [u8; 16],
+    /// The sizes of the disk as it was made.
     pub(crate) plan: Plan,
+    /// Its drives, with those that were added. The last one may be in no group yet: the vault's table says how many the array has.
+    pub(crate) drives: u8,
+}
+
+impl Table {
+    /// The table of a disk with so many drives.
+    pub(crate) fn with_drives(&self, drives: u8) -> Table {
+        Table {
+            identity: self.identity,
+            plan: self.plan,
+            drives,
+        }
+    }
 }
 
 // What follows a line's word and a blank.
@@ -52,8 +77,16 @@ fn number_after(line: &str, word: &str) -> Option<u64> {
     }
 }
 
-// The identity and the plan for which the text's lines ask, if they are a table's.
-fn lines_in(text: &str) -> Option<(Uuid, Plan)> {
+// The drives that a text's last lines add.
+fn added_in(line: Option<&str>) -> u64 {
+    match line {
+        Some(line) => number_after(line, "added").unwrap_or(0),
+        None => 0,
+    }
+}
+
+// The identity, the plan and the drives for which the text's lines ask, if they are a table's.
+fn lines_in(text: &str) -> Option<(Uuid, Plan, u8)> {
     let mut lines = text.split("\n");
     if lines.next() != Some("raid_disk 5") {
         return None;
@@ -64,31 +97,37 @@ fn lines_in(text: &str) -> Option<(Uuid, Plan)> {
     let size = number_after(lines.next()?, "size")?;
     let block = number_after(lines.next()?, "block")?;
     let drives = number_after(lines.next()?, "drives")?;
-    if block > 65_536 || drives > 16 {
+    // What follows from these is compared by the caller.
+    let _segments = lines.next()?;
+    let _groups = lines.next()?;
+    let _mirrored = lines.next()?;
+    let added = added_in(lines.next());
+    if block > 65_536 || drives > 16 || added > 16 - drives {
         return None;
     }
     match plan_disk(size, block as u32, drives as u8) {
-        Ok(plan) => Some((identity, plan)),
+        Ok(plan) => Some((identity, plan, (drives + added) as u8)),
         Err(_) => None,
     }
 }
 
-/// The table that a text spells: exactly the text of its identity and its plan.
+/// The table that a text spells: exactly the text of its identity, its plan and its drives.
 pub(crate) fn table_in(alloc: Global, text: &str) -> Result<Table, Trouble> {
     for earlier in ["raid_disk 2\n", "raid_disk 3\n", "raid_disk 4\n"] {
         if text.starts_with(earlier) {
             return Err(Trouble::Earlier);
         }
     }
-    let Some((identity, plan)) = lines_in(text) else {
+    let Some((identity, plan, drives)) = lines_in(text) else {
         return Err(Trouble::NoTable);
     };
-    let expected = text_of(alloc, identity, &plan)?;
+    let expected = text_of(alloc, identity, &plan, drives)?;
     if text != expected.as_str() {
         return Err(Trouble::NoTable);
     }
     Ok(Table {
         identity: identity.into_bytes(),
         plan,
+        drives,
     })
 }

@@ -82,6 +82,10 @@ pub(crate) enum Trouble {
     Rotten(u8, u32),
     /// Units aren't as their digests say, and can't be computed, since this drive is lost.
     RottenAndLost(u8),
+    /// A drive is to be added, and this one is lost.
+    LostBeside(u8),
+    /// A drive is to be added, and there are 16.
+    Full,
 }
 
 impl Trouble {
@@ -275,7 +279,7 @@ impl Trouble {
         }
     }
 
-    // Says why a new file isn't put at a drive's place, or isn't the drive's.
+    // Says why a new file isn't put at a drive's place, or isn't the drive's, or why there is none.
     fn report_new(&self, rt: &HostRuntime, folder: Folder<'_>) -> io::Result<()> {
         match self {
             Trouble::NewFails(drive) => {
@@ -284,6 +288,11 @@ impl Trouble {
                     "raid_disk: {path} was made and can't be read or written: drive {drive} stays lost"
                 )
             }
+            Trouble::LostBeside(drive) => {
+                let path = folder.path(rt.alloc(), Name::Drive(*drive))?;
+                eprintln!(rt; "raid_disk: {path} is lost: replace it before a drive is added")
+            }
+            Trouble::Full => eprintln!(rt; "raid_disk: a disk has 16 drives at most"),
             Trouble::OldThere(drive) => {
                 let path = folder.path(rt.alloc(), Name::Drive(*drive))?;
                 let old = folder.path(rt.alloc(), Name::OldDrive(*drive))?;

@@ -70,6 +70,17 @@ fn replace<'a>(alloc: Global) -> Result<Command<'a>, AllocError> {
         .arg(others(alloc))
 }
 
+fn add<'a>(alloc: Global) -> Result<Command<'a>, AllocError> {
+    let path = Arg::new(alloc, "path")
+        .value_name("PATH")
+        .help("the new drive's file; in the folder unless it is given");
+    Command::new(alloc, "add")
+        .about("adds a drive, and spreads what the others have over all of them")
+        .arg(folder(alloc))?
+        .arg(path)?
+        .arg(others(alloc))
+}
+
 // A command that prints what a disk has.
 fn looks<'a>(alloc: Global, name: &'a str, about: &'a str) -> Result<Command<'a>, AllocError> {
     let json = Arg::new(alloc, "json")
@@ -122,6 +133,7 @@ pub(crate) fn matches_of<'a>(alloc: Global, words: &'a [String]) -> Result<ArgMa
         .subcommand(create(alloc)?)?
         .subcommand(serve)?
         .subcommand(replace(alloc)?)?
+        .subcommand(add(alloc)?)?
         .subcommand(scrub)?
         .subcommand(status)?
         .subcommand(picture)?;

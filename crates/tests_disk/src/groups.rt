@@ -4,10 +4,11 @@ use crate::rig::plan_of;
 use disk_shape::Plan;
 use extent_groups::{GROUPS, GroupTable, Place};
 use extents::{DRIVES, Shape};
+use file_vault::{FileVault, Files, Layout, MemFiles};
 use group_form::{FORM_BYTES, FORM_UNITS, FormFault, find_groups, write_groups};
 use std::alloc::Global;
 use std::process::Abort;
-use vault::{Batch, MemVault, TABLE, Vault, keep, settle};
+use vault::{Batch, MemVault, Stop, TABLE, Vault, keep, settle};
 
 // A vault with zeros in the table.
 fn blank(rt: &impl Abort, alloc: Global) -> MemVault {
@@ -25,10 +26,10 @@ fn blank(rt: &impl Abort, alloc: Global) -> MemVault {
 }
 
 // The table has these groups and no others, and this number of drives.
-fn test_found(
+fn test_found<V: Vault>(
     rt: &impl Abort,
     alloc: Global,
-    vault: &mut MemVault,
+    vault: &mut V,
     shape: &Shape,
     groups: &GroupTable,
     drives: u8,
@@ -44,10 +45,75 @@ fn test_found(
 }
 
 // Puts groups into the journal.
-fn put(rt: &impl Abort, alloc: Global, vault: &mut MemVault, groups: &GroupTable, drives: u8) {
+fn put<V: Vault>(rt: &impl Abort, alloc: Global, vault: &mut V, groups: &GroupTable, drives: u8) {
     let mut batch = Batch::new(alloc);
     let put = write_groups(alloc, &mut batch, groups, drives).is_ok();
     assert!(rt; put && keep(vault, &batch).is_ok());
+}
+
+// The same files, with their writes in their bytes, so that reads are fast.
+fn folded(rt: &impl Abort, files: MemFiles) -> MemFiles {
+    match files.left(Stop::Killed, 0) {
+        Ok(files) => files,
+        Err(_) => panic!(rt; "no memory"),
+    }
+}
+
+fn opened(rt: &impl Abort, alloc: Global, files: MemFiles, layout: Layout) -> FileVault<MemFiles> {
+    match FileVault::open(alloc, files, layout) {
+        Ok(vault) => vault,
+        Err(_) => panic!(rt; "not opened"),
+    }
+}
+
+// The files of a vault with a table and without drives.
+fn made(rt: &impl Abort, alloc: Global, layout: Layout) -> MemFiles {
+    let mut empty = Vec::new(alloc);
+    let mut pushed = true;
+    for _ in 0..18 {
+        pushed &= empty.push(Vec::new(alloc)).is_ok();
+    }
+    assert!(rt; pushed);
+    match FileVault::create(alloc, MemFiles::new(alloc, empty), layout) {
+        Ok(vault) => folded(rt, vault.into_files()),
+        Err(_) => panic!(rt; "not made"),
+    }
+}
+
+// Tears nine units of the groups.
+fn tear(rt: &impl Abort, files: &mut MemFiles, layout: Layout) {
+    let mut written = true;
+    for index in 0..9 {
+        let place = Place {
+            drive: TABLE,
+            address: 128 * index + 1,
+        };
+        let offset = layout.offset(place).unwrap_or(0);
+        written &= files.write_at(TABLE, offset, &[1]).is_ok();
+    }
+    assert!(rt; written);
+}
+
+#[test]
+fn torn_units_of_groups_are_read_from_the_journal_alone(rt: HostRuntime) {
+    let alloc = rt.alloc();
+    let plan = plan_of(&rt, 100_000, 64);
+    let (groups, _extents) = groups_of(&rt, alloc, &plan);
+    let layout = Layout {
+        unit_bytes: plan.shape.unit_bytes() as u32,
+        table_bytes: FORM_BYTES as u32,
+        counts: [0; DRIVES],
+    };
+    let mut vault = opened(&rt, alloc, made(&rt, alloc, layout), layout);
+    put(&rt, alloc, &mut vault, &groups, 6);
+    let mut files = folded(&rt, vault.into_files());
+    tear(&rt, &mut files, layout);
+    let mut vault = opened(&rt, alloc, files, layout);
+    test_found(&rt, alloc, &mut vault, &plan.shape, &groups, 6);
+    let mut files = made(&rt, alloc, layout);
+    tear(&rt, &mut files, layout);
+    let mut vault = opened(&rt, alloc, files, layout);
+    assert!(rt; find_groups(alloc, &mut vault, &plan.shape).err() == Some(FormFault::Missing));
 }
 
 fn none_of(rt: &impl Abort, alloc: Global, plan: &Plan) -> GroupTable {

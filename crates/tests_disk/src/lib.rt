@@ -2,6 +2,8 @@
 #![tactic(auto)]
 
 #[cfg(test)]
+mod added;
+#[cfg(test)]
 mod bytes;
 #[cfg(test)]
 mod flushes;

@@ -1,0 +1,6 @@
+mod Batching
+mod Settling
+mod Growing
+mod Planning
+mod Adding
+mod Running

@@ -1,0 +1,3 @@
+pub mod Batched
+pub mod Added
+pub mod Grown

@@ -1,0 +1,59 @@
+// Why no drive is added.
+use array_growth::GrowthFault;
+use array_recovery::RecoveryFault;
+use std::alloc::{AllocError, AllocFailed};
+use step_core::Refusal;
+use vault::VaultError;
+
+/// Why no drive is added. The array is as it was, but after a call of the vault that failed: then it may have the drive.
+#[derive(Clone, Copy, Debug, PartialEq, Eq)]
+pub enum AdditionFault {
+    /// Out of memory.
+    Memory,
+    /// A call of the vault failed.
+    Vault(VaultError),
+    /// There are 16 drives.
+    Full,
+    /// The table marks this drive as lost, or it was lost in memory.
+    Lost(u8),
+    /// The sizes don't fit one another, or the new drive has no unit of the right length at one of its places.
+    Misfit,
+    /// An extent can't be moved.
+    Refused(Refusal),
+    /// The units can't be read, or there is no array in them.
+    Recovery(RecoveryFault),
+}
+
+impl From<AllocError> for AdditionFault {
+    fn from(_: AllocError) -> AdditionFault {
+        AdditionFault::Memory
+    }
+}
+
+impl<T: Drop> From<AllocFailed<T>> for AdditionFault {
+    fn from(_: AllocFailed<T>) -> AdditionFault {
+        AdditionFault::Memory
+    }
+}
+
+impl From<VaultError> for AdditionFault {
+    fn from(error: VaultError) -> AdditionFault {
+        AdditionFault::Vault(error)
+    }
+}
+
+impl From<RecoveryFault> for AdditionFault {
+    fn from(fault: RecoveryFault) -> AdditionFault {
+        AdditionFault::Recovery(fault)
+    }
+}
+
+impl From<GrowthFault> for AdditionFault {
+    fn from(fault: GrowthFault) -> AdditionFault {
+        match fault {
+            GrowthFault::Memory => AdditionFault::Memory,
+            GrowthFault::Full => AdditionFault::Full,
+            GrowthFault::Refused(refusal) => AdditionFault::Refused(refusal),
+        }
+    }
+}

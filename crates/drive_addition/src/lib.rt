@@ -1,0 +1,12 @@
+//! A settled disk gets one more drive, and its extents are spread over all of them, in one batch.
+#![tactic(auto)]
+
+mod add;
+mod batch;
+mod fault;
+mod memory;
+mod plan;
+mod stages;
+
+pub use add::add_drive;
+pub use fault::AdditionFault;

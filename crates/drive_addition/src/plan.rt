@@ -1,0 +1,48 @@
+// The batch that adds a drive.
+ghost use Rattle.std.specs.Prelude.{◌≡◌, ◌+◌, ◌*◌, [], OnOk};
+ghost use Rattle.byte_store.specs.Lasting.{Shown};
+ghost use Rattle.extents.specs.Sizes.{extent_units};
+ghost use Rattle.extent_groups.specs.Planned.{after};
+ghost use Rattle.vault.specs.Images.{Image};
+ghost use Rattle.array_recovery.specs.Found.{OnlyRead};
+ghost use Rattle.array_recovery.specs.Reopened.{EndsAt};
+ghost use Rattle.drive_addition.specs.Added.{HasArray, IsAddedIn};
+
+use crate::batch::put_array;
+use crate::fault::AdditionFault;
+use crate::memory::grown;
+use array_recovery::load_drives;
+use extent_groups::GroupTable;
+use extents::{DRIVES, ExtentTable, Shape};
+use std::alloc::Global;
+use unit_store::Parts;
+use vault::{Batch, Vault};
+
+/// Makes a batch the writes after which a vault with an empty journal has the array on one drive more. The vault is only read.
+pub(crate) fn plan<V: Vault>(
+    alloc: Global,
+    vault: &mut V,
+    batch: &mut Batch,
+    shape: &Shape,
+    groups: GroupTable,
+    extents: ExtentTable,
+    drives: u8,
+) -> Result<(), AdditionFault>
+    ensures stays { V.known vault.old → V.known vault.new }
+    ensures read { V.known vault.old → OnlyRead V.seen V.may_leave V.moment V.left_since vault.old vault.new }
+    ensures planned { V.known vault.old → (what : Shown) → HasArray what groups drives (Image.cells (V.seen vault.old))
+        → EndsAt [] (drives + 1) (shape.now.extents * extent_units shape.now.segments) (Image.cells (V.seen vault.old))
+        → OnOk result (IsAddedIn what shape.now (drives + 1) (shape.now.extents * extent_units shape.now.segments)
+        (after (Image.cells (V.seen vault.old)) batch.new)) }
+{
+    let caches = load_drives(alloc, vault, shape, drives, &[false; DRIVES])?;
+    let parts = Parts {
+        shape: *shape,
+        groups,
+        extents,
+        drives: caches,
+        note: None,
+    };
+    let parts = grown(alloc, parts)?;
+    put_array(alloc, vault, batch, parts)
+}

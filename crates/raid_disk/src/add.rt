@@ -1,0 +1,270 @@
+//! A disk gets one more drive, and its extents are spread over all of them.
+ghost use Rattle.std.specs.Prelude.{◌≡◌};
+
+use crate::create::{is_there, written};
+use crate::folder::{Folder, Name};
+use crate::opened::{
+    Disk, DiskVault, Use, groups_in, header_of, layout_of, open_disk, open_file, open_vault,
+    trouble_of,
+};
+use crate::places::absolute;
+use crate::progress;
+use crate::replace::{make_fresh, rename};
+use crate::table::{Table, text_of};
+use crate::trouble::{Trouble, unwritten};
+use cached_drive::Saved;
+use drive_addition::{AdditionFault, add_drive};
+use drive_places::Verdict;
+use extent_groups::Place;
+use extents::DRIVES;
+use file_vault::{RealFiles, read_header};
+use history::{Chronicle, Opened};
+use std::fs::{File, OpenOptions};
+use std::io;
+use std::marker::Brand;
+use uuid::Uuid;
+use vault::Vault;
+
+// Tests that no drive of the array is lost.
+fn test_whole<N: Chronicle>(disk: &Disk<N>) -> Result<(), Trouble> {
+    let array = disk.store.world().array();
+    for drive in 0..array.drive_count() {
+        if array.is_lost(drive) {
+            return Err(Trouble::LostBeside(drive));
+        }
+    }
+    Ok(())
+}
+
+// Settles a disk of which no drive is lost. Says how many drives its array has. Keeps the disk locked.
+fn settle_whole<N: Chronicle>(
+    rt: &HostRuntime,
+    folder: Folder<'_>,
+    opened: Opened<Saved>,
+) -> Result<(File, Table, u8), Trouble>
+    requires { opened ≡ N.chronicle }
+{
+    let mut disk = open_disk::<N>(rt, folder, Use::Serves, 0, opened)?;
+    test_whole(&disk)?;
+    if disk.store.settle().is_err() {
+        return Err(Trouble::Sync);
+    }
+    // A drive that failed in this run is lost since.
+    test_whole(&disk)?;
+    let drives = disk.store.world().array().drive_count();
+    Ok((disk.file, disk.table, drives))
+}
+
+// The drives' own places, with one for the new drive where a path was given.
+fn places_with(
+    rt: &HostRuntime,
+    folder: Folder<'_>,
+    number: u8,
+    path: Option<&str>,
+) -> Result<Vec<String>, Trouble> {
+    let mut places = Vec::new(rt.alloc());
+    for index in 0..folder.places.len() {
+        let place: &str = &folder.places[index];
+        if index < usize::from(number) || path.is_none() {
+            places.push(String::from_str(rt.alloc(), place)?)?;
+        }
+    }
+    if let Some(path) = path {
+        for _ in places.len()..usize::from(number) {
+            places.push(String::new(rt.alloc()))?;
+        }
+        places.push(absolute(rt, path)?)?;
+    }
+    Ok(places)
+}
+
+// Whether what is at a drive's place is a file of it, whole, as an addition that was stopped may have left it.
+fn is_made(
+    rt: &HostRuntime,
+    folder: Folder<'_>,
+    table: &Table,
+    number: u8,
+) -> Result<bool, Trouble> {
+    let Some(file) = open_file(rt, folder, Name::Drive(number), Use::Looks)? else {
+        return Ok(false);
+    };
+    let expected = header_of(
+        &layout_of(&table.plan, table.drives),
+        number,
+        table.identity,
+    );
+    let mut one = RealFiles::new(rt.alloc());
+    one.put(0, file)?;
+    match read_header(&mut one, 0) {
+        Ok(Some(header)) => Ok(header == expected),
+        _ => Ok(false),
+    }
+}
+
+// Makes the new drive's file, unless it is there. Nothing refers to it yet. Another file is never written over.
+fn make_drive(
+    rt: &HostRuntime,
+    folder: Folder<'_>,
+    table: &Table,
+    number: u8,
+) -> Result<(), Trouble> {
+    if is_made(rt, folder, table, number)? {
+        return Ok(());
+    }
+    let name = Name::Drive(number);
+    if is_there(rt, folder, name)? {
+        return Err(Trouble::Exists(name));
+    }
+    make_fresh(rt, folder, table, number)?;
+    rename(rt, folder, Name::FreshDrive(number), name)?;
+    match folder.sync_above(rt, name) {
+        Ok(()) => Ok(()),
+        Err(error) => Err(unwritten(error, name)),
+    }
+}
+
+// Puts a text in place of a file, in one piece, and makes it durable.
+fn put_text(rt: &HostRuntime, folder: Folder<'_>, name: Name, text: &str) -> Result<(), Trouble> {
+    let path = folder.path(rt.alloc(), Name::Fresh)?;
+    let made = OpenOptions::new()
+        .write(true)
+        .create(true)
+        .truncate(true)
+        .open(rt, &path);
+    let mut file = match made {
+        Ok(file) => file,
+        Err(error) => return Err(unwritten(error, Name::Fresh)),
+    };
+    if let Err(error) = written(&mut file, text) {
+        return Err(unwritten(error, Name::Fresh));
+    }
+    rename(rt, folder, Name::Fresh, name)?;
+    match folder.sync(rt) {
+        Ok(()) => Ok(()),
+        Err(error) => Err(unwritten(error, Name::Folder)),
+    }
+}
+
+// Writes the places and the table of the disk with the new drive. Until the vault has it, the array has the drives of before.
+fn write_texts(rt: &HostRuntime, folder: Folder<'_>, table: &Table) -> Result<(), Trouble> {
+    if !folder.places.is_empty() {
+        let places = drive_places::text_of(rt.alloc(), folder.places)?;
+        put_text(rt, folder, Name::Places, &places)?;
+    }
+    let identity = Uuid::from_bytes(table.identity);
+    let text = text_of(rt.alloc(), identity, &table.plan, table.drives)?;
+    // Both before the vault has the drive: either may be lost later.
+    put_text(rt, folder, Name::TableCopy, &text)?;
+    put_text(rt, folder, Name::Table, &text)
+}
+
+// Writes blank units to all places of a drive.
+fn blank(
+    rt: &HostRuntime,
+    vault: &mut DiskVault,
+    table: &Table,
+    number: u8,
+) -> Result<(), Trouble> {
+    let unit = vec![in rt.alloc(); 0u8; table.plan.shape.unit_bytes()]?;
+    for address in 0..table.plan.shape.drive_units() {
+        let place = Place {
+            drive: number,
+            address,
+        };
+        if let Err(error) = vault.write_unit(place, &unit) {
+            return Err(Trouble::Vault(error));
+        }
+    }
+    Ok(())
+}
+
+// Why a drive isn't added.
+fn trouble_of_addition(fault: AdditionFault) -> Trouble {
+    match fault {
+        AdditionFault::Memory => Trouble::Memory,
+        AdditionFault::Vault(error) => Trouble::Vault(error),
+        AdditionFault::Recovery(fault) => trouble_of(fault),
+        AdditionFault::Lost(drive) => Trouble::LostBeside(drive),
+        AdditionFault::Full => Trouble::Full,
+        _ => Trouble::Unsound,
+    }
+}
+
+// Gives the array a drive that has a file.
+fn add_made(
+    rt: &HostRuntime,
+    folder: Folder<'_>,
+    file: File,
+    table: Table,
+    number: u8,
+) -> Result<(), Trouble> {
+    let mut files = open_vault(rt, folder, Use::Serves, file, table)?;
+    if files.drives.verdict(number) != Verdict::Present {
+        return Err(Trouble::Unread(number));
+    }
+    let spelled = groups_in(rt.alloc(), &mut files.vault, &table)?;
+    blank(rt, &mut files.vault, &table, number)?;
+    match add_drive(
+        rt.alloc(),
+        &mut files.vault,
+        &table.plan.shape,
+        spelled.groups,
+        spelled.extents,
+        spelled.drives,
+    ) {
+        Ok(()) => Ok(()),
+        Err(fault) => Err(trouble_of_addition(fault)),
+    }
+}
+
+// Says for `status` what is under way. Nothing is left to do where that can't be said.
+fn say(rt: &HostRuntime, folder: Folder<'_>, number: u8) {
+    if let Ok(text) = format!(in rt.alloc(); "drive {number} is being added\n") {
+        progress::say(rt, folder, &text);
+    }
+}
+
+fn tell(rt: &HostRuntime, number: u8) -> io::Result<()> {
+    let drives = number.saturating_add(1);
+    println!(rt; "drive{number} is added: the disk has {drives} drives")
+}
+
+/// Adds a drive to a disk of which none is lost: its file is made in the folder, or at a path, and extents of the other drives are moved
+/// to it, until all have as many. The disk's size stays. Stopped at any moment, the disk has the bytes that it had, on the drives of before or
+/// on all of them; in the first case the same command goes on.
+pub(crate) fn add(rt: &HostRuntime, folder: Folder<'_>, path: Option<&str>) -> Result<u8, Trouble> {
+    let opened = Opened::new(rt.alloc())?;
+    let (file, table, number) = settle_whole::<Brand>(rt, folder, opened)?;
+    if usize::from(number) >= DRIVES {
+        return Err(Trouble::Full);
+    }
+    let places = places_with(rt, folder, number, path)?;
+    let grown = Folder {
+        name: folder.name,
+        places: &places,
+        others: folder.others,
+        without: None,
+    };
+    let table = table.with_drives(number + 1);
+    say(rt, folder, number);
+    let added = add_prepared(rt, grown, file, table, number);
+    progress::end(rt, folder);
+    added?;
+    match tell(rt, number) {
+        Ok(()) => Ok(0),
+        Err(error) => Err(Trouble::Output(error)),
+    }
+}
+
+// Makes what the new drive needs, and adds it.
+fn add_prepared(
+    rt: &HostRuntime,
+    folder: Folder<'_>,
+    file: File,
+    table: Table,
+    number: u8,
+) -> Result<(), Trouble> {
+    make_drive(rt, folder, &table, number)?;
+    write_texts(rt, folder, &table)?;
+    add_made(rt, folder, file, table, number)
+}
