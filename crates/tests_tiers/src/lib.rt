@@ -6,8 +6,6 @@ mod counted;
 #[cfg(test)]
 mod files;
 #[cfg(test)]
-mod growth;
-#[cfg(test)]
 mod rig;
 #[cfg(test)]
 mod room;
