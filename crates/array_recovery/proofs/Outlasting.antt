@@ -13,9 +13,10 @@ use Rattle.vault.specs.Images.{Image, flat, is_lost, is_some_true, recovered}
 use Rattle.vault.specs.Moments.{IsFront}
 use Rattle.vault.specs.declared.store.Stop.{Stop}
 use Rattle.vault.specs.declared.store.Stop.TheVariants.{Killed, PowerLost}
-use Rattle.journaled_store.specs.Outlasting.{OpensBut, Point, Works, allowed, parts_of}
+use Rattle.journaled_store.specs.Outlasting.{OpensBut, OutlastsSince, Point, Works, allowed, parts_of}
 use Rattle.group_form.specs.Form.{HasGroups}
 use Rattle.journaled_store.specs.Steps.{IsUpToDate, mark_of}
+use Rattle.journaled_store.proofs.Lasting.{begun}
 use Rattle.journaled_store.proofs.Opening.{alone}
 use Rattle.array_recovery.specs.Found.{IsTable, OnlyRead, is_marked}
 use Rattle.array_recovery.specs.Reopened.{CoversGone, EndsAt, IsOpenedWith, IsSoundFor, marked}
@@ -128,3 +129,19 @@ module _ {V X : Type 0} (shows : TiersView → X → Type 0) (seen : V → Image
       all = refl;
       opens = λ stop n least most. one_list shows were_lost (what ∷ []) (parts_of p.tiers).groups (length (parts_of p.tiers).drives) _ stop (all_opens n least);
     }
+
+  -- what a stop leaves since before it was read
+  pub opened_during : (known : V → Type 0) → ((v : V) → known v → (stop : Stop) (t : ℕ) (i : Image) → t ≤ moment v → may_leave v stop i → left_since v stop t i)
+      → ((v : V) → known v → (stop : Stop) (i : Image) → left_since v stop (moment v) i → may_leave v stop i) → (p : Point V)
+      → OnlyRead seen may_leave moment left_since vault p.vault → length p.noted ≡ 16 → IsTable p.noted (recovered (seen vault)) → IsOpenedWith groups drives p.noted absent p.tiers
+      → ((lost : List Bool) → CoversGone drives p.noted absent lost → EndsAt lost drives units (recovered (seen vault)) → IsUpToDate lost p.keeper p.noted p.batch (recovered (seen vault)))
+      → known vault → OutlastsSince shows left_since p (moment vault) (what ∷ []) (what ∷ [])
+  opened_during known counts_now only_now p read long table opened live is_known stop i left =
+      let was : Point V = record { keeper = p.keeper; noted = p.noted; batch = p.batch; failed = p.failed; tiers = p.tiers; vault = vault } in
+      let same : OnlyRead seen may_leave moment left_since vault vault =
+      record { finds = refl; time = λ s. record { later = omega arith; nothing_else = λ t j le then. inl then; keeps = λ t j le then. then; ends = λ j now. now } } in
+      let out = begun shows known seen may_leave moment left_since counts_now only_now was (what ∷ []) (what ∷ []) is_known (works was same long table opened live) in
+      elim ((read.time stop).nothing_else (moment vault) i (omega arith) left) [
+        | inl past ↦ out.leaves stop i (only_now vault is_known stop i past)
+        | inr now ↦ out.leaves stop i now
+      ]

@@ -1,5 +1,5 @@
 // A store is opened from a vault.
-ghost use Rattle.std.specs.Prelude.{◌≡◌, ◌*◌, ℕ, List, [], ◌∷◌, false, length, slice_index, IfErr, IfOk};
+ghost use Rattle.std.specs.Prelude.{◌≡◌, ◌≤◌, ◌*◌, ℕ, List, [], ◌∷◌, false, length, slice_index, IfErr, IfOk};
 ghost use Rattle.map_join.specs.Maps.{IsSame};
 ghost use Rattle.extents.specs.Sizes.{extent_units};
 ghost use Rattle.slot_tables.specs.Views.{key_at};
@@ -7,7 +7,7 @@ ghost use Rattle.vault.specs.Images.{recovered};
 ghost use Rattle.byte_store.specs.Lasting.{Shown, Shows};
 ghost use Rattle.array_store.specs.Blocks.{Holds};
 ghost use Rattle.journaled_store.specs.Left.{HasBoth, HasKeys, IsLeftOf};
-ghost use Rattle.journaled_store.specs.Outlasting.{Outlasts, point};
+ghost use Rattle.journaled_store.specs.Outlasting.{Outlasts, OutlastsSince, point};
 ghost use Rattle.array_recovery.specs.Found.{OnlyRead};
 ghost use Rattle.array_recovery.specs.Reopened.{IsOpenedWith, IsSoundFor};
 
@@ -69,6 +69,11 @@ pub fn open_store<N: Chronicle, V: Vault + Drop>(
     ensures both_last { V.known vault → (what : Shown)
         → IsSoundFor HasBoth V.seen V.may_leave what groups drives (shape.now.extents * extent_units shape.now.segments) absent.now vault
         → IfOk result (λ s. ⟦<JournaledStore<N, V> as ByteStore>⟧.outlasts s (what ∷ []) (what ∷ [])) }
+
+    // And so does one while it was opened.
+    ensures during { V.known vault → (what : Shown)
+        → IsSoundFor HasBoth V.seen V.may_leave what groups drives (shape.now.extents * extent_units shape.now.segments) absent.now vault
+        → IfOk result (λ s. (V.moment vault ≤ V.moment s.vault) × OutlastsSince HasBoth V.left_since (point s) (V.moment vault) (what ∷ []) (what ∷ [])) }
 {
     let mut vault = vault;
     match recover::<N, V>(

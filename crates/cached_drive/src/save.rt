@@ -136,6 +136,18 @@ fn unmark_all(marks: &mut Vec<bool>, dirty: &[u32])
 }
 
 impl<N: Chronicle> CachedDrive<N> {
+    /// Copies a unit, also one of a drive that is lost or doomed. Takes a buffer of a unit's length.
+    pub fn copy_unit(&mut self, at: u32, unit: &mut [u8])
+        requires at { at < length self.old.cache.units }
+        requires size { AreUnitsSized (length unit.old) self.old.cache.units }
+        ensures units { self.new.cache.units ≡ self.old.cache.units }
+        ensures lost { self.new.lost ≡ self.old.lost }
+        ensures hand { self.new.hand ≡ self.old.hand }
+        ensures copied { slice_get self.old.cache.units at ≡ Some unit.new }
+    {
+        fetch(&mut self.cache, at, unit);
+    }
+
     /// Puts the units that were written since the last save into a batch, as writes of a drive, and counts them as saved. Takes a
     /// buffer of a unit's length. If out of memory, nothing has changed.
     pub fn save(

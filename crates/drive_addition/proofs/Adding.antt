@@ -1,6 +1,5 @@
 -- A vault that gets one more drive: what it has before and after, and what a stop leaves.
-use Rattle.std.proofs.Common.{◌≡◌, ◌+◌, ◌<◌, ◌≤◌, inl, inr, ℕ, suc, Bool, true, false, Some, List, [], ◌∷◌, slice_get, refl, sym, ◌∙◌, ap, arith}
-use Rattle.std.specs.Prelude.{◌==◌, not}
+use Rattle.std.proofs.Common.{◌≡◌, ◌+◌, ◌≤◌, inl, inr, ℕ, suc, Bool, true, false, Some, List, [], ◌∷◌, slice_get, refl, sym, ◌∙◌, ap, arith}
 use Rattle.std.proofs.lemmas.Bool.{true≢false}
 use Rattle.std.proofs.lemmas.Option.{same_Some, slice_get_within}
 use Rattle.extents.specs.declared.shape.Shape.{Shape}
@@ -9,23 +8,21 @@ use Rattle.extent_groups.specs.Groups.{Groups}
 use Rattle.unit_store.specs.Views.{DriveView}
 use Rattle.tiered_array.specs.Views.{TiersView}
 use Rattle.byte_store.specs.Lasting.{Shown}
-use Rattle.array_store.specs.Blocks.{Holds}
-use Rattle.vault.specs.Images.{Image, Matches, SameOn, is_lost, recovered}
+use Rattle.vault.specs.Images.{Image, SameOn, is_lost, recovered}
 use Rattle.vault.specs.declared.store.Stop.{Stop}
-use Rattle.journaled_store.specs.Left.{HasBoth, HasKeys, IsLeftOf, IsLostIn}
-use Rattle.journaled_store.specs.Outlasting.{OpensAs, OpensBut, parts_of}
-use Rattle.journaled_store.specs.Steps.{IsPersisted, mark_of}
-use Rattle.journaled_store.proofs.Opening.{alone, opens_as, opens_on}
+use Rattle.journaled_store.specs.Left.{HasBoth, IsLeftOf}
+use Rattle.journaled_store.specs.Outlasting.{OpensAs, parts_of}
+use Rattle.journaled_store.specs.Steps.{mark_of}
 use Rattle.journaled_store.proofs.Settled.{groups_on}
-use Rattle.array_recovery.specs.Found.{is_marked}
 use Rattle.array_recovery.specs.Reopened.{EndsAt, marked}
-use Rattle.array_recovery.proofs.Marking.{index_is}
 use Rattle.array_recovery.proofs.Reopening.{bool_cases}
 use Rattle.drive_rebuild.specs.Rebuilt.{AreMarked, CanBeRebuilt}
 use Rattle.drive_rebuild.proofs.Rebuilding.{before_opens}
 use Rattle.drive_rebuild.proofs.Underway.{logged_less, now_matches}
-use Rattle.drive_addition.specs.Added.{CanGrow, HasArray, IsAdded, IsAddedIn, IsBeforeOrAdded, IsWholeOn, MarksNone, OpensEither}
-use Rattle.drive_addition.proofs.Batching.{at}
+use Rattle.array_batch.specs.Arrays.{HasArray, MarksNone}
+use Rattle.array_batch.proofs.Batching.{at}
+use Rattle.array_batch.proofs.Opening.{array_on, left_now, none_marked, opens_array, opens_same}
+use Rattle.drive_addition.specs.Added.{CanGrow, IsAdded, IsAddedIn, IsBeforeOrAdded, IsWholeOn, OpensEither}
 
 -- a drive whose mark is 0
 unlost : (b : Bool) → mark_of b ≡ 0 → b ≡ false
@@ -75,109 +72,47 @@ module _ (what : Shown) (groups : Groups) (drives : ℕ) (before : Cells) (left 
   }
 
 -- the same units have the same array
-pub added_on : (what : Shown) (shape : Shape) (drives units : ℕ) (c d : Cells) → SameOn [] d c → IsAddedIn what shape drives units c → IsAddedIn what shape drives units d
-added_on what shape drives units c d same is = record {
+pub added_on : (what : Shown) (shape : Shape) (old : Groups) (drives units : ℕ) (c d : Cells) → SameOn [] d c → IsAddedIn what shape old drives units c → IsAddedIn what shape old drives units d
+added_on what shape old drives units c d same is = record {
   groups = is.groups;
   are = is.are;
-  array = record {
-    tiers = is.array.tiers;
-    shows = is.array.shows;
-    groups_are = is.array.groups_are;
-    many = is.array.many;
-    few = is.array.few;
-    alive = is.array.alive;
-    units = λ k a v there. same (at k a) refl ∙ is.array.units k a v there;
-    table = groups_on is.groups drives c d (λ a. same (at 16 (suc a)) refl) is.array.table;
-    unmarked = record { marks = is.array.unmarked.marks; table = same (at 16 0) refl ∙ is.array.unmarked.table; clear = is.array.unmarked.clear };
-  };
+  array = array_on [] what is.groups drives c d refl (λ k low. refl) same is.array;
   ends = λ k a low not high. same (at k a) refl ∙ is.ends k a low not high;
 }
 
 -- an array that shows this, of which no drive is lost or marked
-module _ (shows : TiersView → List ℕ → Type 0) (x : List ℕ) (what : Shown) (give : (t : TiersView) → HasBoth t what → shows t x) (shape : Shape) (drives units : ℕ) where
-  module _ (c : Cells) (is : IsAddedIn what shape drives units c) where
-    abbrev views : List DriveView
-    views = (parts_of is.array.tiers).drives
-
-    low16 : (d : ℕ) → d < drives → d < 16
-    low16 d low = let few = is.array.few in omega (arith, low, few)
-
-    below : (d : ℕ) (v : DriveView) → slice_get views d ≡ Some v → d < drives
-    below d v there = let low = slice_get_within views d v there in let all = is.array.many in omega (arith, low, all)
-
-    not_lost : (d : ℕ) → IsLostIn views d → ⊥
-    not_lost d (v, there, gone) = true≢false (sym gone ∙ is.array.alive d v there)
-
-    abbrev persisted : IsPersisted [] views c
-    persisted = record {
-      has = record { each = λ d a v there not. is.array.units d a v there };
-      marks = is.array.unmarked.marks;
-      noted = is.array.unmarked.table;
-      reported = record { each = λ d v there. is.array.unmarked.clear d (low16 d (below d v there)) ∙ ap (λ b. Some (mark_of b)) (sym (is.array.alive d v there)) };
-    }
-
-    opens_but : OpensBut shows [] (x ∷ []) is.groups drives c
-    opens_but = record {
-      what = x;
-      listed = alone x;
-      tiers = is.array.tiers;
-      shown = give is.array.tiers is.array.shows;
-      groups_are = is.array.groups_are;
-      many = is.array.many;
-      table = is.array.table;
-      one = λ d e a b. absurd (not_lost d a);
-      kept = persisted;
-      gone = λ d low lost. absurd (true≢false (sym lost));
-    }
-
-    pub opens_added : OpensAs shows (x ∷ []) is.groups drives c
-    opens_added = opens_as shows [] refl is.groups drives (x ∷ []) c opens_but
-
-    pub opens_same : (i : Image) → Matches [] c i → OpensAs shows (x ∷ []) is.groups drives (recovered i)
-    opens_same i matches = opens_as shows [] refl is.groups drives (x ∷ []) (recovered i) (opens_on shows [] refl is.groups drives (x ∷ []) c (recovered i) matches opens_but)
-
-    abbrev left_now : IsLeftOf shows x is.groups drives [] c
-    left_now = record {
-      tiers = is.array.tiers;
-      shown = give is.array.tiers is.array.shows;
-      groups_are = is.array.groups_are;
-      many = is.array.many;
-      table = is.array.table;
-      one = λ d e a b. absurd (not_lost d a);
-      lost = [];
-      kept = persisted;
-      excused = λ d low lost. absurd (true≢false (sym lost));
-    }
-
-    pub none_marked : (d : ℕ) → d < drives → is_marked is.array.unmarked.marks d ≡ false
-    none_marked d low = ap (λ n. not (n == 0)) (index_is is.array.unmarked.marks d 0 (is.array.unmarked.clear d (low16 d low)))
+module _ {X : Type 0} (shows : TiersView → X → Type 0) (x : X) (what : Shown) (give : (t : TiersView) → HasBoth t what → shows t x) (shape : Shape) (old : Groups) (drives units : ℕ) where
+  pub opens_added : (c : Cells) (is : IsAddedIn what shape old drives units c) → OpensAs shows (x ∷ []) is.groups drives c
+  opens_added c is = opens_array shows x what give is.groups drives c is.array
 
   pub whole_on : {V : Type 0} (seen : V → Image) (may_leave : V → Stop → Image → Type 0) (moment : V → ℕ) (left_since : V → Stop → ℕ → Image → Type 0) (vault : V)
-      → IsAdded seen may_leave what shape drives units vault → IsWholeOn shows seen may_leave x shape drives units vault
-  whole_on seen may_leave moment left_since vault added = (
-    added.inside.groups,
-    added.inside.are,
-    record {
-      sound = record {
-        left = left_now (recovered (seen vault)) added.inside;
-        away = λ d low absent. absurd (true≢false (sym absent));
-        ends = λ d a low not high. added.inside.ends d a low refl high;
-        logged = logged_less seen may_leave moment left_since (marked added.inside.array.unmarked.marks) [] vault (λ d e. refl) added.durable;
-      };
-      none_marked = none_marked (recovered (seen vault)) added.inside;
-      leaves = λ stop i now. opens_same (recovered (seen vault)) added.inside i (now_matches seen may_leave moment left_since [] vault stop i added.durable now);
-    },
-  )
+      → IsAdded seen may_leave what shape old drives units vault → IsWholeOn shows seen may_leave x shape old drives units vault
+  whole_on seen may_leave moment left_since vault added =
+      let left = left_now shows x what give added.inside.groups drives (recovered (seen vault)) added.inside.array in (
+        added.inside.groups,
+        added.inside.are,
+        record {
+          sound = record {
+            left = left;
+            away = λ d low absent. absurd (true≢false (sym absent));
+            ends = λ d a low not high. added.inside.ends d a low refl high;
+            logged = logged_less seen may_leave moment left_since (marked left.kept.marks) [] vault (λ d e. refl) added.durable;
+          };
+          none_marked = none_marked shows x what give added.inside.groups drives (recovered (seen vault)) added.inside.array left.kept.marks left.kept.noted;
+          leaves = λ stop i now. opens_same shows x what give added.inside.groups drives (recovered (seen vault)) added.inside.array [] refl (λ d low. refl) i
+              (now_matches seen may_leave moment left_since [] vault stop i added.durable now);
+        },
+      )
 
 -- what a stop leaves, by the array of before
-pub opens_either : (shows : TiersView → List ℕ → Type 0) (x : List ℕ) (what : Shown) → ((t : TiersView) → HasBoth t what → shows t x) → (shape : Shape) (groups : Groups) (drives units : ℕ) (before : Cells)
-    → IsLeftOf shows x groups drives [] before → (lost : List Bool) → AreMarked drives lost before → (i : Image) → IsBeforeOrAdded lost before what shape drives units i → OpensEither shows x shape groups drives i
+pub opens_either : {X : Type 0} (shows : TiersView → X → Type 0) (x : X) (what : Shown) → ((t : TiersView) → HasBoth t what → shows t x) → (shape : Shape) (groups : Groups) (drives units : ℕ) (before : Cells)
+    → IsLeftOf shows x groups drives [] before → (lost : List Bool) → AreMarked drives lost before → (i : Image) → IsBeforeOrAdded lost before what shape groups drives units i → OpensEither shows x shape groups drives i
 opens_either shows x what give shape groups drives units before left lost lost_are i (inl was) = inl (before_opens shows x groups drives before left lost lost_are i was)
 opens_either shows x what give shape groups drives units before left lost lost_are i (inr is) =
-    inr (is.groups, is.are, opens_added shows x what give shape (drives + 1) units (recovered i) is)
+    inr (is.groups, is.are, opens_added shows x what give shape groups (drives + 1) units (recovered i) is)
 
 -- an array that shows bytes or keys has both
-pub can_grow : {V : Type 0} (shows : TiersView → List ℕ → Type 0) (x : List ℕ) (what : Shown) (seen : V → Image) (may_leave : V → Stop → Image → Type 0) (groups : Groups) (drives units : ℕ) (vault : V)
+pub can_grow : {V X : Type 0} (shows : TiersView → X → Type 0) (x : X) (what : Shown) (seen : V → Image) (may_leave : V → Stop → Image → Type 0) (groups : Groups) (drives units : ℕ) (vault : V)
     (can : CanBeRebuilt shows seen may_leave x groups drives units vault) → HasBoth can.left.tiers what → EndsAt [] (drives + 1) units (recovered (seen vault))
     → CanGrow seen may_leave what groups drives units can.lost vault
 can_grow shows x what seen may_leave groups drives units vault can both ends = record {
@@ -195,19 +130,4 @@ can_grow shows x what seen may_leave groups drives units vault can both ends = r
   ends = ends;
   lost_are = can.lost_are;
   logged = can.logged;
-}
-
-abbrev pub bytes_shown : TiersView → List ℕ → Shown
-bytes_shown t bytes = record { bytes = bytes; keys = t.world.array.keys }
-
-pub bytes_both : (t : TiersView) (bytes : List ℕ) → Holds t bytes → HasBoth t (bytes_shown t bytes)
-bytes_both t bytes holds = record { holds = holds; keys_are = λ b. refl }
-
-abbrev pub keys_shown : List ℕ → Shown
-keys_shown keys = record { bytes = []; keys = keys }
-
-pub keys_both : (t : TiersView) (keys : List ℕ) → HasKeys t keys → HasBoth t (keys_shown keys)
-keys_both t keys has = record {
-  holds = record { state = has.state; matches = has.matches; shows = record { each = λ i low. absurd (omega (arith, low)) } };
-  keys_are = has.keys_are;
 }

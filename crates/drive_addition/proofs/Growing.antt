@@ -1,8 +1,7 @@
 -- The array in memory on one drive more shows what it showed.
-use Rattle.std.proofs.Common.{◌≡◌, ◌+◌, ◌<◌, ℕ, Bool, false, Some, None, List, length, map, slice_get, sym, ◌∙◌, ap, subst, arith}
-use Rattle.std.specs.Prelude.{option_map, slice_index}
+use Rattle.std.proofs.Common.{◌≡◌, ◌+◌, ◌<◌, ℕ, Bool, false, None, List, length, sym, ◌∙◌, ap, subst, arith}
+use Rattle.std.specs.Prelude.{slice_index}
 use Rattle.std.proofs.lemmas.List.{length-map}
-use Rattle.std.proofs.lemmas.Option.{slice_get-map}
 use Rattle.map_join.specs.Maps.{IsSame}
 use Rattle.extents.specs.Condition.{Held}
 use Rattle.extent_groups.specs.Groups.{Groups}
@@ -10,8 +9,8 @@ use Rattle.extent_groups.specs.Missing.{is_missing}
 use Rattle.flat_machine.specs.Flat.{Flat, Write}
 use Rattle.slot_tables.specs.Views.{key_at}
 use Rattle.unit_store.specs.Fit.{IsFit}
-use Rattle.unit_store.specs.Memory.{held_failures, held_lost, held_units}
-use Rattle.unit_store.specs.Views.{DriveView, PartsView, drive_lost, drive_view, lost_of}
+use Rattle.unit_store.specs.Memory.{held_units}
+use Rattle.unit_store.specs.Views.{PartsView, drive_lost, lost_of}
 use Rattle.unit_store.specs.declared.parts.Parts.{Parts}
 use Rattle.tiered_array.specs.Matches.{RepresentsTiers}
 use Rattle.tiered_array.specs.Regrouping.{IsBalanceOf}
@@ -19,24 +18,15 @@ use Rattle.tiered_array.specs.Tiered.{Tiered}
 use Rattle.tiered_array.specs.Views.{TiersView}
 use Rattle.byte_store.specs.Lasting.{Shown}
 use Rattle.array_store.specs.Blocks.{Holds, SpansBlocks}
-use Rattle.journaled_store.specs.Left.{HasBoth, HasKeys}
+use Rattle.journaled_store.specs.Left.{HasBoth}
 use Rattle.journaled_store.specs.Outlasting.{parts_of}
 use Rattle.array_recovery.specs.Reopened.{LosesMore}
-use Rattle.array_growth.specs.Growth.{IsGrown}
+use Rattle.array_growth.specs.Growth.{IsGrown, SameShapes}
 use Rattle.array_growth.proofs.Kept.{one_more_drive, payload_kept, writes_kept}
 use Rattle.drive_rebuild.proofs.Shown.{there}
-use Rattle.drive_addition.specs.Grown.{ArePresent, IsGrownTo, held_view}
-
--- a drive in memory, as an array shows it
-abbrev pub of_held : Held → DriveView
-of_held = drive_view held_units held_lost held_failures
-
-pub shown_at : (drives : List Held) (d : ℕ) (m : Held) → slice_get drives d ≡ Some m → slice_get (map of_held drives) d ≡ Some (of_held m)
-shown_at drives d m is = slice_get-map of_held drives d ∙ ap (option_map of_held) is
-
--- the block map of an array that shows both
-pub keys_of : (t : TiersView) (what : Shown) → HasBoth t what → HasKeys t what.keys
-keys_of t what both = record { state = both.holds.state; matches = both.holds.matches; keys_are = both.keys_are }
+use Rattle.array_batch.specs.Arrays.{ArePresent, held_view}
+use Rattle.array_batch.proofs.Arrays.{of_held, shown_at}
+use Rattle.drive_addition.specs.Grown.{IsGrownTo}
 
 -- the array of before in memory, and the one that it grew to
 module _ (what : Shown) (before : Parts Held) (fit : IsFit held_units before) (old new : TiersView) (holds : Holds old what.bytes)
@@ -83,7 +73,7 @@ module _ (what : Shown) (before : Parts Held) (fit : IsFit held_units before) (o
   same_size : (size : Groups → ℕ) → size G.groups ≡ size F.groups → size before.groups ≡ size after.groups
   same_size size kept = ap size (sym groups_were) ∙ sym kept ∙ ap size groups_are
 
-  pub is_grown : IsGrownTo what before.shape (length before.drives.items + 1) after
+  pub is_grown : IsGrownTo what before.shape before.groups (length before.drives.items + 1) after
   is_grown = record {
     tiers = new;
     shows = both;
@@ -96,6 +86,7 @@ module _ (what : Shown) (before : Parts Held) (fit : IsFit held_units before) (o
         of_payload = fit.shape.of_payload ∙ same_size (λ g. g.payload) grown.spread.groups.payload;
         of_blocks = fit.shape.of_blocks ∙ same_size (λ g. g.blocks) grown.spread.groups.blocks;
       };
+      kept = subst (λ (g : Groups). SameShapes g after.groups) groups_were (subst (λ (g : Groups). SameShapes F.groups g) groups_are grown.spread.groups);
       spread = record { state = G; groups_are = groups_are; drives_are = drives_are; alive = alive; even = even };
     };
   }

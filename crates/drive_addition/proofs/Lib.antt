@@ -1,4 +1,3 @@
-mod Batching
 mod Settling
 mod Growing
 mod Planning

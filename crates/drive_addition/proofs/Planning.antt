@@ -1,9 +1,8 @@
 -- The drives that are read into memory are those of the array that a vault has, and after the batch it has the array on one drive more.
-use Rattle.std.proofs.Common.{◌≡◌, ◌+◌, ◌*◌, ◌≤◌, inl, inr, ℕ, suc, Bool, false, Option, Some, None, is_some, List, [], length, map, slice_get, refl, sym, ◌∙◌, ap, subst, arith}
+use Rattle.std.proofs.Common.{◌≡◌, ◌+◌, ◌*◌, inl, inr, ℕ, Bool, false, Option, Some, List, [], length, map, slice_get, sym, ◌∙◌, ap, subst, arith}
 use Rattle.std.specs.Prelude.{option_map}
-use Rattle.std.proofs.lemmas.Bool.{true≢false}
 use Rattle.std.proofs.lemmas.List.{length-map}
-use Rattle.std.proofs.lemmas.Option.{none-some, same_Some, slice_get-map, slice_get_cases, slice_get_within}
+use Rattle.std.proofs.lemmas.Option.{slice_get-map, slice_get_cases, slice_get_within}
 use Rattle.extents.specs.Condition.{Held, is_gone}
 use Rattle.extents.specs.Sizes.{extent_units}
 use Rattle.extents.specs.declared.shape.Shape.{Shape}
@@ -11,37 +10,22 @@ use Rattle.extent_groups.specs.Calls.{Fades}
 use Rattle.extent_groups.specs.Cells.{Cells, cell}
 use Rattle.extent_groups.specs.Groups.{Groups}
 use Rattle.extent_groups.specs.Planned.{Intended, after}
-use Rattle.extent_groups.proofs.Places.{same_or_not}
 use Rattle.unit_store.specs.Fit.{IsFit}
 use Rattle.unit_store.specs.Memory.{held_units}
 use Rattle.unit_store.specs.Views.{DriveView, PartsView, drive_cells, drive_lost, drive_units}
 use Rattle.unit_store.specs.declared.parts.Parts.{Parts}
 use Rattle.vault.specs.Images.{is_lost}
-use Rattle.vault.proofs.Writes.{some_after}
 use Rattle.group_form.specs.Form.{HasFormPlaces, HasGroups}
 use Rattle.byte_store.specs.Lasting.{Shown}
 use Rattle.journaled_store.specs.Outlasting.{parts_of}
 use Rattle.array_recovery.specs.Found.{AreFormed, HaveUnits}
 use Rattle.array_recovery.specs.Reopened.{EndsAt, Outlives}
 use Rattle.drive_rebuild.proofs.Shown.{of_view, there}
-use Rattle.drive_addition.specs.Added.{HasArray, IsAddedIn}
-use Rattle.drive_addition.specs.Batched.{HasUnits}
-use Rattle.drive_addition.specs.Grown.{ArePresent, IsGrownTo, held_view}
-use Rattle.drive_addition.proofs.Batching.{at}
-use Rattle.drive_addition.proofs.Growing.{of_held, shown_at}
-
--- the element that an optional one was made of
-mapped : (o : Option Held) (v : DriveView) → option_map of_held o ≡ Some v → (m : Held) × (o ≡ Some m) × (of_held m ≡ v)
-mapped None v e = absurd (none-some v e)
-mapped (Some m) v e = (m, refl, same_Some (of_held m) v e)
-
--- a drive that an array shows of those in memory
-held_at : (drives : List Held) (d : ℕ) (v : DriveView) → slice_get (map of_held drives) d ≡ Some v → (m : Held) × (slice_get drives d ≡ Some m) × (of_held m ≡ v)
-held_at drives d v e = mapped (slice_get drives d) v (sym (slice_get-map of_held drives d) ∙ e)
-
-none_of : (o p : Option (List ℕ)) → is_some o ≡ is_some p → p ≡ None → o ≡ None
-none_of None p same e = refl
-none_of (Some u) p same e = absurd (true≢false (same ∙ ap (λ (q : Option (List ℕ)). is_some q) e))
+use Rattle.array_batch.specs.Arrays.{ArePresent, HasArray, held_view}
+use Rattle.array_batch.specs.Batched.{HasUnits}
+use Rattle.array_batch.proofs.Arrays.{array_put, ends_after, form_there, of_held, shown_at}
+use Rattle.drive_addition.specs.Added.{IsAddedIn}
+use Rattle.drive_addition.specs.Grown.{IsGrownTo}
 
 module _ (what : Shown) (groups : Groups) (drives : ℕ) (c : Cells) (array : HasArray what groups drives c) where
   -- drives that were read
@@ -75,15 +59,9 @@ module _ (what : Shown) (groups : Groups) (drives : ℕ) (c : Cells) (array : Ha
       fades = λ x. subst (λ (l : List Held). Fades (drive_cells (parts_of array.tiers) x.drive x.address) (cell drive_units drive_lost (slice_get (map of_held l) x.drive) x.address)) (sym drives_are) (fade x.drive x.address);
     }
 
-  form_there : HasFormPlaces c
-  form_there u low = elim (same_or_not u 1024) [
-    | inl last ↦ ap (λ n. is_some (c 16 (suc n))) last ∙ ap (λ o. is_some o) array.table.last
-    | inr ne ↦ ap (λ o. is_some o) (array.table.each u (omega (arith, low, ne)))
-  ]
-
   -- the array in memory on one drive more, and a batch with its units and its groups
   module _ (shape : Shape) (ends : EndsAt [] (drives + 1) (shape.extents * extent_units shape.segments) c)
-      (parts : Parts Held) (grown : IsGrownTo what shape (drives + 1) parts) (fit : IsFit held_units parts) (present : ArePresent parts.drives.items)
+      (parts : Parts Held) (grown : IsGrownTo what shape groups (drives + 1) parts) (fit : IsFit held_units parts) (present : ArePresent parts.drives.items)
       (writes : List Intended) (has : HasUnits parts.drives.items (after c writes)) (spelled : (e : Cells) → HasFormPlaces e → HasGroups parts.groups (length parts.drives.items) (after e writes))
       (marks : (e : Cells) → after e writes 16 0 ≡ e 16 0) where
     abbrev now : Cells
@@ -93,37 +71,15 @@ module _ (what : Shown) (groups : Groups) (drives : ℕ) (c : Cells) (array : Ha
     units = shape.extents * extent_units shape.segments
 
     past : EndsAt [] (drives + 1) units now
-    past d a low not high = none_of (now d a) (c d a) (some_after writes c (at d a)) (ends d a low not high)
-
-    drive_at : (d : ℕ) (v : DriveView) → slice_get (parts_of grown.tiers).drives d ≡ Some v → (m : Held) × (slice_get parts.drives.items d ≡ Some m) × (of_held m ≡ v)
-    drive_at d v is = held_at parts.drives.items d v (ap (λ (p : PartsView). slice_get p.drives d) (sym grown.parts_are) ∙ is)
+    past = ends_after (drives + 1) units c writes ends
 
     long : (d : ℕ) (m : Held) → slice_get parts.drives.items d ≡ Some m → length m.units ≡ units
     long d m is = fit.drives.many d m is ∙ ap (λ n. n * extent_units parts.groups.segments) (sym grown.are.sizes.of_extents) ∙ ap (λ n. shape.extents * extent_units n) (sym grown.are.sizes.of_segments)
 
-    lies : (d a : ℕ) (m : Held) → slice_get parts.drives.items d ≡ Some m → now d a ≡ slice_get m.units a
-    lies d a m is = elim (slice_get_cases m.units a).1 [
-      | inl some ↦ has d m is a some.1
-      | inr none ↦
-          (let high = none.0 in
-          let all = long d m is in
-          let low = slice_get_within parts.drives.items d m is in
-          let many = grown.many in
-          past d a (omega (arith, low, many)) refl (subst (λ n. n ≤ a) all high) ∙ sym none.1)
-    ]
+    array_now : HasArray what parts.groups (length parts.drives.items) now
+    array_now = array_put what grown.tiers grown.shows parts.groups parts.drives.items (ap (λ (p : PartsView). p.groups) grown.parts_are) (ap (λ (p : PartsView). p.drives) grown.parts_are)
+        fit.most present units long now has (subst (λ n. EndsAt [] n units now) (sym grown.many) past) (spelled c (form_there groups drives c array.table))
+        (record { marks = array.unmarked.marks; table = marks c ∙ array.unmarked.table; clear = array.unmarked.clear })
 
-    array_now : HasArray what parts.groups (drives + 1) now
-    array_now = record {
-      tiers = grown.tiers;
-      shows = grown.shows;
-      groups_are = ap (λ (p : PartsView). p.groups) grown.parts_are;
-      many = ap (λ (p : PartsView). length p.drives) grown.parts_are ∙ length-map parts.drives.items of_held ∙ grown.many;
-      few = subst (λ n. n ≤ 16) grown.many fit.most;
-      alive = λ d v is. let m = drive_at d v is in ap (λ (w : DriveView). w.lost) (sym m.2) ∙ present d m.0 m.1;
-      units = λ d a v is. let m = drive_at d v is in lies d a m.0 m.1 ∙ ap (λ (w : DriveView). slice_get w.units a) m.2;
-      table = subst (λ n. HasGroups parts.groups n now) grown.many (spelled c form_there);
-      unmarked = record { marks = array.unmarked.marks; table = marks c ∙ array.unmarked.table; clear = array.unmarked.clear };
-    }
-
-    pub added : IsAddedIn what shape (drives + 1) units now
-    added = record { groups = parts.groups; are = grown.are; array = array_now; ends = past }
+    pub added : IsAddedIn what shape groups (drives + 1) units now
+    added = record { groups = parts.groups; are = grown.are; array = subst (λ n. HasArray what parts.groups n now) grown.many array_now; ends = past }

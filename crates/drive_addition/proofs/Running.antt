@@ -12,9 +12,10 @@ use Rattle.vault.proofs.Runs.{both_runs, weaker}
 use Rattle.array_recovery.specs.Found.{OnlyRead}
 use Rattle.array_recovery.specs.Reopened.{EndsAt}
 use Rattle.drive_rebuild.proofs.Underway.{Underway, further, logged_less, logged_read, recovered_empty, underway_none, underway_read}
-use Rattle.drive_addition.specs.Added.{CanGrow, HasArray, IsAdded, IsAddedIn, IsBeforeOrAdded, MarksNone}
+use Rattle.array_batch.specs.Arrays.{HasArray, MarksNone}
+use Rattle.drive_addition.specs.Added.{CanGrow, IsAdded, IsAddedIn, IsBeforeOrAdded}
 use Rattle.drive_addition.proofs.Adding.{added_on, array_there}
-use Rattle.drive_addition.proofs.Batching.{at}
+use Rattle.array_batch.proofs.Batching.{at}
 
 module _ {V : Type 0} (seen : V → Image) (may_leave : V → Stop → Image → Type 0) (moment : V → ℕ) (left_since : V → Stop → ℕ → Image → Type 0)
     (what : Shown) (shape : Shape) (groups : Groups) (drives units : ℕ) (lost : List Bool) (v0 : V) (can : CanGrow seen may_leave what groups drives units lost v0)
@@ -23,7 +24,7 @@ module _ {V : Type 0} (seen : V → Image) (may_leave : V → Stop → Image →
   before = recovered (seen v0)
 
   abbrev Outcome : Image → Type 0
-  Outcome = IsBeforeOrAdded lost before what shape drives units
+  Outcome = IsBeforeOrAdded lost before what shape groups drives units
 
   -- nothing has begun
   abbrev pub begun : Underway seen may_leave moment left_since lost v0 v0
@@ -71,11 +72,11 @@ module _ {V : Type 0} (seen : V → Image) (may_leave : V → Stop → Image →
           found_units : recovered (seen v3) ≡ (seen v2).cells
           found_units = ap (λ (s : Image). recovered s) planned_by.finds ∙ recovered_empty (seen v2) settled.empty
 
-          module _ (writes : List Intended) (planned : IsAddedIn what shape (drives + 1) units (after (seen v2).cells writes)) where
-            kept : (c : Cells) → SameOn [] c (after (recovered (seen v3)) writes) → IsAddedIn what shape (drives + 1) units c
-            kept c same = added_on what shape (drives + 1) units (after (seen v2).cells writes) c (λ x on. same x on ∙ ap (λ (e : Cells). held (after e writes) x) found_units) planned
+          module _ (writes : List Intended) (planned : IsAddedIn what shape groups (drives + 1) units (after (seen v2).cells writes)) where
+            kept : (c : Cells) → SameOn [] c (after (recovered (seen v3)) writes) → IsAddedIn what shape groups (drives + 1) units c
+            kept c same = added_on what shape groups (drives + 1) units (after (seen v2).cells writes) c (λ x on. same x on ∙ ap (λ (e : Cells). held (after e writes) x) found_units) planned
 
-            pub added : (v4 : V) → SameOn [] (recovered (seen v4)) (after (recovered (seen v3)) writes) → AreLogged seen may_leave [] v4 → IsAdded seen may_leave what shape (drives + 1) units v4
+            pub added : (v4 : V) → SameOn [] (recovered (seen v4)) (after (recovered (seen v3)) writes) → AreLogged seen may_leave [] v4 → IsAdded seen may_leave what shape groups (drives + 1) units v4
             added v4 same durable = record { inside = kept (recovered (seen v4)) same; durable = durable }
 
             outcome : (i : Image) → IsBeforeOrAfter [] (recovered (seen v3)) writes i → Outcome i

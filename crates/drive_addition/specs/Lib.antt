@@ -1,3 +1,2 @@
-pub mod Batched
 pub mod Added
 pub mod Grown

@@ -1,7 +1,7 @@
 // Why no drive is added.
+use array_batch::BatchFault;
 use array_growth::GrowthFault;
 use array_recovery::RecoveryFault;
-use std::alloc::{AllocError, AllocFailed};
 use step_core::Refusal;
 use vault::VaultError;
 
@@ -24,18 +24,6 @@ pub enum AdditionFault {
     Recovery(RecoveryFault),
 }
 
-impl From<AllocError> for AdditionFault {
-    fn from(_: AllocError) -> AdditionFault {
-        AdditionFault::Memory
-    }
-}
-
-impl<T: Drop> From<AllocFailed<T>> for AdditionFault {
-    fn from(_: AllocFailed<T>) -> AdditionFault {
-        AdditionFault::Memory
-    }
-}
-
 impl From<VaultError> for AdditionFault {
     fn from(error: VaultError) -> AdditionFault {
         AdditionFault::Vault(error)
@@ -54,6 +42,17 @@ impl From<GrowthFault> for AdditionFault {
             GrowthFault::Memory => AdditionFault::Memory,
             GrowthFault::Full => AdditionFault::Full,
             GrowthFault::Refused(refusal) => AdditionFault::Refused(refusal),
+        }
+    }
+}
+
+impl From<BatchFault> for AdditionFault {
+    fn from(fault: BatchFault) -> AdditionFault {
+        match fault {
+            BatchFault::Memory => AdditionFault::Memory,
+            BatchFault::Vault(error) => AdditionFault::Vault(error),
+            BatchFault::Lost(drive) => AdditionFault::Lost(drive),
+            BatchFault::Misfit => AdditionFault::Misfit,
         }
     }
 }

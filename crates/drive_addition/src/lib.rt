@@ -2,7 +2,6 @@
 #![tactic(auto)]
 
 mod add;
-mod batch;
 mod fault;
 mod memory;
 mod plan;

@@ -6,14 +6,15 @@ ghost use Rattle.extent_groups.specs.Planned.{after};
 ghost use Rattle.vault.specs.Images.{Image};
 ghost use Rattle.array_recovery.specs.Found.{OnlyRead};
 ghost use Rattle.array_recovery.specs.Reopened.{EndsAt};
-ghost use Rattle.drive_addition.specs.Added.{HasArray, IsAddedIn};
+ghost use Rattle.array_batch.specs.Arrays.{HasArray};
+ghost use Rattle.drive_addition.specs.Added.{IsAddedIn};
 
-use crate::batch::put_array;
 use crate::fault::AdditionFault;
 use crate::memory::grown;
+use array_batch::put_array;
 use array_recovery::load_drives;
 use extent_groups::GroupTable;
-use extents::{DRIVES, ExtentTable, Shape};
+use extents::{DRIVES, ExtentTable, MemDrive, Shape};
 use std::alloc::Global;
 use unit_store::Parts;
 use vault::{Batch, Vault};
@@ -32,7 +33,7 @@ pub(crate) fn plan<V: Vault>(
     ensures read { V.known vault.old → OnlyRead V.seen V.may_leave V.moment V.left_since vault.old vault.new }
     ensures planned { V.known vault.old → (what : Shown) → HasArray what groups drives (Image.cells (V.seen vault.old))
         → EndsAt [] (drives + 1) (shape.now.extents * extent_units shape.now.segments) (Image.cells (V.seen vault.old))
-        → OnOk result (IsAddedIn what shape.now (drives + 1) (shape.now.extents * extent_units shape.now.segments)
+        → OnOk result (IsAddedIn what shape.now groups (drives + 1) (shape.now.extents * extent_units shape.now.segments)
         (after (Image.cells (V.seen vault.old)) batch.new)) }
 {
     let caches = load_drives(alloc, vault, shape, drives, &[false; DRIVES])?;
@@ -43,6 +44,8 @@ pub(crate) fn plan<V: Vault>(
         drives: caches,
         note: None,
     };
-    let parts = grown(alloc, parts)?;
-    put_array(alloc, vault, batch, parts)
+    let mut parts = grown(alloc, parts)?;
+    let drives: &mut [MemDrive] = &mut parts.drives;
+    put_array(alloc, vault, batch, &parts.groups, drives)?;
+    Ok(())
 }

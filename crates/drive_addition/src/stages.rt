@@ -5,7 +5,7 @@ ghost use Rattle.vault.specs.Images.{Matches, SameOn, recovered};
 ghost use Rattle.vault.specs.Moments.{AreLogged, IsBeforeOrAfter, IsSettled, LeavesOnly};
 ghost use Rattle.vault.specs.declared.store.Stop.{Stop};
 ghost use Rattle.array_recovery.specs.Found.{OnlyRead};
-ghost use Rattle.drive_addition.specs.Added.{AreClear, MarksNone};
+ghost use Rattle.array_batch.specs.Arrays.{AreClear, MarksNone};
 
 use crate::fault::AdditionFault;
 use array_recovery::read_marks;

@@ -1,5 +1,5 @@
 -- Which path has a drive's file, and what is said of a drive.
-use Rattle.std.specs.Prelude.{◌≡◌, ◌<◌, ℕ, List, Some, length, slice_get}
+use Rattle.std.specs.Prelude.{◌≡◌, ◌<◌, ◌==◌, ℕ, List, Option, Some, None, length, slice_get, if◌then◌else◌}
 use Rattle.drive_places.specs.declared.sight.Sight.{Sight}
 use Rattle.drive_places.specs.declared.sight.Sight.TheVariants as sight
 use Rattle.drive_places.specs.declared.choice.Choice.{Choice}
@@ -46,8 +46,19 @@ IsClaimedAt sights drive index = IsClaimedUpTo (length sights) sights drive inde
 abbrev pub IsChoice : List Sight → ℕ → Choice → Type 0
 IsChoice sights drive choice = IsChoiceUpTo (length sights) sights drive choice
 
+-- the word for a drive that no path has, by what is at its own place
+abbrev pub word_at : Option Sight → ℕ → Verdict
+word_at None drive = verdict.Absent
+word_at (Some sight.Absent) drive = verdict.Absent
+word_at (Some (sight.Unreadable code)) drive = verdict.Unreadable
+word_at (Some sight.Foreign) drive = verdict.Foreign
+word_at (Some sight.NoDrive) drive = verdict.Misplaced
+word_at (Some sight.Again) drive = verdict.Misplaced
+word_at (Some (sight.Resized number)) drive = if number == drive then verdict.Resized else verdict.Misplaced
+word_at (Some (sight.Drive number)) drive = verdict.Misplaced
+
 -- a drive is present if exactly one path has its file, and doubled if several have it
 abbrev pub IsVerdict : List Sight → ℕ → Verdict → Type 0
 IsVerdict sights drive verdict.Present = (index : ℕ) × IsClaimedAt sights drive index
 IsVerdict sights drive verdict.Doubled = IsClaimedTwice sights drive
-IsVerdict sights drive v = IsUnclaimed sights drive
+IsVerdict sights drive v = IsUnclaimed sights drive × (v ≡ word_at (slice_get sights drive) drive)

@@ -1,5 +1,5 @@
 // What is said of a drive's file.
-ghost use Rattle.std.specs.Prelude.{List};
+ghost use Rattle.std.specs.Prelude.{◌≡◌, List, Some, slice_get};
 ghost use Rattle.drive_places.specs.Claims.{IsUnclaimed, IsVerdict};
 
 use crate::choice::{Choice, choose};
@@ -41,7 +41,7 @@ impl Verdict {
 
 // What is said of a drive whose file was seen nowhere, by what is at its own place.
 fn verdict_without(sight: Sight, drive: u8) -> Verdict
-    ensures { (sights : List Sight) → IsUnclaimed sights drive → IsVerdict sights drive result }
+    ensures { (sights : List Sight) → slice_get sights drive ≡ Some sight → IsUnclaimed sights drive → IsVerdict sights drive result }
 {
     match sight {
         Sight::Absent => Verdict::Absent,

@@ -21,7 +21,8 @@ use Rattle.array_recovery.specs.Reopened.{EndsAt}
 use Rattle.array_recovery.proofs.Marking.{index_is}
 use Rattle.array_recovery.proofs.Reopening.{bool_cases}
 use Rattle.rotten_units.specs.Rows.{IsUsed, SameUsed}
-use Rattle.unit_repair.specs.Mended.{AreVerified, IsAtRest, IsMended}
+use Rattle.rotten_units.specs.Written.{DiffersAt}
+use Rattle.unit_repair.specs.Mended.{AreVerified, IsAtRest, IsMended, MayBeMended}
 use Rattle.unit_repair.proofs.Whole.{shows_same, used_inside, verified_now}
 use Rattle.drive_rebuild.proofs.Rebuilding.{mark_says}
 use Rattle.drive_rebuild.proofs.Restated.{KeepsShown, ShowToo, with_drives}
@@ -105,10 +106,13 @@ module _ {V : Type 0} (seen : V → Image) (may_leave : V → Stop → Image →
     journal = like.journal;
   })
 
-  pub mended_left : {X : Type 0} (shows : TiersView → X → Type 0) (keeps : KeepsShown shows) (vault : V) (what : X) (groups : Groups) (drives units : ℕ) (written : Cells)
+  pub mended_left : {X : Type 0} (shows : TiersView → X → Type 0) (keeps : KeepsShown shows) (attested : V → Place → Type 0) (old vault : V) (what : X) (groups : Groups) (drives units : ℕ) (written : Cells)
       (left : IsLeftOf shows what groups drives [] written) → ((d : ℕ) → d < drives → is_marked left.kept.marks d ≡ false) → AreVerified groups drives units written
-      → IsMended seen may_leave groups drives units written vault → ((at : ℕ) → Image.cells (seen vault) 16 at ≡ written 16 at) → EndsAt [] drives units (Image.cells (seen vault))
-      → IsLeftOf shows what groups drives [] (recovered (seen vault))
-  mended_left shows keeps vault what groups drives units written left free was is table ends =
+      → IsMended seen may_leave attested groups drives units written vault → DiffersAt (MayBeMended (attested old) drives units) (seen old) (seen vault)
+      → ((at : ℕ) → Image.cells (seen old) 16 at ≡ written 16 at) → EndsAt [] drives units (Image.cells (seen old)) → IsLeftOf shows what groups drives [] (recovered (seen vault))
+  mended_left shows keeps attested old vault what groups drives units written left free was is differs table ends =
       subst (λ (c : Cells). IsLeftOf shows what groups drives [] c) (sym (recovered_empty (seen vault) is.rest.empty))
-      (left_mended shows keeps what groups drives units written (seen vault).cells left free was is.verified is.same table ends)
+      (left_mended shows keeps what groups drives units written (seen vault).cells left free was is.verified is.same
+      (λ at. differs.elsewhere (record { drive = 16; address = at }) (λ may. let low = may.0 in let many = was.many in let few = was.few in omega (arith, low, many, few)) ∙ table at)
+      (λ d at low not past.
+      differs.elsewhere (record { drive = d; address = at }) (λ may. let inside = may.1 in omega (arith, inside, past)) ∙ ends d at low not past))

@@ -59,7 +59,7 @@ abbrev at : ℕ → ℕ → Place
 at d address = record { drive = d; address = address }
 
 -- what is left of an array of which drives are lost
-module _ (shows : TiersView → List ℕ → Type 0) (what : List ℕ) (groups : Groups) (drives : ℕ) (before : Cells) (left : IsLeftOf shows what groups drives [] before)
+module _ {X : Type 0} (shows : TiersView → X → Type 0) (what : X) (groups : Groups) (drives : ℕ) (before : Cells) (left : IsLeftOf shows what groups drives [] before)
     (lost : List Bool) (lost_are : AreMarked drives lost before) where
   abbrev olds : List DriveView
   olds = (parts_of left.tiers).drives

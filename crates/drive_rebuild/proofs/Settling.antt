@@ -27,7 +27,7 @@ lost_index [] d low = absurd (omega (arith, low))
 lost_index (l ∷ ls) zero low = refl
 lost_index (l ∷ ls) (suc d) low = lost_index ls d (omega (arith, low))
 
-module _ {V : Type 0} (shows : TiersView → List ℕ → Type 0) (seen : V → Image) (may_leave : V → Stop → Image → Type 0) (vault : V) (tiers : TiersView) (what : List ℕ) (lost : List Bool) (units : ℕ) (before : Cells)
+module _ {V X : Type 0} (shows : TiersView → X → Type 0) (seen : V → Image) (may_leave : V → Stop → Image → Type 0) (vault : V) (tiers : TiersView) (what : X) (lost : List Bool) (units : ℕ) (before : Cells)
     (shown : shows tiers what) (one : MissesOne (parts_of tiers).drives) (groups : HasGroups (parts_of tiers).groups (length (parts_of tiers).drives) before)
     (is : IsEmptied seen may_leave lost before vault (parts_of tiers).drives)
     (lost_are : (d : ℕ) → d < 16 → slice_index_or lost d true ≡ lost_of (parts_of tiers) d) (long : length lost ≡ 16) (few : length (parts_of tiers).drives ≤ 16)

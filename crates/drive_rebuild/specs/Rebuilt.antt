@@ -48,14 +48,14 @@ pub record IsReplaced {V : Type 0} (seen : V → Image) (may_leave : V → Stop 
 
 -- A vault from which an array that shows this is opened now and after each stop, whichever of its drives are absent then. The table
 -- marks none of them.
-pub record IsWhole {V : Type 0} (shows : TiersView → List ℕ → Type 0) (seen : V → Image) (may_leave : V → Stop → Image → Type 0) (what : List ℕ) (groups : Groups) (drives units : ℕ) (vault : V) : Type 0 where
+pub record IsWhole {V X : Type 0} (shows : TiersView → X → Type 0) (seen : V → Image) (may_leave : V → Stop → Image → Type 0) (what : X) (groups : Groups) (drives units : ℕ) (vault : V) : Type 0 where
   pub sound : IsSoundFor shows seen may_leave what groups drives units [] vault
   pub none_marked : (d : ℕ) → d < drives → is_marked sound.left.kept.marks d ≡ false
   pub leaves : (stop : Stop) (i : Image) → may_leave vault stop i → OpensAs shows (what ∷ []) groups drives (recovered i)
 
 -- A vault from which an array that shows this is opened, and which has no unit past the ends of the drives. A stop leaves all of the
 -- journal, and of units only those of marked drives in doubt: as after `settle`. What the array shows is given, as for `IsLeftOf`.
-pub record CanBeRebuilt {V : Type 0} (shows : TiersView → List ℕ → Type 0) (seen : V → Image) (may_leave : V → Stop → Image → Type 0) (what : List ℕ) (groups : Groups) (drives units : ℕ) (vault : V) : Type 0 where
+pub record CanBeRebuilt {V X : Type 0} (shows : TiersView → X → Type 0) (seen : V → Image) (may_leave : V → Stop → Image → Type 0) (what : X) (groups : Groups) (drives units : ℕ) (vault : V) : Type 0 where
   pub left : IsLeftOf shows what groups drives [] (recovered (seen vault))
   pub ends : EndsAt [] drives units (recovered (seen vault))
   pub lost : List Bool

@@ -4,8 +4,9 @@ ghost use Rattle.extents.specs.Sizes.{extent_units};
 ghost use Rattle.vault.specs.Images.{recovered};
 ghost use Rattle.vault.specs.Moments.{AreLogged, LeavesOnly};
 ghost use Rattle.vault.specs.declared.store.Stop.{Stop};
+ghost use Rattle.byte_store.specs.Lasting.{Shown};
 ghost use Rattle.array_store.specs.Blocks.{Holds};
-ghost use Rattle.journaled_store.specs.Left.{HasKeys};
+ghost use Rattle.journaled_store.specs.Left.{HasBoth, HasKeys};
 ghost use Rattle.journaled_store.specs.Outlasting.{OpensAs};
 ghost use Rattle.drive_rebuild.specs.Rebuilt.{AreMarked, CanBeRebuilt, IsBeforeOrReplaced, IsReplaced, IsWhole};
 ghost use Rattle.drive_rebuild.specs.Written.{unmarked};
@@ -71,7 +72,7 @@ fn replace_marked<V: Vault, W: Watch>(
 
 /// Gives a drive that the table marks as lost its units again, and clears its mark. Its places must be there, with any units. They are
 /// computed from those of the other drives, of which none may be lost, written and synced. All drives are read back then, and the mark
-/// is cleared only if each slot is sound. Stopped or refused, it can be tried again.
+/// is cleared only if each slot is sound. Stopped or refused, open the vault again and try again.
 pub fn replace_drive<V: Vault, W: Watch>(
     alloc: Global,
     vault: &mut V,
@@ -92,6 +93,11 @@ pub fn replace_drive<V: Vault, W: Watch>(
         → CanBeRebuilt HasKeys V.seen V.may_leave keys groups drives (shape.now.extents * extent_units shape.now.segments) vault.old
         → OnOk result (IsWhole HasKeys V.seen V.may_leave keys groups drives (shape.now.extents * extent_units shape.now.segments) vault.new) }
 
+    // And both are of one state.
+    ensures both { V.known vault.old → (what : Shown)
+        → CanBeRebuilt HasBoth V.seen V.may_leave what groups drives (shape.now.extents * extent_units shape.now.segments) vault.old
+        → OnOk result (IsWhole HasBoth V.seen V.may_leave what groups drives (shape.now.extents * extent_units shape.now.segments) vault.new) }
+
     // A stop at any moment, also after an error, leaves a vault from which such an array is opened.
     ensures any_moment { V.known vault.old → (bytes : List ℕ)
         → CanBeRebuilt Holds V.seen V.may_leave bytes groups drives (shape.now.extents * extent_units shape.now.segments) vault.old
@@ -99,6 +105,9 @@ pub fn replace_drive<V: Vault, W: Watch>(
     ensures map_any_moment { V.known vault.old → (keys : List ℕ)
         → CanBeRebuilt HasKeys V.seen V.may_leave keys groups drives (shape.now.extents * extent_units shape.now.segments) vault.old
         → (stop : Stop) → LeavesOnly V.moment V.left_since stop vault.old vault.new (λ i. OpensAs HasKeys (keys ∷ []) groups drives (recovered i)) }
+    ensures both_any_moment { V.known vault.old → (what : Shown)
+        → CanBeRebuilt HasBoth V.seen V.may_leave what groups drives (shape.now.extents * extent_units shape.now.segments) vault.old
+        → (stop : Stop) → LeavesOnly V.moment V.left_since stop vault.old vault.new (λ i. OpensAs HasBoth (what ∷ []) groups drives (recovered i)) }
 
     // Of the other drives no unit changes: the marks alone, and the drive's units.
     ensures others { V.known vault.old → (lost : List Bool) → AreMarked drives lost (recovered (V.seen vault.old)) → AreLogged V.seen V.may_leave lost vault.old

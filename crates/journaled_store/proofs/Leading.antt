@@ -70,7 +70,7 @@ seen_more n log now units lost gone low is =
     ∙ ap (λ us. let v : DriveView = record { units = us; lost = slice_index_or (slice_set lost n gone) n true; failures = unsteady (loss false (slice_index_or (slice_set lost n gone) n true)) } in views_to log lost n ++ v ∷ []) (saved_own n log units)
     ∙ ap (λ b. let v : DriveView = record { units = units; lost = b; failures = unsteady (loss false b) } in views_to log lost n ++ v ∷ []) mark))
 
-views_many : (log : List (Entry Units)) (lost : List Bool) (n : ℕ) → length (views_to log lost n) ≡ n
+pub views_many : (log : List (Entry Units)) (lost : List Bool) (n : ℕ) → length (views_to log lost n) ≡ n
 views_many log lost zero = refl
 views_many log lost (suc n) = length-append (views_to log lost n) (view_at log lost n ∷ []) ∙ (let many = views_many log lost n in omega (arith, many))
 

@@ -6,3 +6,8 @@ pub mod Settled
 pub mod Opening
 pub mod Lasting
 pub mod SettledLasting
+pub mod Picking
+pub mod Positions
+pub mod Reading
+pub mod Keeping
+pub mod Rewriting

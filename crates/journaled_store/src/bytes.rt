@@ -54,8 +54,6 @@ impl<N: Chronicle, V: Vault + Drop> ByteStore for JournaledStore<N, V> {
     // What the array does ahead is part of the next batch: a stop before that leaves the array as if it had not been done.
     fn rest(&mut self, alloc: Global) {
         self.store.rest(alloc);
-        if self.changes.appended >= self.settle_at {
-            let _ = self.settle();
-        }
+        self.tidy();
     }
 }

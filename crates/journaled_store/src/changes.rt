@@ -2,7 +2,9 @@
 ghost use Rattle.std.specs.Prelude.{◌≡◌, ◌≢◌, ◌≤◌, ◌<◌, ◌+◌, ◌++◌, ◌⊎◌, [], ◌∷◌, ℕ, length, map, slice_set, true, OnOk, OnErr, IfOk};
 ghost use Rattle.unit_store.specs.Views.{DriveView, drive_view};
 ghost use Rattle.journaled_store.specs.Steps.{LeadsTo, views_to, mark_of, table_write};
+ghost use Rattle.journaled_store.specs.Picking.{Picks};
 
+use crate::wanted::{Wanted, look};
 use cached_drive::{CachedDrive, Saved};
 use extent_groups::Place;
 use extents::{DRIVES, Drive};
@@ -29,6 +31,8 @@ pub struct Changes<N: Chronicle> {
     pub(crate) appended: u64,
     /// Drives that failed the vault. Each is doomed when it is shown.
     pub(crate) failed: [bool; DRIVES],
+    /// The unit of the drives that is compared with the vault's.
+    pub(crate) wanted: Wanted,
 }
 
 impl<N: Chronicle> Changes<N> {
@@ -52,6 +56,13 @@ impl<N: Chronicle> Changes<N> {
             noted,
             appended: 0,
             failed: [false; DRIVES],
+            wanted: Wanted {
+                drive: 0,
+                address: 0,
+                units: 0,
+                unit: vec![in alloc; 0u8; unit_bytes]?,
+                read: vec![in alloc; 0u8; unit_bytes]?,
+            },
         })
     }
 
@@ -85,6 +96,7 @@ pub(crate) fn marks_of(lost: &[bool; DRIVES]) -> [u8; DRIVES]
 pub(crate) fn note_lost<N: Chronicle>(changes: &mut Changes<N>) -> Result<(), AllocError>
     ensures keeper { changes.new.keeper ≡ changes.old.keeper }
     ensures shown { (changes.new.lost ≡ changes.old.lost) × (changes.new.next ≡ changes.old.next) }
+    ensures wanted { changes.new.wanted ≡ changes.old.wanted }
     ensures noted { OnOk result (changes.new.noted ≡ map mark_of changes.old.lost) }
     ensures batch { (changes.new.batch ≡ changes.old.batch) ⊎ (changes.new.batch ≡ changes.old.batch ++ table_write changes.new.noted ∷ []) }
     ensures same { changes.new.batch ≡ changes.old.batch → changes.new.noted ≡ changes.old.noted }
@@ -127,14 +139,18 @@ fn doom_failed<N: Chronicle>(drive: &mut CachedDrive<N>, failed: bool)
 impl<N: Chronicle> Visit<CachedDrive<N>> for Changes<N> {
     ghost use Rattle.std.specs.Prelude.{ℕ};
     ghost use Rattle.journaled_store.specs.Steps.{LeadsTo, views_to, leads_stays, leads_further};
+    ghost use Rattle.journaled_store.specs.Picking.{Picks, picks_stays, picks_further};
 
     ghost shown = { λ c. views_to c.keeper.log c.lost c.next };
 
-    ghost leads_to = { λ c d. LeadsTo c.keeper c.batch c.noted d.keeper d.batch d.noted };
+    ghost leads_to = { λ c d. LeadsTo c.keeper c.batch c.noted d.keeper d.batch d.noted × Picks c.next c.keeper.log c.wanted d.next d.keeper.log d.wanted };
 
-    ghost stays = { λ c. leads_stays c.keeper c.batch c.noted };
+    ghost stays = { λ c. (leads_stays c.keeper c.batch c.noted, picks_stays c.next c.keeper.log c.wanted) };
 
-    ghost further = { λ c d e one two. leads_further c.keeper c.batch c.noted d.keeper d.batch d.noted e.keeper e.batch e.noted one two };
+    ghost further = { λ c d e one two. (
+      leads_further c.keeper c.batch c.noted d.keeper d.batch d.noted e.keeper e.batch e.noted one.0 two.0,
+      picks_further c.next c.keeper.log c.wanted d.next d.keeper.log d.wanted e.next e.keeper.log e.wanted one.1 two.1,
+    ) };
 
     // A drive is saved under its own number. One of another number, or with other units, ends the walk, and so does memory that is
     // out.
@@ -143,7 +159,7 @@ impl<N: Chronicle> Visit<CachedDrive<N>> for Changes<N> {
         if usize::from(number) >= DRIVES || drive.number() != u64::from(number) {
             return false;
         }
-        if drive.unit_bytes() != self.unit.len() {
+        if drive.unit_bytes() != self.unit.len() || drive.unit_bytes() != self.wanted.unit.len() {
             return false;
         }
         let unit: &mut [u8] = &mut self.unit;
@@ -155,6 +171,7 @@ impl<N: Chronicle> Visit<CachedDrive<N>> for Changes<N> {
             &mut self.batch,
         ) {
             Ok(()) => {
+                look(&mut self.wanted, drive, number);
                 doom_failed(drive, self.failed[usize::from(number)]);
                 mark(&mut self.lost, number, drive.is_lost());
                 self.next += 1;

@@ -4,10 +4,15 @@
 mod append;
 mod bytes;
 mod changes;
+mod comparing;
+mod position;
 mod publishing;
+mod scrubbing;
 mod settling;
 mod store;
+mod wanted;
 
 pub use changes::Changes;
+pub use position::{ScrubPosition, Scrubbed};
 pub use publishing::{publish, sync};
 pub use store::JournaledStore;

@@ -8,6 +8,7 @@ ghost use Rattle.vault.specs.Moments.{LeavesOnly, IsLogged, RepresentsSome};
 ghost use Rattle.vault.specs.declared.store.Stop.{Stop};
 ghost use Rattle.vault.specs.declared.store.Stop.TheVariants.{Killed};
 ghost use Rattle.journaled_store.specs.Steps.{HasDrives, HasMarks, IsBeforeOrNow, IsInStep, IsPersisted, IsUpToDate, HasMarksAfter, SameTable, UnlessSync, fault_of};
+ghost use Rattle.journaled_store.specs.Picking.{IsPicked};
 
 use crate::append::append;
 use crate::changes::{Changes, note_lost};
@@ -41,6 +42,10 @@ pub(crate) fn collect<N: Chronicle>(
     ensures has { result ≡ true → (lost : List Bool) (c : Cells) → IsInStep lost changes.old.keeper changes.old.batch c
         → HasDrives lost store.old.tiers.world.array.parts.drives (after c changes.new.batch) }
     ensures marks { result ≡ true → HasMarks store.old.tiers.world.array.parts.drives changes.new.noted }
+
+    // The unit that is asked for.
+    ensures place { (changes.new.wanted.drive ≡ changes.old.wanted.drive) × (changes.new.wanted.address ≡ changes.old.wanted.address) }
+    ensures picked { result ≡ true → IsPicked store.old.tiers.world.array.parts.drives changes.new.lost changes.new.next changes.new.wanted }
 {
     changes.next = 0;
     if changes.keeper.hired() > DRIVES as u64 {

@@ -127,7 +127,7 @@ impl<N: Chronicle, V: Vault + Drop> JournaledStore<N, V> {
 
     // What is done where the vault isn't settled: the journal has failed, or a drive is lost.
     #[tactic(auto, using(crate::proofs::Storing::follows_self))]
-    fn give_up(&mut self, error: VaultError)
+    pub(crate) fn give_up(&mut self, error: VaultError)
         ensures bytes { (F : StoreState) → IsStoreOf self.old.store.tiers self.old.store.size self.old.unsynced F
             → IsStoreOf self.new.store.tiers self.new.store.size self.new.unsynced F }
         ensures keys { (F : StoreState) → IsStoreOf self.old.store.tiers self.old.store.size self.old.unsynced F

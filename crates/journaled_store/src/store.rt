@@ -15,6 +15,7 @@ ghost use Rattle.journaled_store.specs.Left.{HasBoth, HasKeys, IsOneLost, Misses
 ghost use Rattle.journaled_store.specs.Outlasting.{Outlasts, OutlastsSince, Works, point};
 
 use crate::changes::Changes;
+use crate::position::Scrub;
 use crate::publishing::{publish, sync};
 use array_store::ArrayStore;
 use byte_store::{ByteStore, StoreFault};
@@ -26,7 +27,7 @@ use step_core::World;
 use vault::{Batch, Vault};
 
 // Whether a drive of this number is lost, or there is none.
-fn is_lost(lost: &[bool; DRIVES], drive: u8) -> bool
+pub(crate) fn is_lost(lost: &[bool; DRIVES], drive: u8) -> bool
     ensures { result ≡ slice_index_or lost.now drive true }
 {
     match lost.get(usize::from(drive)) {
@@ -52,7 +53,7 @@ fn are_two_lost(lost: &[bool; DRIVES], count: u8) -> bool
 }
 
 // Whether more than one drive is lost. Then the array may not have all that was answered, but the vault has it.
-fn has_lost_two<D: Drive>(world: &World<D>) -> bool
+pub(crate) fn has_lost_two<D: Drive>(world: &World<D>) -> bool
     ensures { result ≡ false → MissesOne world.now.array.parts.drives }
 {
     let array = world.array();
@@ -80,6 +81,8 @@ pub struct JournaledStore<N: Chronicle, V: Vault + Drop> {
     pub(crate) unsynced: bool,
     /// Whether the journal failed. Then each change is refused.
     pub(crate) failed: bool,
+    /// Which unit is compared next.
+    pub(crate) scrub: Scrub,
 }
 
 impl<N: Chronicle, V: Vault + Drop> JournaledStore<N, V> {
@@ -109,6 +112,7 @@ impl<N: Chronicle, V: Vault + Drop> JournaledStore<N, V> {
             settle_at,
             unsynced: false,
             failed: false,
+            scrub: Scrub::new(),
         }
     }
 

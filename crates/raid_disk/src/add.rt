@@ -1,7 +1,7 @@
 //! A disk gets one more drive, and its extents are spread over all of them.
 ghost use Rattle.std.specs.Prelude.{◌≡◌};
 
-use crate::create::{is_there, written};
+use crate::create::is_there;
 use crate::folder::{Folder, Name};
 use crate::opened::{
     Disk, DiskVault, Use, groups_in, header_of, layout_of, open_disk, open_file, open_vault,
@@ -10,7 +10,8 @@ use crate::opened::{
 use crate::places::absolute;
 use crate::progress;
 use crate::replace::{make_fresh, rename};
-use crate::table::{Table, text_of};
+use crate::table::Table;
+use crate::texts::{write_places, write_table};
 use crate::trouble::{Trouble, unwritten};
 use cached_drive::Saved;
 use drive_addition::{AdditionFault, add_drive};
@@ -19,38 +20,38 @@ use extent_groups::Place;
 use extents::DRIVES;
 use file_vault::{RealFiles, read_header};
 use history::{Chronicle, Opened};
-use std::fs::{File, OpenOptions};
+use std::fs::File;
 use std::io;
 use std::marker::Brand;
-use uuid::Uuid;
 use vault::Vault;
 
-// Tests that no drive of the array is lost.
-fn test_whole<N: Chronicle>(disk: &Disk<N>) -> Result<(), Trouble> {
+// Tests that no drive of the array is lost, but for one that may be.
+fn test_whole<N: Chronicle>(disk: &Disk<N>, spare: Option<u8>) -> Result<(), Trouble> {
     let array = disk.store.world().array();
     for drive in 0..array.drive_count() {
-        if array.is_lost(drive) {
+        if array.is_lost(drive) && Some(drive) != spare {
             return Err(Trouble::LostBeside(drive));
         }
     }
     Ok(())
 }
 
-// Settles a disk of which no drive is lost. Says how many drives its array has. Keeps the disk locked.
-fn settle_whole<N: Chronicle>(
+/// Settles a disk of which no drive is lost, but for one that may be. Says how many drives its array has. Keeps the disk locked.
+pub(crate) fn settle_whole<N: Chronicle>(
     rt: &HostRuntime,
     folder: Folder<'_>,
+    spare: Option<u8>,
     opened: Opened<Saved>,
 ) -> Result<(File, Table, u8), Trouble>
     requires { opened ≡ N.chronicle }
 {
     let mut disk = open_disk::<N>(rt, folder, Use::Serves, 0, opened)?;
-    test_whole(&disk)?;
+    test_whole(&disk, spare)?;
     if disk.store.settle().is_err() {
         return Err(Trouble::Sync);
     }
     // A drive that failed in this run is lost since.
-    test_whole(&disk)?;
+    test_whole(&disk, spare)?;
     let drives = disk.store.world().array().drive_count();
     Ok((disk.file, disk.table, drives))
 }
@@ -78,8 +79,8 @@ fn places_with(
     Ok(places)
 }
 
-// Whether what is at a drive's place is a file of it, whole, as an addition that was stopped may have left it.
-fn is_made(
+/// Whether what is at a drive's place is a file of it, whole, as an addition that was stopped may have left it.
+pub(crate) fn is_made(
     rt: &HostRuntime,
     folder: Folder<'_>,
     table: &Table,
@@ -121,41 +122,6 @@ fn make_drive(
         Ok(()) => Ok(()),
         Err(error) => Err(unwritten(error, name)),
     }
-}
-
-// Puts a text in place of a file, in one piece, and makes it durable.
-fn put_text(rt: &HostRuntime, folder: Folder<'_>, name: Name, text: &str) -> Result<(), Trouble> {
-    let path = folder.path(rt.alloc(), Name::Fresh)?;
-    let made = OpenOptions::new()
-        .write(true)
-        .create(true)
-        .truncate(true)
-        .open(rt, &path);
-    let mut file = match made {
-        Ok(file) => file,
-        Err(error) => return Err(unwritten(error, Name::Fresh)),
-    };
-    if let Err(error) = written(&mut file, text) {
-        return Err(unwritten(error, Name::Fresh));
-    }
-    rename(rt, folder, Name::Fresh, name)?;
-    match folder.sync(rt) {
-        Ok(()) => Ok(()),
-        Err(error) => Err(unwritten(error, Name::Folder)),
-    }
-}
-
-// Writes the places and the table of the disk with the new drive. Until the vault has it, the array has the drives of before.
-fn write_texts(rt: &HostRuntime, folder: Folder<'_>, table: &Table) -> Result<(), Trouble> {
-    if !folder.places.is_empty() {
-        let places = drive_places::text_of(rt.alloc(), folder.places)?;
-        put_text(rt, folder, Name::Places, &places)?;
-    }
-    let identity = Uuid::from_bytes(table.identity);
-    let text = text_of(rt.alloc(), identity, &table.plan, table.drives)?;
-    // Both before the vault has the drive: either may be lost later.
-    put_text(rt, folder, Name::TableCopy, &text)?;
-    put_text(rt, folder, Name::Table, &text)
 }
 
 // Writes blank units to all places of a drive.
@@ -234,7 +200,7 @@ fn tell(rt: &HostRuntime, number: u8) -> io::Result<()> {
 /// on all of them; in the first case the same command goes on.
 pub(crate) fn add(rt: &HostRuntime, folder: Folder<'_>, path: Option<&str>) -> Result<u8, Trouble> {
     let opened = Opened::new(rt.alloc())?;
-    let (file, table, number) = settle_whole::<Brand>(rt, folder, opened)?;
+    let (file, table, number) = settle_whole::<Brand>(rt, folder, None, opened)?;
     if usize::from(number) >= DRIVES {
         return Err(Trouble::Full);
     }
@@ -265,6 +231,8 @@ fn add_prepared(
     number: u8,
 ) -> Result<(), Trouble> {
     make_drive(rt, folder, &table, number)?;
-    write_texts(rt, folder, &table)?;
+    // Before the vault has the drive. Until then the array has the drives of before.
+    write_places(rt, folder)?;
+    write_table(rt, folder, &table)?;
     add_made(rt, folder, file, table, number)
 }

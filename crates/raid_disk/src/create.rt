@@ -2,22 +2,19 @@
 use crate::disk_files::DiskFiles;
 use crate::folder::{Folder, Name};
 use crate::identity::new_identity;
-use crate::opened::{DiskVault, file_bytes, groups_of, header_of, layout_of};
+use crate::opened::{file_bytes, groups_of, header_of, layout_of};
 use crate::pairs::{Pair, Pairs, join_pairs};
-use crate::table::text_of;
+use crate::table::Table;
+use crate::texts::{write_places, write_table};
 use crate::trouble::{Trouble, unwritten};
+use blank_array::{BlankFault, make_disk};
 use disk_shape::{Plan, plan_disk};
-use extents::DRIVES;
-use file_vault::{
-    FileVault, Layout, RealFiles, StampedFiles, TABLE_FILE, TABLE_SECOND, Twin, write_header,
-};
-use group_form::write_groups;
-use std::alloc::Global;
+use file_vault::{Layout, RealFiles, StampedFiles, TABLE_FILE, TABLE_SECOND, Twin, write_header};
 use std::fs::{self, File, OpenOptions};
 use std::io;
 use std::io::Write;
 use uuid::Uuid;
-use vault::{Batch, TABLE, keep, settle};
+use vault::TABLE;
 
 // Opens a file that isn't there, for reading too.
 fn make_file(rt: &HostRuntime, folder: Folder<'_>, name: Name) -> Result<File, Trouble> {
@@ -150,58 +147,6 @@ fn mark_files(
     Ok(())
 }
 
-// Writes the table's copy, once all that was made is durable.
-fn make_copy(rt: &HostRuntime, folder: Folder<'_>, text: &str) -> Result<(), Trouble> {
-    if let Err(error) = folder.sync(rt) {
-        return Err(unwritten(error, Name::Folder));
-    }
-    let mut file = make_file(rt, folder, Name::TableCopy)?;
-    match written(&mut file, text) {
-        Ok(()) => Ok(()),
-        Err(error) => Err(unwritten(error, Name::TableCopy)),
-    }
-}
-
-// Writes the table's copy, and the table under its first name, and renames it once all else is durable.
-fn make_table(
-    rt: &HostRuntime,
-    folder: Folder<'_>,
-    identity: Uuid,
-    plan: &Plan,
-) -> Result<(), Trouble> {
-    let text = text_of(rt.alloc(), identity, plan, plan.drives)?;
-    make_copy(rt, folder, &text)?;
-    let mut file = make_file(rt, folder, Name::Fresh)?;
-    if let Err(error) = written(&mut file, &text) {
-        return Err(unwritten(error, Name::Fresh));
-    }
-    if let Err(error) = folder.sync(rt) {
-        return Err(unwritten(error, Name::Folder));
-    }
-    let fresh = folder.path(rt.alloc(), Name::Fresh)?;
-    let table = folder.path(rt.alloc(), Name::Table)?;
-    if let Err(error) = fs::rename(rt, &fresh, &table) {
-        return Err(unwritten(error, Name::Table));
-    }
-    match folder.sync(rt) {
-        Ok(()) => Ok(()),
-        Err(error) => Err(unwritten(error, Name::Folder)),
-    }
-}
-
-// Writes the places of drives' files, if some were given.
-fn make_places(rt: &HostRuntime, folder: Folder<'_>) -> Result<(), Trouble> {
-    if folder.places.is_empty() {
-        return Ok(());
-    }
-    let text = drive_places::text_of(rt.alloc(), folder.places)?;
-    let mut file = make_file(rt, folder, Name::Places)?;
-    match written(&mut file, &text) {
-        Ok(()) => Ok(()),
-        Err(error) => Err(unwritten(error, Name::Places)),
-    }
-}
-
 // Makes the entries of the folders durable in which the drives' files are.
 fn sync_places(rt: &HostRuntime, folder: Folder<'_>, drives: u8) -> Result<(), Trouble> {
     for drive in 0..drives {
@@ -212,18 +157,12 @@ fn sync_places(rt: &HostRuntime, folder: Folder<'_>, drives: u8) -> Result<(), T
     Ok(())
 }
 
-// Puts the groups of a new disk into its vault's table.
-fn write_table(alloc: Global, vault: DiskVault, plan: &Plan) -> Result<(), Trouble> {
-    let mut vault = vault;
-    let (groups, _extents) = groups_of(alloc, plan)?;
-    let mut batch = Batch::new(alloc);
-    write_groups(alloc, &mut batch, &groups, plan.drives)?;
-    if let Err(error) = keep(&mut vault, &batch) {
-        return Err(Trouble::Vault(error));
-    }
-    match settle(&mut vault, &mut batch, &[false; DRIVES]) {
-        Ok(()) => Ok(()),
-        Err(error) => Err(Trouble::Vault(error)),
+// Why no array is made in a new disk's files.
+fn trouble_of_blank(fault: BlankFault) -> Trouble {
+    match fault {
+        BlankFault::Memory => Trouble::Memory,
+        BlankFault::Vault(error) => Trouble::Vault(error),
+        BlankFault::Unsound => Trouble::Unsound,
     }
 }
 
@@ -257,12 +196,21 @@ pub(crate) fn create_disk(
     let Ok(files) = StampedFiles::open(join_pairs(files, &mut pairs)?) else {
         return Err(Trouble::NoState);
     };
-    match FileVault::create(rt.alloc(), files, layout) {
-        Ok(vault) => write_table(rt.alloc(), vault, &plan)?,
-        Err((error, _files)) => return Err(Trouble::Vault(error)),
+    let (groups, extents) = groups_of(rt.alloc(), &plan)?;
+    if let Err(fault) = make_disk(rt.alloc(), files, &groups, &extents, drives) {
+        return Err(trouble_of_blank(fault));
     }
-    make_places(rt, folder)?;
+    write_places(rt, folder)?;
     sync_places(rt, folder, drives)?;
-    make_table(rt, folder, identity, &plan)?;
+    // The table comes last: a folder without one is no disk.
+    if let Err(error) = folder.sync(rt) {
+        return Err(unwritten(error, Name::Folder));
+    }
+    let table = Table {
+        identity: number,
+        plan,
+        drives,
+    };
+    write_table(rt, folder, &table)?;
     Ok(0)
 }

@@ -35,6 +35,8 @@ pub(crate) enum Name {
     Progress,
     /// The same until it is whole.
     FreshProgress,
+    /// Where units are compared next.
+    Scrub,
     /// The system's file with another number at each read.
     Random,
 }
@@ -79,6 +81,7 @@ impl<'a> Folder<'a> {
             Name::Places => format!(in alloc; "{folder}/places"),
             Name::Progress => format!(in alloc; "{folder}/progress"),
             Name::FreshProgress => format!(in alloc; "{folder}/progress.new"),
+            Name::Scrub => format!(in alloc; "{folder}/scrub"),
             Name::Random => {
                 let path = name.system_path();
                 format!(in alloc; "{path}")

@@ -14,12 +14,15 @@ mod opened;
 mod pairs;
 mod places;
 mod progress;
+mod remove;
 mod replace;
+mod resting;
 mod scrub;
 mod serve;
 mod size;
 mod status;
 mod table;
+mod texts;
 mod trouble;
 mod words;
 
@@ -149,6 +152,7 @@ fn carry_out_once<'w>(
         "serve" => serve_from(rt, given, folder),
         "replace" => replace_from(rt, given, folder),
         "add" => add::add(rt, folder, given.get_str("path")),
+        "remove" => remove_from(rt, given, folder),
         "scrub" => scrub::scrub(rt, folder, given.get_flag("json"), given.get_flag("accept")),
         "picture" => drawing::print_picture(rt, folder),
         _ => status::show(rt, folder, given.get_flag("json")),
@@ -189,6 +193,18 @@ fn replace_from<'w>(
 ) -> Result<u8, Trouble> {
     match given.get_one::<u8>("number") {
         Some(number) => replace::replace(rt, folder, number),
+        None => Ok(WRONG_WORDS),
+    }
+}
+
+// Removes the drive that the words name.
+fn remove_from<'w>(
+    rt: &HostRuntime,
+    given: &ArgMatches<'w>,
+    folder: Folder<'_>,
+) -> Result<u8, Trouble> {
+    match given.get_one::<u8>("number") {
+        Some(number) => remove::remove(rt, folder, number),
         None => Ok(WRONG_WORDS),
     }
 }

@@ -38,8 +38,9 @@ fn trouble_of_mending(fault: MendFault) -> Trouble {
         MendFault::Missing { drive, .. } | MendFault::Rotten { drive, .. } => {
             Trouble::Unread(drive)
         }
-        MendFault::Gone(slot) => Trouble::Gone(slot),
-        MendFault::Misfit | MendFault::Unsound(_) => Trouble::Unsound,
+        MendFault::Gone(slot) => Trouble::RottenTwice(slot),
+        MendFault::Unsound(slot) => Trouble::RottenAndUnsound(slot),
+        MendFault::Misfit => Trouble::Unsound,
     }
 }
 
@@ -90,6 +91,8 @@ fn accept_drive(
     let mut count = 0u32;
     for address in 0..units {
         let place = Place { drive, address };
+        // Of a rotten unit's bytes a vault promises nothing: not another unit's, if it gives none.
+        unit.fill(0);
         if vault.read_unit(place, unit)? == UnitRead::Rotten {
             vault.write_unit(place, unit)?;
             count = count.saturating_add(1);

@@ -10,10 +10,11 @@ use crate::pairs::{Pairs, open_pairs};
 use crate::table::{Table, table_in};
 use crate::trouble::{Trouble, unread};
 use array_recovery::{RecoveryFault, find, open_store};
+use blank_array::layout_for;
 use cached_drive::Saved;
 use disk_shape::{Plan, class_of, member_at};
 use extent_groups::{GroupRefusal, GroupTable, Member, Place, are_there};
-use extents::{DRIVES, ExtentTable};
+use extents::ExtentTable;
 use file_vault::{
     FileVault, Files, Header, Layout, PairedFiles, RealFiles, StampedFiles, TABLE_SECOND, Verdict,
     judge, read_generation,
@@ -54,17 +55,7 @@ pub(crate) struct Disk<N: Chronicle> {
 
 /// Where units lie in the files of a disk of so many drives.
 pub(crate) fn layout_of(plan: &Plan, drives: u8) -> Layout {
-    let mut counts = [0u32; DRIVES];
-    for drive in 0..DRIVES {
-        if drive < usize::from(drives) {
-            counts[drive] = plan.shape.drive_units();
-        }
-    }
-    Layout {
-        unit_bytes: plan.shape.unit_bytes() as u32,
-        table_bytes: DRIVES as u32,
-        counts,
-    }
+    layout_for(&plan.shape, drives)
 }
 
 /// Bytes of a new disk's file.
@@ -243,14 +234,15 @@ pub(crate) fn groups_of(alloc: Global, plan: &Plan) -> Result<(GroupTable, Exten
 }
 
 /// The groups that a disk's vault has, the owners of the extents, and how many drives the array has: those of the text, or one less
-/// where the addition of the last one was stopped.
+/// where the addition or the removal of the last one was stopped.
 pub(crate) fn groups_in(
     alloc: Global,
     vault: &mut DiskVault,
     table: &Table,
 ) -> Result<Spelled, Trouble> {
     match find_groups(alloc, vault, &table.plan.shape) {
-        Ok(found) if found.drives <= table.drives && found.drives >= table.plan.drives => Ok(found),
+        Ok(found) if found.drives == table.drives => Ok(found),
+        Ok(found) if found.drives == table.drives.saturating_sub(1) => Ok(found),
         Ok(_) | Err(FormFault::Misfit) => Err(Trouble::Unsound),
         Err(FormFault::Memory) => Err(Trouble::Memory),
         Err(FormFault::Vault(error)) => Err(Trouble::Vault(error)),
@@ -348,8 +340,27 @@ fn name_marked(
     Ok(())
 }
 
-// How many units so many bytes are; at least one.
-fn units_in(bytes: u64, plan: &Plan) -> u64 {
+/// Why a disk isn't opened. Where a slot's units are gone, the drives that are marked are named.
+pub(crate) fn unopened(
+    rt: &HostRuntime,
+    folder: Folder<'_>,
+    fault: RecoveryFault,
+    vault: DiskVault,
+    plan: &Plan,
+    count: u8,
+    drives: &Drives,
+) -> Trouble {
+    let RecoveryFault::Gone(slot) = fault else {
+        return trouble_of(fault);
+    };
+    match name_marked(rt, folder, vault, plan, count, drives) {
+        Ok(()) => Trouble::Gone(slot),
+        Err(trouble) => trouble,
+    }
+}
+
+/// How many units so many bytes are; at least one.
+pub(crate) fn units_in(bytes: u64, plan: &Plan) -> u64 {
     bytes
         .checked_div(plan.shape.unit_bytes() as u64)
         .unwrap_or(1)
@@ -394,11 +405,7 @@ pub(crate) fn open_array<N: Chronicle>(
             pairs: files.pairs,
             file: files.file,
         }),
-        Err((RecoveryFault::Gone(slot), vault)) => {
-            name_marked(rt, folder, vault, &plan, count, &files.drives)?;
-            Err(Trouble::Gone(slot))
-        }
-        Err((fault, _vault)) => Err(trouble_of(fault)),
+        Err((fault, vault)) => Err(unopened(rt, folder, fault, vault, &plan, count, &files.drives)),
     }
 }
 

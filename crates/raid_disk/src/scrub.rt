@@ -194,7 +194,7 @@ fn test_once(rt: &HostRuntime, folder: Folder<'_>) -> Result<Report, Trouble> {
 fn test_mended(rt: &HostRuntime, folder: Folder<'_>, accepts: bool) -> Result<Report, Trouble> {
     let mended = mend_disk(rt, folder);
     let (mended, accepted) = match mended {
-        Err(Trouble::RottenAndLost(_) | Trouble::Gone(_)) if accepts => {
+        Err(Trouble::RottenAndLost(_) | Trouble::RottenTwice(_)) if accepts => {
             (0, accept_disk(rt, folder)?)
         }
         mended => (mended?, 0),

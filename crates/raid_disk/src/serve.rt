@@ -5,22 +5,29 @@ use crate::drives::Drives;
 use crate::folder::{Folder, Name};
 use crate::mending::mend_disk;
 use crate::notes::note_marked;
-use crate::opened::{DiskVault, Use, open_disk};
+use crate::opened::{
+    DiskVault, OpenFiles, Use, groups_in, open_table, open_vault, units_in, unopened,
+};
 use crate::pairs::{Condition, Pair, Pairs};
 use crate::progress;
+use crate::resting::{read_position, write_position};
 use crate::status::served_text;
 use crate::trouble::Trouble;
-use byte_store::{ByteStore, StoreFault};
+use byte_store::StoreFault;
 use cached_drive::Saved;
 use drive_places::Verdict;
 use file_vault::Twin;
 use history::{Chronicle, Opened};
 use journaled_store::JournaledStore;
-use nbd_serve::{End, serve};
+use nbd_serve::End;
 use std::io;
 use std::io::BufReader;
 use std::marker::Brand;
-use watched_store::{Sees, Watched};
+use vault_server::serve_vault;
+use watched_store::Sees;
+
+/// After so many units that were compared it is written down where the next one is.
+const SAVE_EVERY: u64 = 4096;
 
 /// Bytes that are read from the client at once.
 const READ_AHEAD: usize = 65_536;
@@ -41,26 +48,58 @@ fn name_lost<N: Chronicle>(
     Ok(())
 }
 
-// Names the drives that are lost while the disk is served, and writes it for `status`.
+// Names the drives that are lost when the disk is open and while it is served, and writes it for `status`.
 #[derive(Drop)]
 struct LossWatch<'a> {
     rt: &'a HostRuntime,
     folder: Folder<'a>,
     drives: &'a Drives,
     // How many drives were lost when they were last named.
-    lost: u8,
+    named: Option<u8>,
+    // How many units had been compared when that was last written down.
+    saved: u64,
+    // How many units had been written again when that was last told.
+    told: u64,
+}
+
+impl<'a> LossWatch<'a> {
+    // Writes down where units are compared next, and tells of units that were written again.
+    fn note_scrub<N: Chronicle>(&mut self, store: &JournaledStore<N, DiskVault>) {
+        if store.repaired() > self.told {
+            self.told = store.repaired();
+            // Nothing is left to do where standard error can't be written.
+            let _ = tell_repaired(self.rt, self.folder, self.told);
+        }
+        if store.scrubbed() >= self.saved.saturating_add(SAVE_EVERY) {
+            self.saved = store.scrubbed();
+            write_position(self.rt, self.folder, store.scrub_position());
+        }
+    }
 }
 
 impl<'a, N: Chronicle> Sees<JournaledStore<N, DiskVault>> for LossWatch<'a> {
     fn sees(&mut self, store: &JournaledStore<N, DiskVault>) {
         let lost = lost_count(store);
-        if lost > self.lost {
-            self.lost = lost;
+        let more = match self.named {
+            Some(named) => lost > named,
+            None => true,
+        };
+        if more {
+            self.named = Some(lost);
             // Nothing is left to do where standard error can't be written.
             let _ = name_lost(self.rt, self.folder, store, self.drives);
             say_served(self.rt, self.folder, store, self.drives);
         }
+        self.note_scrub(store);
     }
+}
+
+// Says how many units were written again since the disk was opened.
+fn tell_repaired(rt: &HostRuntime, folder: Folder<'_>, count: u64) -> io::Result<()> {
+    let path = folder.path(rt.alloc(), Name::Folder)?;
+    eprintln!(rt;
+        "raid_disk: {path}: {count} units on files weren't as the array has them, and are written again"
+    )
 }
 
 // Names the files of a pair that are missing, older or fail, on standard error.
@@ -106,13 +145,10 @@ fn lost_count<N: Chronicle>(store: &JournaledStore<N, DiskVault>) -> u8 {
     count
 }
 
-// Makes all durable, and empties the journal. What can't be settled now is still in the journal, and the next server reads it there.
-fn finish<N: Chronicle>(store: &mut JournaledStore<N, DiskVault>) -> Result<(), Trouble> {
-    match store.flush() {
-        Ok(()) => {
-            let _ = store.settle();
-            Ok(())
-        }
+// Whether all was made durable, for the caller of the program.
+fn test_flushed(flushed: Result<(), StoreFault>) -> Result<(), Trouble> {
+    match flushed {
+        Ok(()) => Ok(()),
         Err(StoreFault::Memory) => Err(Trouble::Memory),
         Err(_) => Err(Trouble::Sync),
     }
@@ -130,38 +166,68 @@ fn say_served<N: Chronicle>(
     }
 }
 
-// Serves a store to one client, and names the drives that are lost meanwhile.
-fn serve_store<N: Chronicle>(
+// Serves a disk whose files are open. What a server before has left in the journal is settled first, and at the end all is synced
+// and settled.
+fn serve_files<N: Chronicle>(
     rt: &HostRuntime,
     folder: Folder<'_>,
-    store: JournaledStore<N, DiskVault>,
-    drives: &Drives,
-) -> Result<u8, Trouble> {
+    files: OpenFiles,
+    journal: u64,
+    opened: Opened<Saved>,
+) -> Result<u8, Trouble>
+    requires { opened ≡ N.chronicle }
+{
+    let OpenFiles {
+        table,
+        mut vault,
+        drives,
+        file,
+        ..
+    } = files;
+    // The folder is locked as long as it is open.
+    let _lock = file;
+    let plan = table.plan;
+    let spelled = groups_in(rt.alloc(), &mut vault, &table)?;
+    let count = spelled.drives;
     let Ok(mut reader) = BufReader::with_capacity(rt.alloc(), READ_AHEAD, rt.stdin()) else {
         return Err(Trouble::Memory);
     };
-    say_served(rt, folder, &store, drives);
-    let lost = lost_count(&store);
     let watch = LossWatch {
         rt,
         folder,
-        drives,
-        lost,
+        drives: &drives,
+        named: None,
+        saved: 0,
+        told: 0,
     };
-    let mut watched = Watched::new(store, watch);
-    let end = serve(rt.alloc(), &mut reader, &mut rt.stdout(), &mut watched);
-    let named = watched.watch().lost;
-    let mut store = watched.into_store();
-    let finished = finish(&mut store);
-    if lost_count(&store) > named {
-        let _ = name_lost(rt, folder, &store, drives);
-    }
+    let served = serve_vault::<N, DiskVault, _, _, _>(
+        rt.alloc(),
+        vault,
+        opened,
+        &plan.shape,
+        spelled.groups,
+        spelled.extents,
+        count,
+        plan.size,
+        &drives.absent(),
+        units_in(journal, &plan),
+        read_position(rt, folder),
+        watch,
+        &mut reader,
+        &mut rt.stdout(),
+    );
     progress::end(rt, folder);
-    finished?;
-    outcome_of(end)
+    match served {
+        Ok(served) => {
+            write_position(rt, folder, served.store.scrub_position());
+            test_flushed(served.flushed)?;
+            outcome_of(served.end)
+        }
+        Err((fault, vault)) => Err(unopened(rt, folder, fault, vault, &plan, count, &drives)),
+    }
 }
 
-// Serves a disk. What a server before has left in the journal is settled first, and at the end all is synced and settled.
+// Serves a disk.
 fn serve_opened<N: Chronicle>(
     rt: &HostRuntime,
     folder: Folder<'_>,
@@ -170,15 +236,12 @@ fn serve_opened<N: Chronicle>(
 ) -> Result<u8, Trouble>
     requires { opened ≡ N.chronicle }
 {
-    let mut disk = open_disk::<N>(rt, folder, Use::Serves, journal, opened)?;
-    let _ = disk.store.settle();
+    let (file, table) = open_table(rt, folder, Use::Serves)?;
+    let files = open_vault(rt, folder, Use::Serves, file, table)?;
     // Nothing is left to do where standard error can't be written.
-    let _ = name_lost(rt, folder, &disk.store, &disk.drives);
-    let _ = name_pair(rt, folder, &disk.pairs, Pair::State);
-    let _ = name_pair(rt, folder, &disk.pairs, Pair::Journal);
-    // The folder is locked as long as it is open.
-    let _lock = disk.file;
-    serve_store(rt, folder, disk.store, &disk.drives)
+    let _ = name_pair(rt, folder, &files.pairs, Pair::State);
+    let _ = name_pair(rt, folder, &files.pairs, Pair::Journal);
+    serve_files::<N>(rt, folder, files, journal, opened)
 }
 
 // Serves a disk, unless a unit isn't as its digest says.

@@ -1,4 +1,4 @@
-//! The table of a disk, a text of eight lines, and a ninth where drives were added:
+//! The table of a disk, a text of eight lines, and a ninth where drives were added or removed:
 //!
 //!     raid_disk 5
 //!     identity UUID
@@ -10,8 +10,8 @@
 //!     mirrored M
 //!     added K
 //!
-//! The identity is in each other file too. Size, block and drives are as given to `create`; segments, groups and mirrored groups
-//! follow from them. It is in two files, and is written when the disk is made and when a drive is added.
+//! or `removed K`. The identity is in each other file too. Size, block and drives are as given to `create`; segments, groups and
+//! mirrored groups follow from them. It is in two files, and is written when the disk is made, and when a drive is added or removed.
 use crate::trouble::Trouble;
 use disk_shape::{Plan, plan_disk};
 use std::alloc::{AllocError, Global};
@@ -39,6 +39,10 @@ pub(crate) fn text_of(
     if added > 0 {
         write!(text, "added {added}\n")?;
     }
+    let removed = drives.saturating_sub(count);
+    if removed > 0 {
+        write!(text, "removed {removed}\n")?;
+    }
     Ok(text)
 }
 
@@ -48,7 +52,8 @@ pub(crate) struct Table {
     pub(crate) identity: [u8; 16],
     /// The sizes of the disk as it was made.
     pub(crate) plan: Plan,
-    /// Its drives, with those that were added. The last one may be in no group yet: the vault's table says how many the array has.
+    /// Its drives, with those that were added and without those that were removed. The last one may be in no group yet, or no more: the
+    /// vault's table says how many the array has.
     pub(crate) drives: u8,
 }
 
@@ -77,12 +82,19 @@ fn number_after(line: &str, word: &str) -> Option<u64> {
     }
 }
 
-// The drives that a text's last lines add.
-fn added_in(line: Option<&str>) -> u64 {
-    match line {
-        Some(line) => number_after(line, "added").unwrap_or(0),
-        None => 0,
+// How many drives there are with those that a text's last line adds or removes; none where there can't be as many.
+fn drives_with(drives: u64, line: Option<&str>) -> Option<u8> {
+    let count = match line {
+        None | Some("") => drives,
+        Some(line) => match number_after(line, "added") {
+            Some(added) => drives.checked_add(added)?,
+            None => drives.checked_sub(number_after(line, "removed")?)?,
+        },
+    };
+    if count > 16 {
+        return None;
     }
+    Some(count as u8)
 }
 
 // The identity, the plan and the drives for which the text's lines ask, if they are a table's.
@@ -101,12 +113,12 @@ fn lines_in(text: &str) -> Option<(Uuid, Plan, u8)> {
     let _segments = lines.next()?;
     let _groups = lines.next()?;
     let _mirrored = lines.next()?;
-    let added = added_in(lines.next());
-    if block > 65_536 || drives > 16 || added > 16 - drives {
+    if block > 65_536 || drives > 16 {
         return None;
     }
+    let count = drives_with(drives, lines.next())?;
     match plan_disk(size, block as u32, drives as u8) {
-        Ok(plan) => Some((identity, plan, (drives + added) as u8)),
+        Ok(plan) => Some((identity, plan, count)),
         Err(_) => None,
     }
 }

@@ -82,10 +82,18 @@ pub(crate) enum Trouble {
     Rotten(u8, u32),
     /// Units aren't as their digests say, and can't be computed, since this drive is lost.
     RottenAndLost(u8),
-    /// A drive is to be added, and this one is lost.
+    /// Units of this slot aren't as their digests say, and can't be computed, since there are two.
+    RottenTwice(u16),
+    /// Units aren't as their digests say, and with those that were computed this slot's contradict one another.
+    RottenAndUnsound(u16),
+    /// A drive is to be added or removed, and this one is lost.
     LostBeside(u8),
     /// A drive is to be added, and there are 16.
     Full,
+    /// The first drive is to be removed, and the second is the last one.
+    NotLast(u8, u8),
+    /// A drive is to be removed, and the others have no room for what it has, or are too few.
+    Needed(u8),
 }
 
 impl Trouble {
@@ -290,9 +298,17 @@ impl Trouble {
             }
             Trouble::LostBeside(drive) => {
                 let path = folder.path(rt.alloc(), Name::Drive(*drive))?;
-                eprintln!(rt; "raid_disk: {path} is lost: replace it before a drive is added")
+                eprintln!(rt;
+                    "raid_disk: {path} is lost: replace it before a drive is added or removed"
+                )
             }
             Trouble::Full => eprintln!(rt; "raid_disk: a disk has 16 drives at most"),
+            Trouble::NotLast(drive, last) => eprintln!(rt;
+                "raid_disk: the last drive alone can be removed: remove drive {last}, and then move drive {drive}'s file to where that one's was"
+            ),
+            Trouble::Needed(drive) => eprintln!(rt;
+                "raid_disk: drive {drive} can't be removed: the others have no room for what it has, or there would be fewer than 3"
+            ),
             Trouble::OldThere(drive) => {
                 let path = folder.path(rt.alloc(), Name::Drive(*drive))?;
                 let old = folder.path(rt.alloc(), Name::OldDrive(*drive))?;
@@ -317,6 +333,22 @@ impl Trouble {
                 let path = folder.path(rt.alloc(), Name::Drive(*drive))?;
                 eprintln!(rt;
                     "raid_disk: {path} is lost, and units of other drives aren't as their digests say: scrub --accept takes them as they are"
+                )
+            }
+            Trouble::RottenTwice(slot) => {
+                let at = folder.name;
+                let group = slot / 128;
+                let index = slot % 128;
+                eprintln!(rt;
+                    "raid_disk: {at}: slot {index} of group {group} has more than one unit that isn't as its digest says: scrub --accept takes them as they are"
+                )
+            }
+            Trouble::RottenAndUnsound(slot) => {
+                let at = folder.name;
+                let group = slot / 128;
+                let index = slot % 128;
+                eprintln!(rt;
+                    "raid_disk: {at}: units that aren't as their digests say can't be computed: those of slot {index} of group {group} contradict one another"
                 )
             }
             _ => Ok(()),

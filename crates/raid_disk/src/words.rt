@@ -57,17 +57,45 @@ fn create<'a>(alloc: Global) -> Result<Command<'a>, AllocError> {
         ))
 }
 
-fn replace<'a>(alloc: Global) -> Result<Command<'a>, AllocError> {
-    let number = Arg::new(alloc, "number")
+// The drive that a command names.
+fn number<'a>(alloc: Global, help: &'a str) -> Arg<'a> {
+    Arg::new(alloc, "number")
         .value_name("NUMBER")
         .required(true)
         .value_parser(value_parser!(u8))
-        .help("the lost drive's number, 0 for drive0");
-    Command::new(alloc, "replace")
-        .about("makes the file of a lost drive again, with its units, from the other drives")
+        .help(help)
+}
+
+// A command that has to do with one drive.
+fn for_drive<'a>(
+    alloc: Global,
+    name: &'a str,
+    about: &'a str,
+    help: &'a str,
+) -> Result<Command<'a>, AllocError> {
+    Command::new(alloc, name)
+        .about(about)
         .arg(folder(alloc))?
-        .arg(number)?
+        .arg(number(alloc, help))?
         .arg(others(alloc))
+}
+
+fn replace<'a>(alloc: Global) -> Result<Command<'a>, AllocError> {
+    for_drive(
+        alloc,
+        "replace",
+        "makes the file of a lost drive again, with its units, from the other drives",
+        "the lost drive's number, 0 for drive0",
+    )
+}
+
+fn remove<'a>(alloc: Global) -> Result<Command<'a>, AllocError> {
+    for_drive(
+        alloc,
+        "remove",
+        "moves what the last drive has to the others, and deletes its file",
+        "the last drive's number: 5 of six drives",
+    )
 }
 
 fn add<'a>(alloc: Global) -> Result<Command<'a>, AllocError> {
@@ -94,48 +122,73 @@ fn looks<'a>(alloc: Global, name: &'a str, about: &'a str) -> Result<Command<'a>
         .arg(others(alloc))
 }
 
-/// What the words ask for, as clap reads them.
-pub(crate) fn matches_of<'a>(alloc: Global, words: &'a [String]) -> Result<ArgMatches<'a>, Error> {
+fn serve<'a>(alloc: Global) -> Result<Command<'a>, AllocError> {
     let journal = Arg::new(alloc, "journal")
         .long("journal")
         .value_name("SIZE")
         .default_value("64M")
         .help("bytes of units in the journal from which on they are written to their places");
-    let serve = Command::new(alloc, "serve")
+    Command::new(alloc, "serve")
         .about("serves the disk to one NBD client, on standard input and output")
         .arg(folder(alloc))?
         .arg(journal)?
-        .arg(others(alloc))?;
+        .arg(others(alloc))
+}
+
+fn scrub<'a>(alloc: Global) -> Result<Command<'a>, AllocError> {
     let accept = Arg::new(alloc, "accept")
         .long("accept")
         .action(ArgAction::SetTrue)
         .help("takes units that aren't as their digests say, and can't be computed, as they are");
-    let scrub = looks(
+    looks(
         alloc,
         "scrub",
         "compares every unit with its digest, writes those again that differ, and compares copies, parity and headers",
     )?
-    .arg(accept)?;
-    let status = looks(
+    .arg(accept)
+}
+
+fn status<'a>(alloc: Global) -> Result<Command<'a>, AllocError> {
+    looks(
         alloc,
         "status",
         "prints drives, groups, and how full the two levels are",
-    )?;
-    let picture = Command::new(alloc, "picture")
+    )
+}
+
+fn picture<'a>(alloc: Global) -> Result<Command<'a>, AllocError> {
+    Command::new(alloc, "picture")
         .about("draws the drives with their groups and units, in SVG")
         .arg(folder(alloc))?
-        .arg(others(alloc))?;
+        .arg(others(alloc))
+}
+
+// The commands that change which drives a disk has.
+fn with_changes<'a>(alloc: Global, program: Command<'a>) -> Result<Command<'a>, AllocError> {
+    program
+        .subcommand(replace(alloc)?)?
+        .subcommand(add(alloc)?)?
+        .subcommand(remove(alloc)?)
+}
+
+// Those that only tell of it, or mend it.
+fn with_looks<'a>(alloc: Global, program: Command<'a>) -> Result<Command<'a>, AllocError> {
+    program
+        .subcommand(scrub(alloc)?)?
+        .subcommand(status(alloc)?)?
+        .subcommand(picture(alloc)?)
+}
+
+/// What the words ask for, as clap reads them.
+pub(crate) fn matches_of<'a>(alloc: Global, words: &'a [String]) -> Result<ArgMatches<'a>, Error> {
     let program = Command::new(alloc, "raid_disk")
         .about("A disk on files, which reads as before when one of them is lost.")
         .no_binary_name(true)
         .disable_help_subcommand(true)
         .subcommand_required(true)
         .subcommand(create(alloc)?)?
-        .subcommand(serve)?
-        .subcommand(replace(alloc)?)?
-        .subcommand(add(alloc)?)?
-        .subcommand(scrub)?
-        .subcommand(status)?
-        .subcommand(picture)?;
+        .subcommand(serve(alloc)?)?;
+    let program = with_changes(alloc, program)?;
+    let program = with_looks(alloc, program)?;
     program.try_get_matches_from(words)
 }

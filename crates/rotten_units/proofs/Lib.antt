@@ -3,3 +3,4 @@ pub mod Writing
 pub mod Reading
 pub mod Loading
 pub mod Once
+pub mod Computing

@@ -12,7 +12,7 @@ use Rattle.vault.specs.Images.{is_lost}
 use Rattle.vault.specs.Moments.{IsAsAttested, IsUnitAt}
 use Rattle.vault.specs.declared.store.UnitRead.{UnitRead}
 use Rattle.vault.specs.declared.store.UnitRead.TheVariants.{Rotten, Whole}
-use Rattle.rotten_units.specs.Loaded.{AreFormed, AreReadOrNoted, IsReadOrNoted, KeepsNoted}
+use Rattle.rotten_units.specs.Loaded.{AreFormed, AreReadOrNoted, IsReadOrNoted, KeepsNoted, NotesOnly}
 
 -- an element of a list with one more
 pub get_more : {A : Type 0} (xs : List A) (x y : A) (i : ℕ) → slice_get (xs ++ x ∷ []) i ≡ Some y → ((i ≡ length xs) × (x ≡ y)) ⊎ ((i < length xs) × (slice_get xs i ≡ Some y))
@@ -110,3 +110,7 @@ rotten_there c place out read is at = let u = subst (λ r. IsUnitAt c place out 
 
 pub says : (A : Type 0) (read r : UnitRead) → read ≡ r → IsAsAttested A read → IsAsAttested A r
 says A read r is told = subst (λ q. IsAsAttested A q) is told
+
+-- one place more is noted
+pub only_more : (P noted more latest : Place → Type 0) (place : Place) → P place → NotesOnly P noted more → NotesOnly (λ x. place ≡ x) more latest → NotesOnly P noted latest
+only_more P noted more latest place of one two x n = elim (two x n) [ inl m ↦ one x m | inr is ↦ inr (subst P is of) ]

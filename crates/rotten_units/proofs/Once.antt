@@ -1,5 +1,5 @@
 -- Of each pair of copies, and of each row, one place at most is noted.
-use Rattle.std.proofs.Common.{◌≡◌, ◌<◌, ◌≤◌, ◌+◌, ◌*◌, ◌/◌, ◌%◌, ◌⊎◌, inl, inr, ℕ, Bool, true, false, Option, Some, None, List, length, slice_get, sym, ◌∙◌, ap, subst, arith}
+use Rattle.std.proofs.Common.{◌≡◌, ◌<◌, ◌≤◌, ◌+◌, ◌*◌, ◌/◌, ◌%◌, ◌⊎◌, inl, inr, ℕ, Bool, true, false, Option, Some, None, List, length, slice_get, refl, sym, ◌∙◌, ap, subst, arith}
 use Rattle.std.proofs.lemmas.Bool.{cases_order, true≢false}
 use Rattle.std.proofs.lemmas.Option.{none-some, same_Some, slice_get_cases, slice_get_within}
 use Rattle.extent_groups.specs.declared.class.Class.{Class}
@@ -11,7 +11,7 @@ use Rattle.extent_groups.proofs.Bounds.{made_low}
 use Rattle.extent_groups.proofs.LayoutLaw.{slot_of}
 use Rattle.extent_groups.proofs.Places.{same_or_not}
 use Rattle.vault.specs.Marks.{Has, spot}
-use Rattle.rotten_units.specs.Rows.{AreNotedOnce, AreNotedOnceBelow, FirstNotesOne, IsNotedOnce, NotesOne}
+use Rattle.rotten_units.specs.Rows.{AreNotedOnce, AreNotedOnceBelow, FirstNotesOne, IsNotedOnce, IsUntouched, NotesNone, NotesOne}
 
 module _ (noted : Place → Type 0) where
   pair_one : (p q : Place) → (noted p → noted q → ⊥) → NotesOne noted (Pair p q)
@@ -76,6 +76,34 @@ module _ (noted : Place → Type 0) where
 
   pub no_group : (groups : Groups) (slot : ℕ) → class_in (group_at groups (slot / 128)) ≡ None → IsNotedOnce noted groups slot
   no_group groups slot free site is =
+      let x = slot_of groups.segments (group_at groups (slot / 128)) (slot % 128) site is in
+      absurd (none-some x.group.class (sym free ∙ ap class_in x.made))
+
+  pair_none : (p q : Place) → (noted p → ⊥) → (noted q → ⊥) → NotesNone noted (Pair p q)
+  pair_none p q first second x (inl is) n = first (subst noted is n)
+  pair_none p q first second x (inr is) n = second (subst noted is n)
+
+  -- neither copy
+  pub pair_untouched : (groups : Groups) (slot : ℕ) (p q : Place) → site_of groups slot ≡ Some (Pair p q) → (noted p → ⊥) → (noted q → ⊥) → IsUntouched noted groups slot
+  pair_untouched groups slot p q at first second site is = subst (NotesNone noted) (same_Some (Pair p q) site (sym at ∙ is)) (pair_none p q first second)
+
+  row_none : (row : List Place) (parity i count : ℕ) → length row ≤ count → FirstNotesOne noted row count false → NotesNone noted (InStripe row parity i)
+  row_none row parity i count all first x (k, at) n = let low = slice_get_within row k x at in first.none refl k x (omega (arith, low, all)) at n
+
+  -- no place of a whole row
+  pub row_untouched : (groups : Groups) (slot : ℕ) (row : List Place) (parity i count : ℕ) → site_of groups slot ≡ Some (InStripe row parity i) → length row ≤ count
+      → FirstNotesOne noted row count false → IsUntouched noted groups slot
+  row_untouched groups slot row parity i count at all first site is = subst (NotesNone noted) (same_Some (InStripe row parity i) site (sym at ∙ is)) (row_none row parity i count all first)
+
+  -- a number that is no slot's
+  pub past_untouched : (groups : Groups) (slot : ℕ) → slots_in groups.segments (group_at groups (slot / 128)) ≤ slot % 128 → IsUntouched noted groups slot
+  past_untouched groups slot past site is =
+      let x = slot_of groups.segments (group_at groups (slot / 128)) (slot % 128) site is in
+      let counted : slot % 128 < slots_in groups.segments (group_at groups (slot / 128)) = subst (λ o. slot % 128 < slots_in groups.segments o) (sym x.made) x.below in
+      absurd (omega (arith, counted, past))
+
+  pub free_untouched : (groups : Groups) (slot : ℕ) → class_in (group_at groups (slot / 128)) ≡ None → IsUntouched noted groups slot
+  free_untouched groups slot free site is =
       let x = slot_of groups.segments (group_at groups (slot / 128)) (slot % 128) site is in
       absurd (none-some x.group.class (sym free ∙ ap class_in x.made))
 

@@ -1,12 +1,20 @@
 -- Writes of noted places, one after the other.
-use Rattle.std.proofs.Common.{◌≡◌, ◌≢◌, ℕ, inl, inr, refl, sym, ◌∙◌, subst}
+use Rattle.std.proofs.Common.{◌≡◌, ◌≢◌, ℕ, inl, inr, true, Option, Some, None, is_some, List, Result, Ok, Err, refl, sym, ◌∙◌, ap, subst}
+use Rattle.std.proofs.lemmas.Bool.{true≢false}
+use Rattle.std.proofs.lemmas.Option.{none-some}
 use Rattle.extent_groups.specs.declared.place.Place.{Place}
-use Rattle.vault.specs.Images.{Image}
-use Rattle.vault.specs.Moments.{Elapses, LeavesOnly, Torn, torn_at}
+use Rattle.extent_groups.specs.Calls.{Fades, FadesAt}
+use Rattle.extent_groups.specs.Cells.{Cells, held}
+use Rattle.extent_groups.specs.Planned.{over, with_unit}
+use Rattle.extent_groups.proofs.Finishing.{place_or_not, write_else, write_here}
+use Rattle.vault.specs.Images.{Alike, Image, with_write}
+use Rattle.vault.specs.Moments.{AttestsNoOther, Elapses, LeavesOnly, Torn, torn_at}
 use Rattle.vault.specs.declared.store.Stop.{Stop}
 use Rattle.vault.proofs.Runs.{both_runs, goes_on, started}
+use Rattle.rotten_units.specs.Faults.{UnlessVault}
 use Rattle.rotten_units.specs.Loaded.{OnlyRead}
-use Rattle.rotten_units.specs.Written.{DiffersAt, LeavesAt, WroteAt}
+use Rattle.rotten_units.specs.Written.{DiffersAt, IsKeptOrFrom, LeavesAt, WroteAt, WroteFrom}
+use Rattle.rotten_units.specs.declared.fault.MendFault.{MendFault}
 
 module _ (places : Place → Type 0) where
   pub differs_not : (i : Image) → DiffersAt places i i
@@ -78,3 +86,61 @@ module _ (places : Place → Type 0) where
       moments = λ leaves stop. goes_on moment left_since stop old old new (DiffersAt places (seen old)) (may_leave old stop) (may_leave new stop)
           (started moment left_since stop old (DiffersAt places (seen old)) (λ i left. leaves stop i (only stop i left))) (read.time stop) (λ i now. leaves stop i now);
     }
+
+-- what is written at a place where a unit is
+over_there : (o : Option (List ℕ)) (u : List ℕ) → is_some (over o u) ≡ true → over o u ≡ Some u
+over_there None u e = absurd (true≢false (sym e))
+over_there (Some v) u e = refl
+
+-- what drives in memory have that calls left of them, they had before
+pub was_there : (units was : Option (List ℕ)) (u : List ℕ) → Fades was units → units ≡ Some u → was ≡ Some u
+was_there units was u (inl same) is = sym same ∙ is
+was_there units was u (inr none) is = absurd (none-some u (sym none ∙ is))
+
+-- after any fault, if no call of the vault is needed for it
+pub unless_of : {T : Type 0} (P : Type 0) (r : Result T MendFault) → P → UnlessVault r P
+unless_of P (Ok x) p = p
+unless_of P (Err fault) p = λ other. p
+
+module _ {V : Type 0} (seen : V → Image) (attested : V → Place → Type 0) (places : Place → Type 0) where
+  -- no write, and calls that only read
+  pub from_none : (units : Cells) (v : V) → WroteFrom seen attested places units v v
+  from_none units v x a = inl (a, refl)
+
+  pub from_read : (units : Cells) (old new : V) → seen new ≡ seen old → ((x : Place) → attested new x → attested old x) → WroteFrom seen attested places units old new
+  from_read units old new same no_more x a = inl (no_more x a, ap (λ (s : Image). held s.cells x) same)
+
+  -- one write alone
+  pub from_one : (units : Cells) (old new : V) (place : Place) (unit : List ℕ) → places place → held units place ≡ Some unit → AttestsNoOther attested place old new
+      → Alike (seen new) (with_write (seen old) place unit) → WroteFrom seen attested places units old new
+  from_one units old new place unit of is no_other alike x a = elim (place_or_not x place) [
+    | inl e ↦ inr (subst places (sym e) of, (unit, ap (held units) e ∙ is, λ some. here x e some))
+    | inr ne ↦ inl (no_other x ne a, alike.cells x ∙ write_else (seen old).cells (record { place = place; unit = unit }) x (λ e. ne (sym e)))
+  ]
+    where
+      written : (x : Place) → x ≡ place → held (seen new).cells x ≡ over (held (seen old).cells place) unit
+      written x e =
+          alike.cells x ∙ ap (held (with_unit (seen old).cells (record { place = place; unit = unit }))) e
+          ∙ write_here (seen old).cells (record { place = place; unit = unit })
+
+      here : (x : Place) → x ≡ place → is_some (held (seen new).cells x) ≡ true → held (seen new).cells x ≡ Some unit
+      here x e some = written x e ∙ over_there (held (seen old).cells place) unit (ap (λ o. is_some o) (sym (written x e)) ∙ some)
+
+  -- one run of writes after another
+  from_two : (units was mid now : Cells) (old middle : Place → Type 0) (x : Place) → (middle x → IsKeptOrFrom old places units was mid x) → IsKeptOrFrom middle places units mid now x
+      → IsKeptOrFrom old places units was now x
+  from_two units was mid now old middle x one (inr from) = inr from
+  from_two units was mid now old middle x one (inl (a, same)) = elim (one a) [
+    | inl kept ↦ inl (kept.0, same ∙ kept.1)
+    | inr from ↦ inr (from.0, (from.1.0, from.1.1, λ some. same ∙ from.1.2 (ap (λ o. is_some o) (sym same) ∙ some)))
+  ]
+
+  pub from_both : (units : Cells) (old mid new : V) → WroteFrom seen attested places units old mid → WroteFrom seen attested places units mid new → WroteFrom seen attested places units old new
+  from_both units old mid new one two x a = from_two units (seen old).cells (seen mid).cells (seen new).cells (attested old) (attested mid) x (one x) (two x a)
+
+  -- with units that drives in memory have after calls, they were written with those of before
+  pub from_later : (units was : Cells) (old new : V) → ((x : Place) → FadesAt was units x) → WroteFrom seen attested places units old new → WroteFrom seen attested places was old new
+  from_later units was old new fades wrote x a = elim (wrote x a) [
+    | inl kept ↦ inl kept
+    | inr from ↦ inr (from.0, (from.1.0, was_there (held units x) (held was x) from.1.0 (fades x) from.1.1, from.1.2))
+  ]

@@ -1,3 +1,4 @@
+pub mod Faults
 pub mod Loaded
 pub mod Rows
 pub mod Written

@@ -49,6 +49,14 @@ SameAttested attested old new = (x : Place) → attested new x ↔ attested old 
 abbrev pub NotesRotten : (attested old new : Place → Type 0) → Type 0
 NotesRotten attested old new = (x : Place) → new x → old x ⊎ (attested x → ⊥)
 
+-- only places that are P are noted
+abbrev pub NotesOnly : (P old new : Place → Type 0) → Type 0
+NotesOnly P old new = (x : Place) → new x → old x ⊎ P x
+
+-- a place of the first drives, each with this many units
+abbrev pub IsInside : (drives units : ℕ) → Place → Type 0
+IsInside drives units x = (x.drive < drives) × (x.address < units)
+
 -- what was noted stays noted
 abbrev pub KeepsNoted : (Place → Type 0) → (Place → Type 0) → Type 0
 KeepsNoted old new = (x : Place) → old x → new x

@@ -21,6 +21,13 @@ AreNotedOnceBelow noted groups end = (slot : ℕ) → slot < end → IsNotedOnce
 abbrev pub AreNotedOnce : (Place → Type 0) → Groups → Type 0
 AreNotedOnce noted groups = (slot : ℕ) → IsNotedOnce noted groups slot
 
+-- no place of the copies of a slot, or of its row, is noted
+abbrev pub NotesNone : (Place → Type 0) → Site → Type 0
+NotesNone noted site = (x : Place) → IsOf site x → noted x → ⊥
+
+abbrev pub IsUntouched : (Place → Type 0) → Groups → ℕ → Type 0
+IsUntouched noted groups slot = (site : Site) → site_of groups slot ≡ Some site → NotesNone noted site
+
 -- a place of a copy of a slot, or of its row
 abbrev pub IsUsed : Groups → Place → Type 0
 IsUsed groups x = (slot : ℕ) × (site : Site) × (site_of groups slot ≡ Some site) × IsOf site x

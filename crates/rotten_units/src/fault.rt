@@ -1,4 +1,7 @@
 // Why units aren't read or mended.
+ghost use Rattle.std.specs.Prelude.{◌≡◌};
+ghost use Rattle.rotten_units.specs.declared.fault.MendFault.TheVariants.{Vault};
+
 use std::alloc::{AllocError, AllocFailed};
 use vault::VaultError;
 
@@ -31,7 +34,7 @@ impl From<VaultError> for ReadFault {
     }
 }
 
-/// Why rotten units aren't mended. Those that were written before are right; the others are as they were.
+/// Why rotten units aren't mended. Units that weren't rotten are as they were.
 #[derive(Clone, Copy, Debug, PartialEq, Eq)]
 pub enum MendFault {
     /// Out of memory.
@@ -46,7 +49,7 @@ pub enum MendFault {
     Gone(u16),
     /// This unit was written, and is rotten again.
     Rotten { drive: u8, address: u32 },
-    /// This slot isn't sound: its units are as their digests say, and don't go together.
+    /// This slot isn't sound: its units, as they are read or computed, don't go together. It is tested before a computed one is written.
     Unsound(u16),
 }
 
@@ -63,6 +66,8 @@ impl<T: Drop> From<AllocFailed<T>> for MendFault {
 }
 
 impl From<VaultError> for MendFault {
+    ghost from_gives = { λ error e. e ≡ Vault error };
+
     fn from(error: VaultError) -> MendFault {
         MendFault::Vault(error)
     }

@@ -12,5 +12,5 @@ pub use compute::compute_rotten;
 pub use fault::{MendFault, ReadFault};
 pub use laws::same_units_law;
 pub use load::{Loaded, is_lost, load_units, put};
-pub use rows::find_gone;
+pub use rows::{find_gone, is_touched};
 pub use write::write_rotten;

@@ -1,5 +1,5 @@
 // The units of drives, read from a vault into memory.
-ghost use Rattle.std.specs.Prelude.{◌≡◌, ◌≢◌, ◌⊎◌, ◌+◌, ◌*◌, ◌<◌, ℕ, false, length, slice_get, slice_set, OnOk, IfOk};
+ghost use Rattle.std.specs.Prelude.{◌≡◌, ◌≢◌, ◌+◌, ◌*◌, ◌<◌, ℕ, false, length, slice_get, slice_set, OnOk, IfOk};
 ghost use Rattle.extents.specs.Sizes.{extent_units};
 ghost use Rattle.extents.specs.Units.{AreUnitsSized};
 ghost use Rattle.extents.specs.declared.mem_drive.Condition.TheVariants.{Present};
@@ -7,7 +7,7 @@ ghost use Rattle.extents.specs.declared.shape.TheConstants.{HEADER_BYTES};
 ghost use Rattle.extent_groups.specs.declared.place.Place.{Place};
 ghost use Rattle.vault.specs.Images.{Image, is_lost as is_lost_of};
 ghost use Rattle.vault.specs.Marks.{Has};
-ghost use Rattle.rotten_units.specs.Loaded.{AreFormed, AreReadOrNoted, IsReadOrNoted, KeepsForm, KeepsNoted, NotesRotten, OnlyRead, SameAttested};
+ghost use Rattle.rotten_units.specs.Loaded.{AreFormed, AreReadOrNoted, IsInside, IsReadOrNoted, KeepsForm, KeepsNoted, NotesOnly, NotesRotten, OnlyRead, SameAttested};
 
 use crate::fault::ReadFault;
 use extent_groups::Place;
@@ -48,7 +48,7 @@ pub fn put(cache: &mut MemDrive, at: u32, unit: &[u8])
 fn note(rotten: &mut Places, place: Place) -> Result<(), ReadFault>
     ensures kept { OnOk result (KeepsNoted (Has rotten.old.marks.items) (Has rotten.new.marks.items)) }
     ensures noted { OnOk result (Has rotten.new.marks.items place) }
-    ensures only { OnOk result ((x : Place) → Has rotten.new.marks.items x → Has rotten.old.marks.items x ⊎ (place ≡ x)) }
+    ensures only { OnOk result (NotesOnly (λ x. place ≡ x) (Has rotten.old.marks.items) (Has rotten.new.marks.items)) }
 {
     if rotten.put(place) {
         return Ok(());
@@ -73,6 +73,7 @@ fn read_unit<V: Vault>(
     ensures form { KeepsForm (length unit.old) cache.old cache.new }
     ensures others { (k : ℕ) → k ≢ place.address → slice_get cache.new.units k ≡ slice_get cache.old.units k }
     ensures kept { OnOk result (KeepsNoted (Has rotten.old.marks.items) (Has rotten.new.marks.items)) }
+    ensures only { OnOk result (NotesOnly (λ x. place ≡ x) (Has rotten.old.marks.items) (Has rotten.new.marks.items)) }
     ensures rotten { V.known vault.old
         → OnOk result (NotesRotten (V.attested vault.old) (Has rotten.old.marks.items) (Has rotten.new.marks.items)) }
     ensures found { V.known vault.old
@@ -108,6 +109,8 @@ fn fill<V: Vault>(
     ensures many { length cache.new.units ≡ length cache.old.units }
     ensures size { AreUnitsSized (length unit.old) cache.new.units }
     ensures kept { OnOk result (KeepsNoted (Has rotten.old.marks.items) (Has rotten.new.marks.items)) }
+    ensures inside { OnOk result (NotesOnly (λ x. (x.drive ≡ drive) × (x.address < length cache.old.units))
+        (Has rotten.old.marks.items) (Has rotten.new.marks.items)) }
     ensures rotten { V.known vault.old → OnOk result (NotesRotten (V.attested vault.old) (Has rotten.old.marks.items) (Has rotten.new.marks.items)) }
     ensures found { V.known vault.old → OnOk result ((at : ℕ) → at < length cache.new.units
         → IsReadOrNoted (Has rotten.new.marks.items) (V.attested vault.old) (Image.cells (V.seen vault.old))
@@ -138,6 +141,8 @@ fn load<V: Vault>(
     ensures many { IfOk result (λ m. length m.units ≡ shape.now.extents * extent_units shape.now.segments) }
     ensures size { IfOk result (λ m. AreUnitsSized (HEADER_BYTES + shape.now.payload) m.units) }
     ensures kept { OnOk result (KeepsNoted (Has rotten.old.marks.items) (Has rotten.new.marks.items)) }
+    ensures inside { OnOk result (NotesOnly (λ x. (x.drive ≡ drive) × (x.address < shape.now.extents * extent_units shape.now.segments))
+        (Has rotten.old.marks.items) (Has rotten.new.marks.items)) }
     ensures rotten { V.known vault.old → OnOk result (NotesRotten (V.attested vault.old) (Has rotten.old.marks.items) (Has rotten.new.marks.items)) }
     ensures found { V.known vault.old → is_lost ≡ false → IfOk result (λ m. (at : ℕ) → at < length m.units
         → IsReadOrNoted (Has rotten.new.marks.items) (V.attested vault.old) (Image.cells (V.seen vault.old)) (record { drive = drive; address = at }) m.units) }
@@ -163,6 +168,7 @@ pub fn load_units<V: Vault>(
     ensures attests { V.known vault.old → SameAttested V.attested vault.old vault.new }
     ensures many { IfOk result (λ l. length l.caches.items ≡ drives) }
     ensures formed { IfOk result (λ l. AreFormed (shape.now.extents * extent_units shape.now.segments) (HEADER_BYTES + shape.now.payload) l.caches.items) }
+    ensures inside { IfOk result (λ l. (x : Place) → Has l.rotten.marks.items x → IsInside drives (shape.now.extents * extent_units shape.now.segments) x) }
     ensures rotten { V.known vault.old → IfOk result (λ l. (x : Place) → Has l.rotten.marks.items x → V.attested vault.old x → ⊥) }
     ensures found { V.known vault.old
         → IfOk result (λ l. AreReadOrNoted (Has l.rotten.marks.items) (V.attested vault.old) lost.now (Image.cells (V.seen vault.old)) l.caches.items) }

@@ -1,10 +1,11 @@
-// Of each pair of copies, and of each row, one unit at most is rotten.
-ghost use Rattle.std.specs.Prelude.{◌≡◌, ◌/◌, ◌+◌, ℕ, List, Some, None, IfSome, IsTrue, slice_get};
+// Which slots have a rotten unit; of each pair of copies, and of each row, one unit at most is rotten.
+ghost use Rattle.std.specs.Prelude.{◌≡◌, ◌/◌, ◌%◌, ◌+◌, ◌<◌, ℕ, List, Some, None, IfSome, IsTrue, false, slice_get};
 ghost use Rattle.extent_groups.specs.declared.place.Place.{Place};
 ghost use Rattle.extent_groups.specs.declared.class.Class.TheVariants.{Mirrored, Parity};
+ghost use Rattle.extent_groups.specs.Groups.{group_at, slots_in};
 ghost use Rattle.extent_groups.specs.Stores.{IsSlotOf};
 ghost use Rattle.vault.specs.Marks.{Has};
-ghost use Rattle.rotten_units.specs.Rows.{AreNotedOnce, FirstNotesOne, IsNotedOnce};
+ghost use Rattle.rotten_units.specs.Rows.{AreNotedOnce, FirstNotesOne, IsNotedOnce, IsUntouched};
 
 use extent_groups::{Class, GROUPS, GroupTable, Place, SLOTS};
 use vault::Places;
@@ -76,4 +77,43 @@ pub fn find_gone(groups: &GroupTable, rotten: &Places) -> Option<u16>
         }
     }
     None
+}
+
+// Whether one of a mirrored slot's two copies is rotten.
+fn is_pair_touched(groups: &GroupTable, rotten: &Places, slot: u16) -> bool
+    requires { IsSlotOf Mirrored groups.now slot }
+    ensures { result ≡ false → IsUntouched (Has rotten.now.marks.items) groups.now slot }
+{
+    let (first, second) = groups.pair_of(slot);
+    rotten.has(first) || rotten.has(second)
+}
+
+// Whether one unit of a parity slot's row is rotten.
+fn is_row_touched(groups: &GroupTable, rotten: &Places, slot: u16) -> bool
+    requires { IsSlotOf Parity groups.now slot }
+    ensures { result ≡ false → IsUntouched (Has rotten.now.marks.items) groups.now slot }
+{
+    let at = groups.row_of(slot);
+    for member in 0..groups.members(slot / SLOTS).len() as u8 {
+        let place = groups.place(slot / SLOTS, member, at.offset);
+        if rotten.has(place) {
+            return true;
+        }
+    }
+    false
+}
+
+/// Whether one of a slot's copies, or of the units of its row, is rotten. False of a number that is no slot's.
+pub fn is_touched(groups: &GroupTable, rotten: &Places, slot: u16) -> bool
+    ensures slot { IsTrue result → slot % 128 < slots_in groups.now.segments (group_at groups.now (slot / 128)) }
+    ensures untouched { result ≡ false → IsUntouched (Has rotten.now.marks.items) groups.now slot }
+{
+    if slot % SLOTS >= groups.slots_of(slot / SLOTS) {
+        return false;
+    }
+    match groups.class_of(slot / SLOTS) {
+        Some(Class::Mirrored) => is_pair_touched(groups, rotten, slot),
+        Some(Class::Parity) => is_row_touched(groups, rotten, slot),
+        None => false,
+    }
 }

@@ -21,7 +21,7 @@ use unit_store::Parts;
 use vault::{Batch, MemVault, TABLE, Vault, keep};
 
 // Puts the groups of a plan into the table.
-fn form(rt: &impl Abort, alloc: Global, plan: &Plan, vault: &mut MemVault) {
+pub(crate) fn form(rt: &impl Abort, alloc: Global, plan: &Plan, vault: &mut MemVault) {
     let mut written = true;
     for index in 0..u32::from(FORM_UNITS) {
         let place = Place {
@@ -38,7 +38,7 @@ fn form(rt: &impl Abort, alloc: Global, plan: &Plan, vault: &mut MemVault) {
 }
 
 // Gives a drive units of any bytes.
-fn attach(rt: &impl Abort, alloc: Global, plan: &Plan, vault: &mut MemVault, drive: u8) {
+pub(crate) fn attach(rt: &impl Abort, alloc: Global, plan: &Plan, vault: &mut MemVault, drive: u8) {
     let Ok(rubbish) = vec![in alloc; 0xa5u8; plan.shape.unit_bytes()] else {
         panic!(rt; "no memory")
     };
@@ -49,7 +49,7 @@ fn attach(rt: &impl Abort, alloc: Global, plan: &Plan, vault: &mut MemVault, dri
 }
 
 // How many members of groups lie on a drive.
-fn load_of(groups: &GroupTable, drive: u8) -> usize {
+pub(crate) fn load_of(groups: &GroupTable, drive: u8) -> usize {
     let mut load = 0usize;
     for group in 0..GROUPS as u16 {
         for member in groups.members(group) {
@@ -61,7 +61,7 @@ fn load_of(groups: &GroupTable, drive: u8) -> usize {
     load
 }
 
-fn added(
+pub(crate) fn added(
     rt: &impl Abort,
     alloc: Global,
     plan: &Plan,
@@ -113,7 +113,7 @@ fn open_found<N: Chronicle>(
     Ok(())
 }
 
-fn resume(
+pub(crate) fn resume(
     rt: &impl Abort,
     alloc: Global,
     plan: &Plan,

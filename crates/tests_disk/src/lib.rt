@@ -16,10 +16,13 @@ mod model;
 #[cfg(test)]
 mod recovered;
 #[cfg(test)]
+mod removed;
+#[cfg(test)]
 mod replaced;
 #[cfg(test)]
 mod rig;
 #[cfg(test)]
 mod room;
+#[cfg(test)]
 #[cfg(test)]
 mod stopped;

@@ -1,3 +1,4 @@
 pub mod Whole
 pub mod Verified
+pub mod Touched
 pub mod Mending

@@ -1,20 +1,23 @@
 -- What a vault has whose rotten units were mended.
 use Rattle.std.proofs.Common.{◌≡◌, ◌<◌, ◌≤◌, ◌⊎◌, inl, inr, ℕ, zero, suc, Bool, true, false, Some, is_some, List, [], length, slice_get, replicate, refl, sym, ◌∙◌, ap, subst, arith}
-use Rattle.extents.specs.Condition.{Held}
+use Rattle.extents.specs.Condition.{Held, is_gone}
 use Rattle.extent_groups.specs.declared.place.Place.{Place}
 use Rattle.extent_groups.specs.Groups.{Groups}
-use Rattle.extent_groups.specs.Cells.{Cells, held}
+use Rattle.extent_groups.specs.Cells.{Cells, cells, held}
+use Rattle.unit_store.specs.Memory.{held_lost, held_units}
 use Rattle.vault.specs.Images.{Alike, Image, flat, is_lost}
 use Rattle.vault.specs.Moments.{IsSettled, IsWrittenTo, LeavesOnly}
 use Rattle.vault.specs.declared.store.Stop.{Stop}
 use Rattle.vault.proofs.Runs.{both_runs, goes_on, started, weaker}
 use Rattle.vault.proofs.Writes.{front_torn}
-use Rattle.rotten_units.specs.Loaded.{AreFormed, AreReadOrNoted, HaveUnits, OnlyRead}
+use Rattle.rotten_units.specs.Loaded.{AreFormed, AreReadOrNoted, HaveUnits, OnlyRead, SameAttested}
 use Rattle.rotten_units.specs.Rows.{AreNotedOnce, IsUsed}
 use Rattle.rotten_units.specs.Written.{DiffersAt, LeavesAt, WroteAt}
 use Rattle.rotten_units.proofs.Same.{there, used_same}
 use Rattle.rotten_units.proofs.Writing.{differs_more, differs_not, wrote_both}
-use Rattle.unit_repair.specs.Mended.{AreVerified, AttestsWritten, IsAtRest, IsMended, LeavesUnits}
+use Rattle.unit_repair.specs.Computed.{SameButNoted, WroteRight}
+use Rattle.unit_repair.specs.Mended.{AreVerified, AttestsUsed, AttestsWritten, IsAtRest, IsMended, LeavesUnits}
+use Rattle.unit_repair.proofs.Verified.{of_held}
 use Rattle.unit_repair.proofs.Whole.{used_inside, whole}
 
 -- no drive is lost
@@ -33,6 +36,44 @@ pub attested_one : (noted attested : Place → Type 0) (drives units size : ℕ)
 attested_one noted attested drives units size lost c caches many formed alive are x low inside out =
     let m = there caches x.drive (omega (arith, low, many)) in
     (are.each x.drive x.address m.0 m.1 (alive x.drive) (let count = formed.many x.drive m.0 m.1 in omega (arith, inside, count))).digest out
+
+-- a unit lies at each place of the drives
+pub there_one : (noted attested : Place → Type 0) (drives units size : ℕ) (lost : List Bool) (c : Cells) (caches : List Held) → length caches ≡ drives → AreFormed units size caches
+    → ((d : ℕ) → is_lost lost d ≡ false) → AreReadOrNoted noted attested lost c caches → (x : Place) → x.drive < drives → x.address < units → is_some (held c x) ≡ true
+there_one noted attested drives units size lost c caches many formed alive are x low inside =
+    let m = there caches x.drive (omega (arith, low, many)) in
+    (are.each x.drive x.address m.0 m.1 (alive x.drive) (let count = formed.many x.drive m.0 m.1 in omega (arith, inside, count))).there
+
+-- in memory all units of the groups but the noted ones are those that were written last
+pub loaded_same : (noted attested : Place → Type 0) (drives units size : ℕ) (lost : List Bool) (c : Cells) (caches : List Held) → length caches ≡ drives → AreFormed units size caches
+    → ((d : ℕ) → is_lost lost d ≡ false) → AreReadOrNoted noted attested lost c caches → (groups : Groups) (written : Cells) → AreVerified groups drives units written
+    → AttestsWritten attested drives written c → SameButNoted noted groups (cells held_units held_lost caches) written
+loaded_same noted attested drives units size lost c caches many formed alive are groups written sound attests x used out =
+    let inside = used_inside groups drives units written sound x used in
+    let m = there caches x.drive (let low = inside.0 in omega (arith, low, many)) in
+    let one = are.each x.drive x.address m.0 m.1 (alive x.drive) (let low = inside.1 in let count = formed.many x.drive m.0 m.1 in omega (arith, low, count)) in
+    of_held (slice_get caches x.drive) m.0 x.address m.1 (ap is_gone (formed.present x.drive m.0 m.1)) ∙ sym (one.found out) ∙ attests x inside.0 (one.digest out)
+
+-- what is attested of the groups is what was written last: before any write, after calls that only read, and after writes of right units
+module _ {V : Type 0} (seen : V → Image) (may_leave : V → Stop → Image → Type 0) (moment : V → ℕ) (left_since : V → Stop → ℕ → Image → Type 0) (attested : V → Place → Type 0)
+    (groups : Groups) (drives units : ℕ) (written : Cells) (sound : AreVerified groups drives units written) where
+  pub attests_first : (v : V) → AttestsWritten (attested v) drives written (seen v).cells → AttestsUsed groups (attested v) written (seen v).cells
+  attests_first v attests x used a = attests x (used_inside groups drives units written sound x used).0 a
+
+  pub attests_read : (v new : V) → OnlyRead seen may_leave moment left_since v new → SameAttested attested v new → AttestsUsed groups (attested v) written (seen v).cells
+      → AttestsUsed groups (attested new) written (seen new).cells
+  attests_read v new read same was x used a = ap (λ (s : Image). held s.cells x) read.finds ∙ was x used ((same x).0 a)
+
+  pub attests_wrote : (noted : Place → Type 0) (v0 v1 v2 : V) → OnlyRead seen may_leave moment left_since v0 v1 → SameAttested attested v0 v1
+      → WroteAt seen may_leave moment left_since noted v1 v2 → ((x : Place) → x.drive < drives → x.address < units → is_some (held (seen v0).cells x) ≡ true)
+      → AttestsWritten (attested v0) drives written (seen v0).cells → WroteRight seen attested noted groups written v1 v2 → AttestsUsed groups (attested v2) written (seen v2).cells
+  attests_wrote noted v0 v1 v2 read same wrote lies attests right x used a =
+      let inside = used_inside groups drives units written sound x used in
+      let finds : held (seen v1).cells x ≡ held (seen v0).cells x = ap (λ (s : Image). held s.cells x) read.finds in
+      elim (right x used a) [
+        | inl kept ↦ kept.1 ∙ finds ∙ attests x inside.0 ((same x).0 kept.0)
+        | inr from ↦ from.1.2 (wrote.finds.there x ∙ ap (λ o. is_some o) finds ∙ lies x inside.0 inside.1) ∙ sym from.1.1
+      ]
 
 module _ {V : Type 0} (seen : V → Image) (may_leave : V → Stop → Image → Type 0) (moment : V → ℕ) (left_since : V → Stop → ℕ → Image → Type 0) (noted rotten : Place → Type 0)
     (known : (x : Place) → noted x → rotten x) where
@@ -109,10 +150,11 @@ module _ {V : Type 0} (seen : V → Image) (may_leave : V → Stop → Image →
       }
 
       -- all units of the groups are those that were written last
-      pub is_mended : (decide : (x : Place) → noted x ⊎ (noted x → ⊥)) (attested : Place → Type 0) (groups : Groups) (drives units : ℕ) (written : Cells) → IsAtRest seen may_leave v0 → LeavesUnits seen may_leave v2
-          → AreNotedOnce noted groups → ((x : Place) → x.drive < drives → x.address < units → (noted x → ⊥) → attested x) → AreVerified groups drives units written
-          → AttestsWritten attested drives written (seen v0).cells → AreVerified groups drives units (seen v2).cells → IsMended seen may_leave groups drives units written v3
-      is_mended decide attested groups drives units written rest durable once whole_but sound attests verified = record {
+      pub is_mended : (decide : (x : Place) → noted x ⊎ (noted x → ⊥)) (attested : V → Place → Type 0) (groups : Groups) (drives units : ℕ) (written : Cells) → IsAtRest seen may_leave v0 → LeavesUnits seen may_leave v2
+          → AreNotedOnce noted groups → ((x : Place) → x.drive < drives → x.address < units → (noted x → ⊥) → attested v0 x) → AreVerified groups drives units written
+          → AttestsWritten (attested v0) drives written (seen v0).cells → AreVerified groups drives units (seen v2).cells
+          → ((x : Place) → x.drive < drives → x.address < units → attested v2 x) → SameAttested attested v2 v3 → IsMended seen may_leave attested groups drives units written v3
+      is_mended decide attested groups drives units written rest durable once whole_but sound attests verified each kept = record {
         rest = back_rest rest durable;
         verified = verified_now;
         same = used_same groups (seen v3).cells written noted decide (whole groups drives units (seen v3).cells verified_now) (whole groups drives units written sound) once
@@ -120,6 +162,7 @@ module _ {V : Type 0} (seen : V → Image) (may_leave : V → Stop → Image →
             let inside = used_inside groups drives units written sound x used in
             ap (λ (s : Image). held s.cells x) back.finds ∙ (from_first (seen v2) wrote.finds).elsewhere x out
             ∙ attests x inside.0 (whole_but x inside.0 inside.1 out));
+        each = λ x low inside. (kept x).1 (each x low inside);
       }
         where
           verified_now : AreVerified groups drives units (seen v3).cells
@@ -127,10 +170,10 @@ module _ {V : Type 0} (seen : V → Image) (may_leave : V → Stop → Image →
 
 -- nothing was written
 pub mended_none : {V : Type 0} (seen : V → Image) (may_leave : V → Stop → Image → Type 0) (moment : V → ℕ) (left_since : V → Stop → ℕ → Image → Type 0) (v0 v1 : V)
-    → OnlyRead seen may_leave moment left_since v0 v1 → (attested : Place → Type 0) (groups : Groups) (drives units : ℕ) (written : Cells) → IsAtRest seen may_leave v0
-    → ((x : Place) → x.drive < drives → x.address < units → attested x) → AreVerified groups drives units written → AttestsWritten attested drives written (seen v0).cells
-    → AreVerified groups drives units (seen v0).cells → IsMended seen may_leave groups drives units written v1
-mended_none seen may_leave moment left_since v0 v1 read attested groups drives units written rest each sound attests verified = record {
+    → OnlyRead seen may_leave moment left_since v0 v1 → (attested : V → Place → Type 0) (groups : Groups) (drives units : ℕ) (written : Cells) → IsAtRest seen may_leave v0
+    → ((x : Place) → x.drive < drives → x.address < units → attested v0 x) → SameAttested attested v0 v1 → AreVerified groups drives units written
+    → AttestsWritten (attested v0) drives written (seen v0).cells → AreVerified groups drives units (seen v0).cells → IsMended seen may_leave attested groups drives units written v1
+mended_none seen may_leave moment left_since v0 v1 read attested groups drives units written rest each kept sound attests verified = record {
   rest = record {
     empty = ap (λ (s : Image). s.journal) read.finds ∙ rest.empty;
     leaves = λ stop i now. subst (λ (s : Image). Alike i s) (sym read.finds) (rest.leaves stop i ((read.time stop).ends i now));
@@ -139,6 +182,7 @@ mended_none seen may_leave moment left_since v0 v1 read attested groups drives u
   same = λ x used.
       let inside = used_inside groups drives units written sound x used in
       ap (λ (s : Image). held s.cells x) read.finds ∙ attests x inside.0 (each x inside.0 inside.1);
+  each = λ x low inside. (kept x).1 (each x low inside);
 }
 
 -- a settled vault of which no drive is lost is at rest

@@ -5,7 +5,6 @@ use Rattle.std.proofs.lemmas.Option.{none-some, same_Some, slice_get-map, slice_
 use Rattle.extents.specs.Condition.{Held, failures_of, is_gone}
 use Rattle.extents.specs.Failures.{Failures}
 use Rattle.extents.specs.declared.mem_drive.Condition.{Condition}
-use Rattle.extents.specs.declared.mem_drive.Condition.TheVariants.{Present}
 use Rattle.extent_groups.specs.Groups.{Groups}
 use Rattle.extent_groups.specs.Cells.{Cells, cell, cells}
 use Rattle.extent_groups.specs.Calls.{KeepsDrives, NoPlace}
@@ -19,17 +18,15 @@ use Rattle.unit_store.specs.declared.parts.Parts.{Parts}
 use Rattle.unit_store.proofs.Views.{view_cells, view_drives, view_length}
 use Rattle.vault.specs.Images.{is_lost}
 use Rattle.rotten_units.specs.Loaded.{AreFormed, HaveUnits}
+use Rattle.unit_repair.specs.Computed.{Answer}
 use Rattle.unit_repair.specs.Mended.{AreVerified}
 use Rattle.rotten_units.proofs.Same.{there}
 
--- drives that answer
-abbrev pub Answer : List Held → Type 0
-Answer drives = (d : ℕ) (m : Held) → slice_get drives d ≡ Some m → m.condition ≡ Present
-
-of_held : (o : Option Held) (m : Held) (a : ℕ) → o ≡ Some m → held_lost m ≡ false → cell held_units held_lost o a ≡ slice_get m.units a
+-- the unit of a drive in memory
+pub of_held : (o : Option Held) (m : Held) (a : ℕ) → o ≡ Some m → held_lost m ≡ false → cell held_units held_lost o a ≡ slice_get m.units a
 of_held o m a e alive = ap (λ (p : Option Held). cell held_units held_lost p a) e ∙ ap (λ b. if b then None else slice_get m.units a) alive
 
--- they keep what they hold in calls that write nothing
+-- drives that answer keep what they hold in calls that write nothing
 module _ (old new : List Held) (keeps : KeepsDrives held_units held_lost held_failures NoPlace old new) (answer : Answer old) where
   same : (d a : ℕ) → cells held_units held_lost old d a ≡ cells held_units held_lost new d a
   same d a = elim (slice_get_cases old d).1 [

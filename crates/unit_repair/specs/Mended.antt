@@ -7,7 +7,7 @@ use Rattle.extent_groups.specs.Stores.{AreDrives, AreSound}
 use Rattle.unit_store.specs.Views.{DriveView, drive_lost, drive_units}
 use Rattle.vault.specs.Images.{Alike, Image}
 use Rattle.vault.specs.declared.store.Stop.{Stop}
-use Rattle.rotten_units.specs.Rows.{SameUsed}
+use Rattle.rotten_units.specs.Rows.{IsUsed, SameUsed}
 
 -- So many drives, each with this many units, lie in a vault, and all slots of the groups are sound: none is lost, copies are equal,
 -- and rows add up to zero.
@@ -27,6 +27,14 @@ pub record AreVerified (groups : Groups) (drives units : ℕ) (c : Cells) : Type
 abbrev pub AttestsWritten : (attested : Place → Type 0) (drives : ℕ) → Cells → Cells → Type 0
 AttestsWritten attested drives written now = (x : Place) → x.drive < drives → attested x → held now x ≡ held written x
 
+-- the same of each unit of the groups that is attested
+abbrev pub AttestsUsed : (groups : Groups) (attested : Place → Type 0) → Cells → Cells → Type 0
+AttestsUsed groups attested written now = (x : Place) → IsUsed groups x → attested x → held now x ≡ held written x
+
+-- the places that may be written: those of the first drives' units, each with this many, that aren't attested
+abbrev pub MayBeMended : (attested : Place → Type 0) (drives units : ℕ) → Place → Type 0
+MayBeMended attested drives units x = (x.drive < drives) × (x.address < units) × (attested x → ⊥)
+
 -- the journal is empty, and each stop leaves what calls find
 pub record IsAtRest {V : Type 0} (seen : V → Image) (may_leave : V → Stop → Image → Type 0) (vault : V) : Type 0 where
   pub empty : (seen vault).journal ≡ []
@@ -36,8 +44,10 @@ pub record IsAtRest {V : Type 0} (seen : V → Image) (may_leave : V → Stop �
 abbrev pub LeavesUnits : {V : Type 0} → (V → Image) → (V → Stop → Image → Type 0) → V → Type 0
 LeavesUnits seen may_leave vault = (stop : Stop) (i : Image) (x : Place) → may_leave vault stop i → held i.cells x ≡ held (seen vault).cells x
 
--- The units of the groups are those that were written last, of which none is lost and all slots are sound, and each stop leaves that.
-pub record IsMended {V : Type 0} (seen : V → Image) (may_leave : V → Stop → Image → Type 0) (groups : Groups) (drives units : ℕ) (written : Cells) (vault : V) : Type 0 where
+-- The units of the groups are those that were written last, of which none is lost and all slots are sound, and each stop leaves that. All units of
+-- the drives are attested.
+pub record IsMended {V : Type 0} (seen : V → Image) (may_leave : V → Stop → Image → Type 0) (attested : V → Place → Type 0) (groups : Groups) (drives units : ℕ) (written : Cells) (vault : V) : Type 0 where
   pub rest : IsAtRest seen may_leave vault
   pub verified : AreVerified groups drives units (seen vault).cells
   pub same : SameUsed groups (seen vault).cells written
+  pub each : (x : Place) → x.drive < drives → x.address < units → attested vault x

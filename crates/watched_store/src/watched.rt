@@ -25,18 +25,11 @@ impl<S: ByteStore + Drop, W: Sees<S> + Drop> Watched<S, W> {
         Watched { store, watch }
     }
 
-    /// What looks at the store.
-    pub fn watch(&self) -> &W
-        ensures { result.now ≡ self.now.watch }
+    /// The store, and what looks at it.
+    pub fn into_parts(self) -> (S, W)
+        ensures { (result.0 ≡ self.store) × (result.1 ≡ self.watch) }
     {
-        &self.watch
-    }
-
-    /// The store.
-    pub fn into_store(self) -> S
-        ensures { result ≡ self.store }
-    {
-        self.store
+        (self.store, self.watch)
     }
 }
 

@@ -1,11 +1,12 @@
-use Rattle.std.proofs.Common.{◌*◌, ◌≡◌, ◌∙◌, [], ◌∷◌, refl, sym, ap, subst}
+use Rattle.std.proofs.Common.{◌*◌, ◌≡◌, ◌≤◌, ◌∙◌, [], ◌∷◌, refl, sym, ap, subst}
 use Rattle.extents.specs.Sizes.{extent_units}
 use Rattle.slot_tables.specs.Views.{key_at}
 use Rattle.array_store.specs.Blocks.{Holds}
 use Rattle.array_store.specs.Stores.{StoreView}
 use Rattle.journaled_store.specs.Left.{HasBoth, HasKeys}
-use Rattle.journaled_store.specs.Outlasting.{Point, Works, point}
-use Rattle.array_recovery.proofs.Outlasting.{works}
+use Rattle.journaled_store.specs.Outlasting.{OutlastsSince, Point, Works, point}
+use Rattle.vault.specs.declared.store.Stop.TheVariants.{Killed}
+use Rattle.array_recovery.proofs.Outlasting.{opened_during, works}
 use Rattle.array_recovery.proofs.open.open_store.Goals as goal
 
 pub returns-in-Ok-clause-lasts : goal.returns-in-Ok-clause-lasts
@@ -55,6 +56,36 @@ returns-in-Ok-clause-both_last g c = λ known what is.
     (subst (λ p. Works HasBoth g.V.Vault.seen g.V.Vault.may_leave p (what ∷ []) (what ∷ [])) (sym same)
     (works HasBoth g.V.Vault.seen g.V.Vault.may_leave g.V.Vault.moment g.V.Vault.left_since what c.args.groups c.args.drives (c.args.shape.now.extents * extent_units c.args.shape.now.segments)
     c.args.absent.now c.args.vault is made (reported.read known) reported.long (reported.marks known) reported.same (reported.live known)))
+
+pub returns-in-Ok-clause-during : goal.returns-in-Ok-clause-during
+returns-in-Ok-clause-during g c = λ known what is.
+    let reported = c.in-Ok.ensures in
+    let s = c.new.result in
+    let changes = c.in-Ok.changes in
+    let before = c.args.vault in
+    let now = c.recover.new.vault in
+    let read = reported.read known in
+    let made : Point g.row.V.Denot = record { keeper = changes.keeper; noted = changes.noted; batch = changes.batch; failed = s.failed; tiers = c.in-Ok.store.tiers; vault = now } in
+    let same : point s ≡ made =
+    ap (λ d. record { keeper = d.keeper; noted = d.noted; batch = d.batch; failed = s.failed; tiers = s.store.tiers; vault = s.vault }) c.new.ensures.parts.1
+    ∙ ap (λ d. record { keeper = changes.keeper; noted = changes.noted; batch = changes.batch; failed = s.failed; tiers = d.tiers; vault = s.vault }) c.new.ensures.parts.0
+    ∙ ap (λ d. record { keeper = changes.keeper; noted = changes.noted; batch = changes.batch; failed = s.failed; tiers = c.in-Ok.store.tiers; vault = d }) c.new.ensures.parts.2 in
+    subst (λ (p : Point g.row.V.Denot). (g.V.Vault.moment before ≤ g.V.Vault.moment p.vault) × OutlastsSince HasBoth g.V.Vault.left_since p (g.V.Vault.moment before) (what ∷ []) (what ∷ []))
+    (sym same) (
+      (read.time Killed).later,
+      opened_during HasBoth g.V.Vault.seen g.V.Vault.may_leave g.V.Vault.moment g.V.Vault.left_since what c.args.groups c.args.drives
+          (c.args.shape.now.extents * extent_units c.args.shape.now.segments) c.args.absent.now before is g.V.Vault.known (λ v. g.met.V.Vault.counts_now v) (λ v. g.met.V.Vault.only_now v) made read reported.long
+          (reported.marks known) reported.same (reported.live known) known,
+    )
+
+pub returns-in-Ok-clause-reopened : goal.returns-in-Ok-clause-reopened
+returns-in-Ok-clause-reopened g c = λ known bytes long left.
+    let parts = c.new.ensures.parts.0 in
+    record {
+      holds = subst (λ (s : StoreView). Holds s.tiers bytes) (sym parts) (c.in-Ok.ensures.reopened known bytes long left).holds;
+      long = long ∙ sym (ap (λ (s : StoreView). s.size) parts ∙ c.in-Ok.ensures.size);
+      noted = sym c.new.ensures.flags.0;
+    }
 
 pub returns-in-Ok-clause-map : goal.returns-in-Ok-clause-map
 returns-in-Ok-clause-map g c = λ known keys left block.

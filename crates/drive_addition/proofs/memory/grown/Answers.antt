@@ -1,7 +1,8 @@
 use Rattle.std.proofs.Common.{◌≤◌, List, length, rules, sym, subst}
 use Rattle.extents.specs.Condition.{Held}
-use Rattle.drive_addition.specs.Grown.{ArePresent}
-use Rattle.drive_addition.proofs.Growing.{is_grown, keys_of}
+use Rattle.array_batch.specs.Arrays.{ArePresent}
+use Rattle.array_batch.proofs.Arrays.{keys_of}
+use Rattle.drive_addition.proofs.Growing.{is_grown}
 use Rattle.drive_addition.proofs.memory.grown.Goals as goal
 
 pub returns-clause-grown : goal.returns-clause-grown

@@ -1,10 +1,10 @@
-use Rattle.std.proofs.Common.{◌≡◌, ◌<◌, ◌∙◌, Some, length, sym, subst, arith, inl}
+use Rattle.std.proofs.Common.{◌≡◌, ◌<◌, ◌∙◌, length, refl, subst, arith}
 use Rattle.extents.specs.Units.{AreUnitsSized}
 use Rattle.extent_groups.specs.declared.place.Place.{Place}
 use Rattle.vault.specs.Images.{Image}
 use Rattle.vault.specs.Marks.{Has}
 use Rattle.rotten_units.specs.Loaded.{IsReadOrNoted}
-use Rattle.rotten_units.proofs.Loading.{at, filled_more}
+use Rattle.rotten_units.proofs.Loading.{at, filled_more, only_more}
 use Rattle.rotten_units.proofs.Reading.{notes_more, read_more, same_more}
 use Rattle.rotten_units.proofs.load.fill.Goals as goal
 
@@ -32,6 +32,10 @@ loop-address-preserved g c =
       size = subst (λ n. AreUnitsSized n c.read_unit.new.cache.units) inv.long reported.form.sized;
       long = c.read_unit.auto.unit ∙ inv.long;
       kept = λ x was. some.kept x (inv.kept x was);
+      inside =
+          (let low : c.loop-address.address < length c.args.cache.now.units = omega arith in
+          only_more (λ x. (x.drive ≡ c.args.drive) × (x.address < length c.args.cache.now.units)) (Has c.args.rotten.now.marks.items) (Has c.loop-address.rotten.marks.items)
+          (Has c.read_unit.new.rotten.marks.items) (at c.args.drive c.loop-address.address) (refl, low) inv.inside some.only);
       rotten = λ known.
           notes_more (g.V.Vault.attested c.args.vault.now) (g.V.Vault.attested c.loop-address.vault) (Has c.args.rotten.now.marks.items) (Has c.loop-address.rotten.marks.items) (Has c.read_unit.new.rotten.marks.items)
           (λ x a. (inv.attests known x).1 a) (inv.rotten known) (some.rotten (inv.stays known));

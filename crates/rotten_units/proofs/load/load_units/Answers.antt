@@ -1,4 +1,4 @@
-use Rattle.std.proofs.Common.{◌+◌, ◌*◌, ◌∷◌, ◌∙◌, [], inl, inr, List, length, length-append, sym, ap, subst}
+use Rattle.std.proofs.Common.{◌+◌, ◌*◌, ◌∷◌, ◌∙◌, [], inl, inr, List, length, length-append, sym, ap, subst, arith}
 use Rattle.extents.specs.Condition.{Held}
 use Rattle.extents.specs.Sizes.{extent_units}
 use Rattle.extents.specs.declared.shape.TheConstants.{HEADER_BYTES}
@@ -45,6 +45,10 @@ loop-drive-preserved g c =
       long = c.load.auto.unit ∙ inv.long;
       many = ap length items ∙ length-append caches (cache ∷ []) ∙ ap (λ n. n + 1) inv.many;
       formed = subst (λ (l : List Held). AreFormed count size l) (sym items) (formed_more count size caches cache inv.formed reported.present reported.many reported.size);
+      inside = λ x n. elim (reported.inside x n) [
+        | inl was ↦ (let low = (inv.inside x was).0 in omega (arith, low), (inv.inside x was).1)
+        | inr is ↦ (let last = is.0 in omega (arith, last), is.1)
+      ];
       rotten = λ known x n. elim (reported.rotten (inv.stays known) x n) [ inl was ↦ inv.rotten known x was | inr out ↦ λ a. out ((inv.attests known x).1 a) ];
       found = λ known.
           let cells = Image.cells (g.V.Vault.seen c.args.vault.now) in
@@ -57,3 +61,6 @@ loop-drive-preserved g c =
           (subst (λ (s : Image). IsReadOrNoted noted (g.V.Vault.attested c.loop-drive.vault) (Image.cells s) (at c.loop-drive.drive k) cache.units) (inv.read known).finds
           (reported.found (inv.stays known) (c.is_lost-is_lost.ensures ∙ ap (is_lost c.args.lost.now) (c.from.ensures ∙ sym inv.many) ∙ not) k low))));
     }
+
+pub returns-clause-inside : goal.returns-clause-inside
+returns-clause-inside g c = λ x n. let is = c.loop-drive.invariant.inside x n in (let low = is.0 in omega (arith, low, c.loop-drive.auto.drive-end), is.1)

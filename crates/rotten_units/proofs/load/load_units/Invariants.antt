@@ -4,7 +4,7 @@ use Rattle.extents.specs.declared.shape.TheConstants.{HEADER_BYTES}
 use Rattle.extent_groups.specs.declared.place.Place.{Place}
 use Rattle.vault.specs.Images.{Image}
 use Rattle.vault.specs.Marks.{Has}
-use Rattle.rotten_units.specs.Loaded.{AreFormed, AreReadOrNoted, OnlyRead, SameAttested}
+use Rattle.rotten_units.specs.Loaded.{AreFormed, AreReadOrNoted, IsInside, OnlyRead, SameAttested}
 use Rattle.rotten_units.proofs.load.load_units.Given as goal
 
 -- the first drives are loaded
@@ -16,6 +16,7 @@ invariant-loop-drive g l = record {
   long : length l.unit ≡ HEADER_BYTES + l.shape.payload;
   many : length l.caches.items ≡ l.drive;
   formed : AreFormed (l.shape.extents * extent_units l.shape.segments) (HEADER_BYTES + l.shape.payload) l.caches.items;
+  inside : (x : Place) → Has l.rotten.marks.items x → IsInside l.drive (l.shape.extents * extent_units l.shape.segments) x;
   rotten : g.V.Vault.known l.fn.vault → (x : Place) → Has l.rotten.marks.items x → g.V.Vault.attested l.fn.vault x → ⊥;
   found : g.V.Vault.known l.fn.vault
       → AreReadOrNoted (Has l.rotten.marks.items) (g.V.Vault.attested l.fn.vault) l.lost (Image.cells (g.V.Vault.seen l.fn.vault)) l.caches.items;

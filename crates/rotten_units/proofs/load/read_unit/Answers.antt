@@ -69,3 +69,9 @@ returns-in-Rotten-clause-found g c = λ known.
 
 pub returns-in-Absent-clause-read : goal.returns-in-Absent-clause-read
 returns-in-Absent-clause-read g c = λ known. record { finds = c.read_unit.ensures.seen known; time = c.read_unit.ensures.time known }
+
+pub returns-in-Whole-clause-only : goal.returns-in-Whole-clause-only
+returns-in-Whole-clause-only g c = λ x n. inl n
+
+pub returns-in-Rotten-clause-only : goal.returns-in-Rotten-clause-only
+returns-in-Rotten-clause-only g c = c.note.ensures.only

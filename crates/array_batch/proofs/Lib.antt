@@ -1,0 +1,3 @@
+pub mod Batching
+pub mod Arrays
+pub mod Opening

@@ -1,0 +1,2 @@
+pub mod Batched
+pub mod Arrays

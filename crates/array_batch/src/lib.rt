@@ -1,0 +1,10 @@
+//! An array that was changed in memory, as a batch of a vault: the units that differ, the groups, and the number of drives.
+#![tactic(auto)]
+
+mod batch;
+mod fault;
+mod memory;
+
+pub use batch::put_array;
+pub use fault::BatchFault;
+pub use memory::{parts_in, test_present};

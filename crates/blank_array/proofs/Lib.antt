@@ -1,0 +1,3 @@
+mod Blanks
+mod Making
+mod Created

@@ -1,0 +1,3 @@
+pub mod Shortening
+mod Carriers
+pub mod Moving

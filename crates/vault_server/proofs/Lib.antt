@@ -1,0 +1,3 @@
+mod Sessions
+mod Begun
+mod Stops
