@@ -19,8 +19,8 @@ use Rattle.array_store.specs.Blocks.{Holds}
 use Rattle.journaled_store.specs.Left.{HasBoth, HasKeys}
 use Rattle.journaled_store.specs.Outlasting.{parts_of}
 use Rattle.array_recovery.specs.Reopened.{EndsAt}
-use Rattle.array_batch.specs.Arrays.{ArePresent, HasArray, MarksNone}
-use Rattle.array_batch.specs.Batched.{HasUnits}
+use Rattle.array_batch.specs.Arrays.{AreHeldPresent, HasArray, MarksNone}
+use Rattle.array_batch.specs.Batched.{HasAllDriveUnits}
 use Rattle.array_batch.proofs.Batching.{at}
 
 -- a drive in memory, as an array shows it
@@ -75,8 +75,8 @@ form_there groups drives c table u low = elim (same_or_not u 1024) [
 
 -- drives in memory, none of which is lost, and a vault with their units
 module _ (what : Shown) (tiers : TiersView) (shows : HasBoth tiers what) (groups : Groups) (drives : List Held) (groups_are : (parts_of tiers).groups ≡ groups)
-    (drives_are : (parts_of tiers).drives ≡ map of_held drives) (few : length drives ≤ 16) (present : ArePresent drives) (units : ℕ)
-    (long : (d : ℕ) (m : Held) → slice_get drives d ≡ Some m → length m.units ≡ units) (now : Cells) (has : HasUnits drives now) (past : EndsAt [] (length drives) units now)
+    (drives_are : (parts_of tiers).drives ≡ map of_held drives) (few : length drives ≤ 16) (present : AreHeldPresent drives) (units : ℕ)
+    (long : (d : ℕ) (m : Held) → slice_get drives d ≡ Some m → length m.units ≡ units) (now : Cells) (has : HasAllDriveUnits drives now) (past : EndsAt [] (length drives) units now)
     (table : HasGroups groups (length drives) now) (unmarked : MarksNone now) where
   drive_at : (d : ℕ) (v : DriveView) → slice_get (parts_of tiers).drives d ≡ Some v → (m : Held) × (slice_get drives d ≡ Some m) × (of_held m ≡ v)
   drive_at d v is = held_at drives d v (ap (λ (ds : List DriveView). slice_get ds d) (sym drives_are) ∙ is)

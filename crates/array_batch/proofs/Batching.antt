@@ -9,7 +9,7 @@ use Rattle.extent_groups.specs.Planned.{Intended, after, over}
 use Rattle.extent_groups.proofs.Finishing.{write_here, write_else}
 use Rattle.extent_groups.proofs.Places.{same_or_not}
 use Rattle.vault.proofs.Writes.{after_both}
-use Rattle.array_batch.specs.Batched.{HasDriveUnits, KeepsDrive}
+use Rattle.array_batch.specs.Batched.{HasDriveUnits, KeepsDriveUnits}
 
 abbrev pub at : ℕ → ℕ → Place
 at d address = record { drive = d; address = address }
@@ -45,7 +45,7 @@ other_drive x d a ne e = ne (ap (λ (y : Place). y.drive) e)
 pub unit_more : (c : Cells) (d k : ℕ) (units : List (List ℕ)) (unit : List ℕ) (was batch next : List Intended) → slice_get units k ≡ Some unit
     → (held (after c batch) (at d k) ≡ held c (at d k) → held (after c next) (at d k) ≡ Some unit)
     → ((x : Place) → x ≢ at d k → held (after c next) x ≡ held (after c batch) x)
-    → ((a : ℕ) → k ≤ a → after c batch d a ≡ after c was d a) → KeepsDrive d c (after c was)
+    → ((a : ℕ) → k ≤ a → after c batch d a ≡ after c was d a) → KeepsDriveUnits d c (after c was)
     → ((a : ℕ) → a < k → after c batch d a ≡ slice_get units a) → (a : ℕ) → a < k + 1 → after c next d a ≡ slice_get units a
 unit_more c d k units unit was batch next is put others rest keeps first a low = elim (same_or_not a k) [
   | inl here ↦ subst (λ n. after c next d n ≡ slice_get units n) (sym here) (put (rest k (omega arith) ∙ keeps k) ∙ sym is)
@@ -61,7 +61,7 @@ element_is (x ∷ xs) (suc i) other m e = element_is xs i other m e
 -- one drive more
 pub drive_more : (c : Cells) (k : ℕ) (drives now : List Held) (other : Held) (batch next : List Intended)
     → ((d : ℕ) → k ≤ d → slice_get now d ≡ slice_get drives d)
-    → (KeepsDrive k c (after c batch) → HasDriveUnits k (get_or now k other).units (after c next))
+    → (KeepsDriveUnits k c (after c batch) → HasDriveUnits k (get_or now k other).units (after c next))
     → ((x : Place) → x.drive ≢ k → held (after c next) x ≡ held (after c batch) x)
     → ((x : Place) → k ≤ x.drive → held (after c batch) x ≡ held c x)
     → ((d : ℕ) (m : Held) → d < k → slice_get drives d ≡ Some m → HasDriveUnits d m.units (after c batch))

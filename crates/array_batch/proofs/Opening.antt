@@ -11,7 +11,7 @@ use Rattle.byte_store.specs.Lasting.{Shown}
 use Rattle.vault.specs.Images.{Image, Matches, SameOn, is_lost, recovered}
 use Rattle.journaled_store.specs.Left.{HasBoth, IsLeftOf, IsLostIn}
 use Rattle.journaled_store.specs.Outlasting.{OpensAs, OpensBut, parts_of}
-use Rattle.journaled_store.specs.Steps.{IsPersisted, mark_of}
+use Rattle.journaled_store.specs.Steps.{IsPersisted, loss_mark}
 use Rattle.journaled_store.proofs.Opening.{alone, opens_as, opens_on}
 use Rattle.journaled_store.proofs.Settled.{groups_on}
 use Rattle.array_recovery.specs.Found.{IsTable, is_marked}
@@ -55,7 +55,7 @@ module _ {X : Type 0} (shows : TiersView → X → Type 0) (x : X) (what : Shown
     has = record { each = λ d a v there not. is.units d a v there };
     marks = is.unmarked.marks;
     noted = is.unmarked.table;
-    reported = record { each = λ d v there. is.unmarked.clear d (low16 d (below d v there)) ∙ ap (λ b. Some (mark_of b)) (sym (is.alive d v there)) };
+    reported = record { each = λ d v there. is.unmarked.clear d (low16 d (below d v there)) ∙ ap (λ b. Some (loss_mark b)) (sym (is.alive d v there)) };
   }
 
   opens_but : (lost : List Bool) → ((d : ℕ) → d < drives → is_lost lost d ≡ false) → OpensBut shows lost (x ∷ []) groups drives c

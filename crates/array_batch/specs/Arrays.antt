@@ -47,5 +47,5 @@ abbrev pub held_view : Parts Held → PartsView
 held_view parts = view_of held_units held_lost held_failures parts
 
 -- no drive is lost
-abbrev pub ArePresent : List Held → Type 0
-ArePresent drives = (d : ℕ) (m : Held) → slice_get drives d ≡ Some m → held_lost m ≡ false
+abbrev pub AreHeldPresent : List Held → Type 0
+AreHeldPresent drives = (d : ℕ) (m : Held) → slice_get drives d ≡ Some m → held_lost m ≡ false

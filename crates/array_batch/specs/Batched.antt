@@ -8,9 +8,9 @@ abbrev pub HasDriveUnits : ℕ → List (List ℕ) → Cells → Type 0
 HasDriveUnits d units c = (at : ℕ) → at < length units → c d at ≡ slice_get units at
 
 -- the same units at a drive's addresses
-abbrev pub KeepsDrive : ℕ → Cells → Cells → Type 0
-KeepsDrive d c e = (at : ℕ) → e d at ≡ c d at
+abbrev pub KeepsDriveUnits : ℕ → Cells → Cells → Type 0
+KeepsDriveUnits d c e = (at : ℕ) → e d at ≡ c d at
 
 -- the units of each drive lie at its addresses
-abbrev pub HasUnits : List Held → Cells → Type 0
-HasUnits drives c = (d : ℕ) (m : Held) → slice_get drives d ≡ Some m → HasDriveUnits d m.units c
+abbrev pub HasAllDriveUnits : List Held → Cells → Type 0
+HasAllDriveUnits drives c = (d : ℕ) (m : Held) → slice_get drives d ≡ Some m → HasDriveUnits d m.units c

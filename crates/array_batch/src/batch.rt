@@ -7,7 +7,7 @@ ghost use Rattle.extent_groups.specs.Planned.{after};
 ghost use Rattle.group_form.specs.Form.{HasFormPlaces, HasGroups};
 ghost use Rattle.vault.specs.Images.{Image};
 ghost use Rattle.rotten_units.specs.Loaded.{OnlyRead};
-ghost use Rattle.array_batch.specs.Batched.{HasDriveUnits, HasUnits, KeepsDrive};
+ghost use Rattle.array_batch.specs.Batched.{HasDriveUnits, HasAllDriveUnits, KeepsDriveUnits};
 
 use crate::fault::BatchFault;
 use extent_groups::{GroupTable, Place};
@@ -71,7 +71,7 @@ fn put_drive<V: Vault>(
 ) -> Result<(), BatchFault>
     ensures stays { V.known vault.old → V.known vault.new }
     ensures read { V.known vault.old → OnlyRead V.seen V.may_leave V.moment V.left_since vault.old vault.new }
-    ensures put { V.known vault.old → KeepsDrive number (Image.cells (V.seen vault.old)) (after (Image.cells (V.seen vault.old)) batch.old)
+    ensures put { V.known vault.old → KeepsDriveUnits number (Image.cells (V.seen vault.old)) (after (Image.cells (V.seen vault.old)) batch.old)
         → OnOk result (HasDriveUnits number drive.old.units (after (Image.cells (V.seen vault.old)) batch.new)) }
     ensures others { (c : Cells) (x : Place) → x.drive ≢ number → held (after c batch.new) x ≡ held (after c batch.old) x }
 {
@@ -104,7 +104,7 @@ fn put_drives<V: Vault>(
     requires empty { batch.old ≡ [] }
     ensures stays { V.known vault.old → V.known vault.new }
     ensures read { V.known vault.old → OnlyRead V.seen V.may_leave V.moment V.left_since vault.old vault.new }
-    ensures put { V.known vault.old → OnOk result (HasUnits drives.old (after (Image.cells (V.seen vault.old)) batch.new)) }
+    ensures put { V.known vault.old → OnOk result (HasAllDriveUnits drives.old (after (Image.cells (V.seen vault.old)) batch.new)) }
     ensures others { (c : Cells) (x : Place) → length drives.old ≤ x.drive → held (after c batch.new) x ≡ held c x }
 {
     for number in 0..drives.len() {
@@ -125,7 +125,7 @@ pub fn put_array<V: Vault>(
     requires few { length drives.old ≤ 16 }
     ensures stays { V.known vault.old → V.known vault.new }
     ensures read { V.known vault.old → OnlyRead V.seen V.may_leave V.moment V.left_since vault.old vault.new }
-    ensures units { V.known vault.old → OnOk result (HasUnits drives.old (after (Image.cells (V.seen vault.old)) batch.new)) }
+    ensures units { V.known vault.old → OnOk result (HasAllDriveUnits drives.old (after (Image.cells (V.seen vault.old)) batch.new)) }
     ensures groups { OnOk result ((c : Cells) → HasFormPlaces c → HasGroups groups.now (length drives.old) (after c batch.new)) }
     ensures marks { OnOk result ((c : Cells) → after c batch.new 16 0 ≡ c 16 0) }
 {

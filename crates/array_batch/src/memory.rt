@@ -3,7 +3,7 @@ ghost use Rattle.std.specs.Prelude.{◌≡◌, ◌≤◌, length, IfOk, OnOk};
 ghost use Rattle.unit_store.specs.Fit.{IsFit};
 ghost use Rattle.unit_store.specs.Memory.{held_units};
 ghost use Rattle.journaled_store.specs.Outlasting.{parts_of};
-ghost use Rattle.array_batch.specs.Arrays.{ArePresent, held_view};
+ghost use Rattle.array_batch.specs.Arrays.{AreHeldPresent, held_view};
 
 use crate::fault::BatchFault;
 use extents::{Drive, MemDrive};
@@ -25,7 +25,7 @@ pub fn parts_in(alloc: Global, tiers: Tiers<MemDrive>) -> Result<Parts<MemDrive>
 /// Tests that no drive is lost.
 pub fn test_present(drives: &[MemDrive]) -> Result<(), BatchFault>
     requires { length drives.now ≤ 16 }
-    ensures { OnOk result (ArePresent drives.now) }
+    ensures { OnOk result (AreHeldPresent drives.now) }
 {
     for number in 0..drives.len() {
         if drives[number].is_lost() {

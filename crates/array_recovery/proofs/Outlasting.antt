@@ -15,7 +15,7 @@ use Rattle.vault.specs.declared.store.Stop.{Stop}
 use Rattle.vault.specs.declared.store.Stop.TheVariants.{Killed, PowerLost}
 use Rattle.journaled_store.specs.Outlasting.{OpensBut, OutlastsSince, Point, Works, allowed, parts_of}
 use Rattle.group_form.specs.Form.{HasGroups}
-use Rattle.journaled_store.specs.Steps.{IsUpToDate, mark_of}
+use Rattle.journaled_store.specs.Steps.{IsUpToDate, loss_mark}
 use Rattle.journaled_store.proofs.Lasting.{begun}
 use Rattle.journaled_store.proofs.Opening.{alone}
 use Rattle.array_recovery.specs.Found.{IsTable, OnlyRead, is_marked}
@@ -29,7 +29,7 @@ marked_is [] d = refl
 marked_is (m ∷ ms) zero = refl
 marked_is (m ∷ ms) (suc d) = marked_is ms d
 
-mark_says : (lost : Bool) → not (mark_of lost == 0) ≡ lost
+mark_says : (lost : Bool) → not (loss_mark lost == 0) ≡ lost
 mark_says true = refl
 mark_says false = refl
 
@@ -59,7 +59,7 @@ module _ {V X : Type 0} (shows : TiersView → X → Type 0) (seen : V → Image
 
   -- a drive of the old array was lost if it is marked
   mark_was : (d : ℕ) (v : DriveView) → slice_get olds d ≡ Some v → is_lost were_lost d ≡ v.lost
-  mark_was d v e = marked_is marks_were d ∙ ap (λ mark. not (mark == 0)) (index_is marks_were d (mark_of v.lost) (is.left.kept.reported.each d v e)) ∙ mark_says v.lost
+  mark_was d v e = marked_is marks_were d ∙ ap (λ mark. not (mark == 0)) (index_is marks_were d (loss_mark v.lost) (is.left.kept.reported.each d v e)) ∙ mark_says v.lost
 
   -- the vault has the units of one without a mark
   sure : (d : ℕ) (v : DriveView) → slice_get olds d ≡ Some v → is_lost were_lost d ≡ false → is_lost is.left.lost d ≡ false

@@ -14,7 +14,7 @@ use Rattle.history.specs.Entries.{Course}
 use Rattle.unit_store.specs.Views.{DriveView, PartsView, drive_units, drive_lost, drive_view, drive_cells}
 use Rattle.vault.specs.Images.{is_lost}
 use Rattle.cached_drive.specs.Saving.{Units, saved_by}
-use Rattle.journaled_store.specs.Steps.{IsUpToDate, mark_of}
+use Rattle.journaled_store.specs.Steps.{IsUpToDate, loss_mark}
 use Rattle.array_recovery.specs.Found.{AreFormed, AreGone, AreSeated, HaveUnits, IsTable, is_marked}
 use Rattle.array_recovery.proofs.Marking.{index_is}
 use Rattle.byte_store.specs.Lasting.{Shown}
@@ -38,7 +38,7 @@ bool_cases true = inl refl
 bool_cases false = inr refl
 
 -- a drive without a mark wasn't lost
-unmarked : (marks : List ℕ) (d : ℕ) (lost : Bool) → slice_get marks d ≡ Some (mark_of lost) → is_marked marks d ≡ false → lost ≡ false
+unmarked : (marks : List ℕ) (d : ℕ) (lost : Bool) → slice_get marks d ≡ Some (loss_mark lost) → is_marked marks d ≡ false → lost ≡ false
 unmarked marks d false e is = refl
 unmarked marks d true e is = absurd (true≢false (sym (ap (λ n. not (n == 0)) (index_is marks d 1 e)) ∙ is))
 
@@ -69,7 +69,7 @@ module _ {D : Type 0} (units : D → Units) (gone : D → Bool) (failures : D �
         same = same_Some _ _ (sym table ∙ is.kept.noted)
 
         alive : v.lost ≡ false
-        alive = unmarked marks d v.lost (subst (λ (l : List ℕ). slice_get l d ≡ Some (mark_of v.lost)) (sym same) (is.kept.reported.each d v e)) both.0
+        alive = unmarked marks d v.lost (subst (λ (l : List ℕ). slice_get l d ≡ Some (loss_mark v.lost)) (sym same) (is.kept.reported.each d v e)) both.0
 
         not_in : IsLostIn olds d → ⊥
         not_in was = true≢false (sym was.2 ∙ ap (λ (w : DriveView). w.lost) (same_Some _ _ (sym was.1 ∙ e)) ∙ alive)

@@ -40,7 +40,7 @@ use Rattle.tiered_array.proofs.Words.{full}
 use Rattle.array_store.specs.Blocks.{Holds}
 use Rattle.vault.specs.Images.{is_lost}
 use Rattle.journaled_store.specs.Left.{HasBoth, IsLeftOf, IsLostIn}
-use Rattle.journaled_store.specs.Steps.{mark_of}
+use Rattle.journaled_store.specs.Steps.{loss_mark}
 use Rattle.blank_array.specs.Blank.{CanBeMade, IsBlankArray, unit_count, zeros_shown}
 
 -- each of several copies is the same
@@ -263,12 +263,12 @@ module _ (groups : Groups) (drives : ℕ) (can : CanBeMade groups drives) where
           low : d < drives
           low = let within = slice_get_within (replicate drives drive) d v e in let many = length-replicate drives drive in omega (arith, within, many)
 
-      marked : (d : ℕ) (v : DriveView) → slice_get (replicate drives drive) d ≡ Some v → slice_get (replicate 16 0) d ≡ Some (mark_of v.lost)
+      marked : (d : ℕ) (v : DriveView) → slice_get (replicate drives drive) d ≡ Some v → slice_get (replicate 16 0) d ≡ Some (loss_mark v.lost)
       marked d v e =
           let within = slice_get_within (replicate drives drive) d v e in
           let many = length-replicate drives drive in
           let most = can.most in
-          copy_there 16 0 d (omega (arith, within, many, most)) ∙ ap (λ (w : DriveView). Some (mark_of w.lost)) (sym (of_copies drives drive d v e))
+          copy_there 16 0 d (omega (arith, within, many, most)) ∙ ap (λ (w : DriveView). Some (loss_mark w.lost)) (sym (of_copies drives drive d v e))
 
       pub blank_left : (size : ℕ) → IsLeftOf HasBoth (zeros_shown size) groups drives absent c
       blank_left size = record {

@@ -12,20 +12,20 @@ use Rattle.vault.specs.Images.{Image, SameOn, is_lost, recovered}
 use Rattle.vault.specs.declared.store.Stop.{Stop}
 use Rattle.journaled_store.specs.Left.{HasBoth, IsLeftOf}
 use Rattle.journaled_store.specs.Outlasting.{OpensAs, parts_of}
-use Rattle.journaled_store.specs.Steps.{mark_of}
+use Rattle.journaled_store.specs.Steps.{loss_mark}
 use Rattle.journaled_store.proofs.Settled.{groups_on}
 use Rattle.array_recovery.specs.Reopened.{EndsAt, marked}
 use Rattle.array_recovery.proofs.Reopening.{bool_cases}
-use Rattle.drive_rebuild.specs.Rebuilt.{AreMarked, CanBeRebuilt}
+use Rattle.drive_rebuild.specs.Rebuilt.{AreMarkedLost, CanBeRebuilt}
 use Rattle.drive_rebuild.proofs.Rebuilding.{before_opens}
 use Rattle.drive_rebuild.proofs.Underway.{logged_less, now_matches}
 use Rattle.array_batch.specs.Arrays.{HasArray, MarksNone}
 use Rattle.array_batch.proofs.Batching.{at}
 use Rattle.array_batch.proofs.Opening.{array_on, left_now, none_marked, opens_array, opens_same}
-use Rattle.drive_addition.specs.Added.{CanGrow, IsAdded, IsAddedIn, IsBeforeOrAdded, IsWholeOn, OpensEither}
+use Rattle.drive_addition.specs.Added.{CanGrow, IsAdded, IsAddedIn, IsBeforeOrAdded, IsWholeOn, OpensBeforeOrWith}
 
 -- a drive whose mark is 0
-unlost : (b : Bool) → mark_of b ≡ 0 → b ≡ false
+unlost : (b : Bool) → loss_mark b ≡ 0 → b ≡ false
 unlost false e = refl
 unlost true e = absurd (omega (arith, e))
 
@@ -106,7 +106,7 @@ module _ {X : Type 0} (shows : TiersView → X → Type 0) (x : X) (what : Shown
 
 -- what a stop leaves, by the array of before
 pub opens_either : {X : Type 0} (shows : TiersView → X → Type 0) (x : X) (what : Shown) → ((t : TiersView) → HasBoth t what → shows t x) → (shape : Shape) (groups : Groups) (drives units : ℕ) (before : Cells)
-    → IsLeftOf shows x groups drives [] before → (lost : List Bool) → AreMarked drives lost before → (i : Image) → IsBeforeOrAdded lost before what shape groups drives units i → OpensEither shows x shape groups drives i
+    → IsLeftOf shows x groups drives [] before → (lost : List Bool) → AreMarkedLost drives lost before → (i : Image) → IsBeforeOrAdded lost before what shape groups drives units i → OpensBeforeOrWith shows x shape groups drives i
 opens_either shows x what give shape groups drives units before left lost lost_are i (inl was) = inl (before_opens shows x groups drives before left lost lost_are i was)
 opens_either shows x what give shape groups drives units before left lost lost_are i (inr is) =
     inr (is.groups, is.are, opens_added shows x what give shape groups (drives + 1) units (recovered i) is)

@@ -21,18 +21,18 @@ use Rattle.array_store.specs.Blocks.{Holds, SpansBlocks}
 use Rattle.journaled_store.specs.Left.{HasBoth}
 use Rattle.journaled_store.specs.Outlasting.{parts_of}
 use Rattle.array_recovery.specs.Reopened.{LosesMore}
-use Rattle.array_growth.specs.Growth.{IsGrown, SameShapes}
-use Rattle.array_growth.proofs.Kept.{one_more_drive, payload_kept, writes_kept}
+use Rattle.array_expansion.specs.Expansion.{IsExpanded, SameShapes}
+use Rattle.array_expansion.proofs.Kept.{one_more_drive, payload_kept, writes_kept}
 use Rattle.drive_rebuild.proofs.Shown.{there}
-use Rattle.array_batch.specs.Arrays.{ArePresent, held_view}
+use Rattle.array_batch.specs.Arrays.{AreHeldPresent, held_view}
 use Rattle.array_batch.proofs.Arrays.{of_held, shown_at}
 use Rattle.drive_addition.specs.Grown.{IsGrownTo}
 
 -- the array of before in memory, and the one that it grew to
 module _ (what : Shown) (before : Parts Held) (fit : IsFit held_units before) (old new : TiersView) (holds : Holds old what.bytes)
     (map_was : IsSame (key_at old.world.array) (slice_index what.keys)) (loses : LosesMore (held_view before) (parts_of old))
-    (U : Tiered) (matches : RepresentsTiers new U) (grown : IsGrown holds.state.flat U.flat) (even : IsBalanceOf U.flat None)
-    (map_is : IsSame (key_at new.world.array) (key_at old.world.array)) (after : Parts Held) (parts_are : held_view after ≡ parts_of new) (present : ArePresent after.drives.items) where
+    (U : Tiered) (matches : RepresentsTiers new U) (grown : IsExpanded holds.state.flat U.flat) (even : IsBalanceOf U.flat None)
+    (map_is : IsSame (key_at new.world.array) (key_at old.world.array)) (after : Parts Held) (parts_are : held_view after ≡ parts_of new) (present : AreHeldPresent after.drives.items) where
   abbrev F : Flat
   F = holds.state.flat
 

@@ -21,8 +21,8 @@ use Rattle.journaled_store.specs.Outlasting.{parts_of}
 use Rattle.array_recovery.specs.Found.{AreFormed, HaveUnits}
 use Rattle.array_recovery.specs.Reopened.{EndsAt, Outlives}
 use Rattle.drive_rebuild.proofs.Shown.{of_view, there}
-use Rattle.array_batch.specs.Arrays.{ArePresent, HasArray, held_view}
-use Rattle.array_batch.specs.Batched.{HasUnits}
+use Rattle.array_batch.specs.Arrays.{AreHeldPresent, HasArray, held_view}
+use Rattle.array_batch.specs.Batched.{HasAllDriveUnits}
 use Rattle.array_batch.proofs.Arrays.{array_put, ends_after, form_there, of_held, shown_at}
 use Rattle.drive_addition.specs.Added.{IsAddedIn}
 use Rattle.drive_addition.specs.Grown.{IsGrownTo}
@@ -61,8 +61,8 @@ module _ (what : Shown) (groups : Groups) (drives : ℕ) (c : Cells) (array : Ha
 
   -- the array in memory on one drive more, and a batch with its units and its groups
   module _ (shape : Shape) (ends : EndsAt [] (drives + 1) (shape.extents * extent_units shape.segments) c)
-      (parts : Parts Held) (grown : IsGrownTo what shape groups (drives + 1) parts) (fit : IsFit held_units parts) (present : ArePresent parts.drives.items)
-      (writes : List Intended) (has : HasUnits parts.drives.items (after c writes)) (spelled : (e : Cells) → HasFormPlaces e → HasGroups parts.groups (length parts.drives.items) (after e writes))
+      (parts : Parts Held) (grown : IsGrownTo what shape groups (drives + 1) parts) (fit : IsFit held_units parts) (present : AreHeldPresent parts.drives.items)
+      (writes : List Intended) (has : HasAllDriveUnits parts.drives.items (after c writes)) (spelled : (e : Cells) → HasFormPlaces e → HasGroups parts.groups (length parts.drives.items) (after e writes))
       (marks : (e : Cells) → after e writes 16 0 ≡ e 16 0) where
     abbrev now : Cells
     now = after c writes

@@ -12,9 +12,9 @@ use Rattle.vault.specs.Moments.{AreLogged}
 use Rattle.vault.specs.declared.store.Stop.{Stop}
 use Rattle.journaled_store.specs.Left.{HasBoth, IsLeftOf}
 use Rattle.journaled_store.specs.Outlasting.{OpensAs}
-use Rattle.array_growth.specs.Growth.{SameShapes}
+use Rattle.array_expansion.specs.Expansion.{SameShapes}
 use Rattle.array_recovery.specs.Reopened.{EndsAt}
-use Rattle.drive_rebuild.specs.Rebuilt.{AreMarked, IsWhole}
+use Rattle.drive_rebuild.specs.Rebuilt.{AreMarkedLost, HasAllDrives}
 use Rattle.array_batch.specs.Arrays.{HasArray, HaveSizes}
 
 -- The groups' extents are spread over so many drives, none of which is lost: the plan that balances their loads moves none.
@@ -53,14 +53,14 @@ IsBeforeOrAdded lost before what shape old drives units i = Matches lost before 
 pub record CanGrow {V : Type 0} (seen : V → Image) (may_leave : V → Stop → Image → Type 0) (what : Shown) (groups : Groups) (drives units : ℕ) (lost : List Bool) (vault : V) : Type 0 where
   pub left : IsLeftOf HasBoth what groups drives [] (recovered (seen vault))
   pub ends : EndsAt [] (drives + 1) units (recovered (seen vault))
-  pub lost_are : AreMarked drives lost (recovered (seen vault))
+  pub lost_are : AreMarkedLost drives lost (recovered (seen vault))
   pub logged : AreLogged seen may_leave lost vault
 
 -- a vault from which an array on so many drives is opened that shows this, over all of which its extents are spread
 abbrev pub IsWholeOn : {V X : Type 0} → (TiersView → X → Type 0) → (V → Image) → (V → Stop → Image → Type 0) → X → Shape → Groups → (drives units : ℕ) → V → Type 0
-IsWholeOn shows seen may_leave what shape old drives units vault = (g : Groups) × AreGroupsFor shape old drives g × IsWhole shows seen may_leave what g drives units vault
+IsWholeOn shows seen may_leave what shape old drives units vault = (g : Groups) × AreGroupsFor shape old drives g × HasAllDrives shows seen may_leave what g drives units vault
 
 -- what a stop leaves while a drive is added: an array that shows this is opened, the one of before or that with the drive
-abbrev pub OpensEither : {X : Type 0} → (TiersView → X → Type 0) → X → Shape → Groups → ℕ → Image → Type 0
-OpensEither shows what shape groups drives i = OpensAs shows (what ∷ []) groups drives (recovered i)
+abbrev pub OpensBeforeOrWith : {X : Type 0} → (TiersView → X → Type 0) → X → Shape → Groups → ℕ → Image → Type 0
+OpensBeforeOrWith shows what shape groups drives i = OpensAs shows (what ∷ []) groups drives (recovered i)
     ⊎ ((g : Groups) × AreGroupsFor shape groups (drives + 1) g × OpensAs shows (what ∷ []) g (drives + 1) (recovered i))

@@ -9,7 +9,7 @@ ghost use Rattle.array_store.specs.Blocks.{Holds};
 ghost use Rattle.journaled_store.specs.Left.{HasBoth, HasKeys};
 ghost use Rattle.array_recovery.specs.Reopened.{EndsAt};
 ghost use Rattle.drive_rebuild.specs.Rebuilt.{CanBeRebuilt};
-ghost use Rattle.drive_addition.specs.Added.{CanGrow, IsAdded, IsBeforeOrAdded, IsWholeOn, OpensEither};
+ghost use Rattle.drive_addition.specs.Added.{CanGrow, IsAdded, IsBeforeOrAdded, IsWholeOn, OpensBeforeOrWith};
 
 use crate::fault::AdditionFault;
 use crate::plan::plan;
@@ -80,15 +80,15 @@ pub fn add_drive<V: Vault>(
     ensures any_moment { V.known vault.old → (bytes : List ℕ)
         → CanBeRebuilt Holds V.seen V.may_leave bytes groups drives (shape.now.extents * extent_units shape.now.segments) vault.old
         → EndsAt [] (drives + 1) (shape.now.extents * extent_units shape.now.segments) (recovered (V.seen vault.old))
-        → (stop : Stop) → LeavesOnly V.moment V.left_since stop vault.old vault.new (OpensEither Holds bytes shape.now groups drives) }
+        → (stop : Stop) → LeavesOnly V.moment V.left_since stop vault.old vault.new (OpensBeforeOrWith Holds bytes shape.now groups drives) }
     ensures map_any_moment { V.known vault.old → (keys : List ℕ)
         → CanBeRebuilt HasKeys V.seen V.may_leave keys groups drives (shape.now.extents * extent_units shape.now.segments) vault.old
         → EndsAt [] (drives + 1) (shape.now.extents * extent_units shape.now.segments) (recovered (V.seen vault.old))
-        → (stop : Stop) → LeavesOnly V.moment V.left_since stop vault.old vault.new (OpensEither HasKeys keys shape.now groups drives) }
+        → (stop : Stop) → LeavesOnly V.moment V.left_since stop vault.old vault.new (OpensBeforeOrWith HasKeys keys shape.now groups drives) }
     ensures both_any_moment { V.known vault.old → (what : Shown)
         → CanBeRebuilt HasBoth V.seen V.may_leave what groups drives (shape.now.extents * extent_units shape.now.segments) vault.old
         → EndsAt [] (drives + 1) (shape.now.extents * extent_units shape.now.segments) (recovered (V.seen vault.old))
-        → (stop : Stop) → LeavesOnly V.moment V.left_since stop vault.old vault.new (OpensEither HasBoth what shape.now groups drives) }
+        → (stop : Stop) → LeavesOnly V.moment V.left_since stop vault.old vault.new (OpensBeforeOrWith HasBoth what shape.now groups drives) }
 {
     add_units(alloc, vault, shape, groups, extents, drives)
 }

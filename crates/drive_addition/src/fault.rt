@@ -1,6 +1,6 @@
 // Why no drive is added.
 use array_batch::BatchFault;
-use array_growth::GrowthFault;
+use array_expansion::ExpansionFault;
 use array_recovery::RecoveryFault;
 use step_core::Refusal;
 use vault::VaultError;
@@ -36,12 +36,12 @@ impl From<RecoveryFault> for AdditionFault {
     }
 }
 
-impl From<GrowthFault> for AdditionFault {
-    fn from(fault: GrowthFault) -> AdditionFault {
+impl From<ExpansionFault> for AdditionFault {
+    fn from(fault: ExpansionFault) -> AdditionFault {
         match fault {
-            GrowthFault::Memory => AdditionFault::Memory,
-            GrowthFault::Full => AdditionFault::Full,
-            GrowthFault::Refused(refusal) => AdditionFault::Refused(refusal),
+            ExpansionFault::Memory => AdditionFault::Memory,
+            ExpansionFault::Full => AdditionFault::Full,
+            ExpansionFault::Refused(refusal) => AdditionFault::Refused(refusal),
         }
     }
 }

@@ -7,12 +7,12 @@ ghost use Rattle.unit_store.specs.Memory.{held_units};
 ghost use Rattle.journaled_store.specs.Left.{HasBoth};
 ghost use Rattle.journaled_store.specs.Outlasting.{parts_of};
 ghost use Rattle.array_recovery.specs.Reopened.{Outlives};
-ghost use Rattle.array_batch.specs.Arrays.{ArePresent, held_view};
+ghost use Rattle.array_batch.specs.Arrays.{AreHeldPresent, held_view};
 ghost use Rattle.drive_addition.specs.Grown.{IsGrownTo};
 
 use crate::fault::AdditionFault;
 use array_batch::{parts_in, test_present};
-use array_growth::grow;
+use array_expansion::expand;
 use array_recovery::tiers_of;
 use extents::MemDrive;
 use std::alloc::Global;
@@ -24,13 +24,13 @@ pub(crate) fn grown(alloc: Global, parts: Parts<MemDrive>) -> Result<Parts<MemDr
     ensures grown { IfOk result (λ p. (was : TiersView) (what : Shown) → HasBoth was what → Outlives (parts_of was) (held_view parts)
         → IsGrownTo what parts.shape parts.groups (length parts.drives.items + 1) p) }
     ensures fit { IfOk result (λ p. IsFit held_units p) }
-    ensures present { IfOk result (λ p. ArePresent p.drives.items) }
+    ensures present { IfOk result (λ p. AreHeldPresent p.drives.items) }
 {
     if !parts.is_fit() {
         return Err(AdditionFault::Misfit);
     }
     let mut tiers = tiers_of(alloc, parts)?;
-    grow(alloc, &mut tiers)?;
+    expand(alloc, &mut tiers)?;
     let parts = parts_in(alloc, tiers)?;
     test_present(&parts.drives)?;
     Ok(parts)

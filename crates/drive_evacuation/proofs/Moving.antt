@@ -16,9 +16,9 @@ use Rattle.tiered_array.specs.Views.{TiersView}
 use Rattle.tiered_array.specs.declared.regrouped.Regrouped.{Regrouped}
 use Rattle.tiered_array.specs.declared.regrouped.Regrouped.TheVariants.{Moved, Nothing}
 use Rattle.tiered_array.specs.declared.regrouped.Regrouped.TheVariants as regrouped
-use Rattle.array_growth.specs.Growth.{IsSpread}
-use Rattle.array_growth.proofs.Spreading.{moved_spread, spread_itself, spread_more}
-use Rattle.drive_evacuation.specs.Evacuation.{AreClearOf, IsStuck, NotEvacuated}
+use Rattle.array_expansion.specs.Expansion.{IsSpread}
+use Rattle.array_expansion.proofs.Spreading.{moved_spread, spread_itself, spread_more}
+use Rattle.drive_evacuation.specs.Evacuation.{AreClearOf, IsEvacuationStuck, NotEvacuated}
 use Rattle.drive_evacuation.specs.declared.fault.EvacuationFault.{EvacuationFault}
 use Rattle.drive_evacuation.specs.declared.fault.EvacuationFault.TheVariants.{Memory, Present, Stuck, Refused}
 use Rattle.drive_evacuation.proofs.Carriers.{carriers, most_carriers, one_fewer}

@@ -7,7 +7,7 @@ use Rattle.unit_store.specs.Views.{PartsView, failed_of}
 use Rattle.tiered_array.specs.Regrouping.{IsRebuildOf, RebuildCase}
 use Rattle.tiered_array.specs.Views.{TiersView}
 use Rattle.tiered_array.specs.declared.regrouped.Regrouped.TheVariants as regrouped
-use Rattle.array_growth.specs.Growth.{IsSpread}
+use Rattle.array_expansion.specs.Expansion.{IsSpread}
 use Rattle.drive_evacuation.specs.declared.fault.EvacuationFault.{EvacuationFault}
 use Rattle.drive_evacuation.specs.declared.fault.EvacuationFault.TheVariants.{Memory, Present, Stuck, Refused}
 
@@ -16,7 +16,7 @@ abbrev pub AreClearOf : Groups → ℕ → Type 0
 AreClearOf groups drive = (g : ℕ) → HasMemberOn groups g drive → ⊥
 
 -- a group has a member on the drive, and the plan that rebuilds what lay there finds nothing to move
-pub record IsStuck (F : Flat) (drive : ℕ) : Type 0 where
+pub record IsEvacuationStuck (F : Flat) (drive : ℕ) : Type 0 where
   pub group : ℕ
   pub on : HasMemberOn F.groups group drive
   pub plan : IsRebuildOf F drive None
@@ -26,7 +26,7 @@ pub record IsStuck (F : Flat) (drive : ℕ) : Type 0 where
 abbrev pub NotEvacuated : Flat → ℕ → EvacuationFault → Flat → Type 0
 NotEvacuated F drive Memory G = IsSpread F G
 NotEvacuated F drive Present G = (F.lost drive ≡ false) × (G ≡ F)
-NotEvacuated F drive Stuck G = IsSpread F G × IsStuck G drive
+NotEvacuated F drive Stuck G = IsSpread F G × IsEvacuationStuck G drive
 NotEvacuated F drive (Refused r) G = (M : Flat) × IsSpread F M × RebuildCase M drive (regrouped.Refused r) G
 
 -- an array with other parts

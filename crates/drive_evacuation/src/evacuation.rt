@@ -9,7 +9,7 @@ ghost use Rattle.unit_store.specs.Views.{lost_of};
 ghost use Rattle.tiered_array.specs.Matches.{RepresentsTiers};
 ghost use Rattle.tiered_array.specs.Regrouping.{IsRebuildOf};
 ghost use Rattle.tiered_array.specs.Tiered.{Tiered};
-ghost use Rattle.array_growth.specs.Growth.{IsSpread};
+ghost use Rattle.array_expansion.specs.Expansion.{IsSpread};
 ghost use Rattle.drive_evacuation.specs.Evacuation.{AreClearOf, NotEvacuated};
 
 use crate::EvacuationFault;

@@ -15,7 +15,7 @@ use Rattle.vault.specs.declared.store.Stop.{Stop}
 use Rattle.vault.proofs.Writes.{differ_not}
 use Rattle.journaled_store.specs.Left.{IsLeftOf, IsLostIn}
 use Rattle.journaled_store.specs.Outlasting.{parts_of}
-use Rattle.journaled_store.specs.Steps.{mark_of}
+use Rattle.journaled_store.specs.Steps.{loss_mark}
 use Rattle.array_recovery.specs.Found.{is_marked}
 use Rattle.array_recovery.specs.Reopened.{EndsAt}
 use Rattle.array_recovery.proofs.Marking.{index_is}
@@ -41,7 +41,7 @@ module _ {X : Type 0} (shows : TiersView → X → Type 0) (keeps : KeepsShown s
   -- no drive was lost
   alive : (d : ℕ) (v : DriveView) → slice_get olds d ≡ Some v → v.lost ≡ false
   alive d v e =
-      sym (mark_says v.lost) ∙ sym (ap (λ m. not (m == 0)) (index_is left.kept.marks d (mark_of v.lost) (left.kept.reported.each d v e))) ∙ free d (below d v e)
+      sym (mark_says v.lost) ∙ sym (ap (λ m. not (m == 0)) (index_is left.kept.marks d (loss_mark v.lost) (left.kept.reported.each d v e))) ∙ free d (below d v e)
 
   sure : (d : ℕ) (v : DriveView) → slice_get olds d ≡ Some v → is_lost left.lost d ≡ false
   sure d v e = elim (bool_cases (is_lost left.lost d)) [
@@ -75,10 +75,10 @@ module _ {X : Type 0} (shows : TiersView → X → Type 0) (keeps : KeepsShown s
     | inr none ↦ (let high = none.0 in let long = is.long d v e in ends d a (inside d v e) refl (omega (arith, high, long)) ∙ sym none.1)
   ]
 
-  marked : (d : ℕ) (v : DriveView) → slice_get is.views d ≡ Some v → slice_get left.kept.marks d ≡ Some (mark_of v.lost)
+  marked : (d : ℕ) (v : DriveView) → slice_get is.views d ≡ Some v → slice_get left.kept.marks d ≡ Some (loss_mark v.lost)
   marked d v e =
       let old = there olds d (let low = inside d v e in let many = left.many in omega (arith, low, many)) in
-      left.kept.reported.each d old.0 old.1 ∙ ap (λ b. Some (mark_of b)) (alive d old.0 old.1 ∙ sym (is.alive d v e))
+      left.kept.reported.each d old.0 old.1 ∙ ap (λ b. Some (loss_mark b)) (alive d old.0 old.1 ∙ sym (is.alive d v e))
 
   pub left_mended : IsLeftOf shows what groups drives [] now
   left_mended = record {

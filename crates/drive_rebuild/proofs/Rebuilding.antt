@@ -18,7 +18,7 @@ use Rattle.vault.proofs.Writes.{front_torn, torn_matches}
 use Rattle.group_form.specs.Form.{HasGroups}
 use Rattle.journaled_store.specs.Left.{IsLeftOf, IsLostIn}
 use Rattle.journaled_store.specs.Outlasting.{OpensAs, OpensBut, parts_of}
-use Rattle.journaled_store.specs.Steps.{IsPersisted, mark_of, table_write}
+use Rattle.journaled_store.specs.Steps.{IsPersisted, loss_mark, table_write}
 use Rattle.journaled_store.proofs.Opening.{alone, opens_as, opens_on}
 use Rattle.journaled_store.proofs.Settled.{groups_on}
 use Rattle.array_recovery.specs.Found.{is_marked}
@@ -27,13 +27,13 @@ use Rattle.array_recovery.proofs.Marking.{index_is}
 use Rattle.array_recovery.proofs.Outlasting.{marked_is}
 use Rattle.array_recovery.proofs.Reopening.{bool_cases}
 use Rattle.array_recovery.proofs.Replaying.{write_else, write_here}
-use Rattle.drive_rebuild.specs.Rebuilt.{AreMarked, IsBeforeOrReplaced, IsReplaced, IsReplacedIn, IsWhole}
+use Rattle.drive_rebuild.specs.Rebuilt.{AreMarkedLost, IsBeforeOrReplaced, IsReplaced, IsReplacedIn, HasAllDrives}
 use Rattle.drive_rebuild.specs.Written.{unmarked}
 use Rattle.drive_rebuild.proofs.Restated.{KeepsShown, ShowToo, with_drives}
 use Rattle.drive_rebuild.proofs.Shown.{of_view, shows_whole, there}
 
 -- a mark, and what it says
-pub mark_says : (b : Bool) → not (mark_of b == 0) ≡ b
+pub mark_says : (b : Bool) → not (loss_mark b == 0) ≡ b
 mark_says true = refl
 mark_says false = refl
 
@@ -60,13 +60,13 @@ at d address = record { drive = d; address = address }
 
 -- what is left of an array of which drives are lost
 module _ {X : Type 0} (shows : TiersView → X → Type 0) (what : X) (groups : Groups) (drives : ℕ) (before : Cells) (left : IsLeftOf shows what groups drives [] before)
-    (lost : List Bool) (lost_are : AreMarked drives lost before) where
+    (lost : List Bool) (lost_are : AreMarkedLost drives lost before) where
   abbrev olds : List DriveView
   olds = (parts_of left.tiers).drives
 
   -- a drive was lost if it is marked
   was_lost : (d : ℕ) (v : DriveView) → slice_get olds d ≡ Some v → is_lost lost d ≡ v.lost
-  was_lost d v e = lost_are.each left.kept.marks left.kept.noted d (let low = slice_get_within olds d v e in let many = left.many in omega (arith, low, many)) ∙ ap (λ m. not (m == 0)) (index_is left.kept.marks d (mark_of v.lost) (left.kept.reported.each d v e)) ∙ mark_says v.lost
+  was_lost d v e = lost_are.each left.kept.marks left.kept.noted d (let low = slice_get_within olds d v e in let many = left.many in omega (arith, low, many)) ∙ ap (λ m. not (m == 0)) (index_is left.kept.marks d (loss_mark v.lost) (left.kept.reported.each d v e)) ∙ mark_says v.lost
 
   -- the vault has the units of one that wasn't
   sure : (d : ℕ) (v : DriveView) → slice_get olds d ≡ Some v → v.lost ≡ false → is_lost left.lost d ≡ false
@@ -194,7 +194,7 @@ module _ {X : Type 0} (shows : TiersView → X → Type 0) (what : X) (groups : 
       has = record { each = λ d a v e not. is.matches (at d a) not ∙ beside d a (below d v e) ∙ lies d a v e };
       marks = marks_now;
       noted = is.matches (at 16 0) table_now ∙ found;
-      reported = record { each = λ d v e. zero_at d (below d v e) ∙ ap (λ b. Some (mark_of b)) (sym (is.verified.alive d v e)) };
+      reported = record { each = λ d v e. zero_at d (below d v e) ∙ ap (λ b. Some (loss_mark b)) (sym (is.verified.alive d v e)) };
     }
 
     -- the table has the groups that it had
@@ -252,7 +252,7 @@ module _ {X : Type 0} (shows : TiersView → X → Type 0) (what : X) (groups : 
         (opens_on shows counts table_now groups drives (what ∷ []) (recovered i) (recovered j) matches opens)
 
   pub whole : {V : Type 0} (seen : V → Image) (may_leave : V → Stop → Image → Type 0) (keeps : KeepsShown shows) (units number : ℕ) (ends : EndsAt [] drives units before) (vault : V)
-      → IsReplaced seen may_leave groups drives units number lost before vault → IsWhole shows seen may_leave what groups drives units vault
+      → IsReplaced seen may_leave groups drives units number lost before vault → HasAllDrives shows seen may_leave what groups drives units vault
   whole seen may_leave keeps units number ends vault is = record {
     sound = record {
       left = left_now keeps units number ends (seen vault) is.inside;

@@ -16,7 +16,7 @@ use Rattle.array_recovery.specs.Found.{AreGone, IsTable, is_marked}
 use Rattle.array_recovery.specs.Reopened.{marked}
 use Rattle.array_recovery.proofs.Marking.{index_is}
 use Rattle.array_recovery.proofs.Outlasting.{marked_is}
-use Rattle.drive_rebuild.specs.Rebuilt.{AreMarked, AreVerified, IsBeforeOrReplaced, IsReplaced, IsReplacedIn}
+use Rattle.drive_rebuild.specs.Rebuilt.{AreMarkedLost, AreVerified, IsBeforeOrReplaced, IsReplaced, IsReplacedIn}
 use Rattle.drive_rebuild.specs.Written.{AreLostWith, IsOnlyMarked, unmarked}
 use Rattle.drive_rebuild.proofs.Rebuilding.{past_marks}
 use Rattle.drive_rebuild.proofs.Underway.{logged_less, recovered_empty}
@@ -45,7 +45,7 @@ index_same xs ys i None e f = index_none xs i e ∙ sym (index_none ys i f)
 index_same xs ys i (Some x) e f = index_is xs i x e ∙ sym (index_is ys i x f)
 
 module _ (drives number : ℕ) (lost counts : List Bool) (before : Cells) (marks now : List ℕ) (table : IsTable marks before) (wide : length marks ≡ 16) (only : IsOnlyMarked marks drives number)
-    (lost_are : AreMarked drives lost before) (now_is : now ≡ unmarked marks number) (counts_are : (d : ℕ) → is_lost counts d ≡ is_marked now d) where
+    (lost_are : AreMarkedLost drives lost before) (now_is : now ≡ unmarked marks number) (counts_are : (d : ℕ) → is_lost counts d ≡ is_marked now d) where
   other : (d : ℕ) → d ≢ number → is_lost counts d ≡ is_marked marks d
   other d ne = counts_are d ∙ ap (λ (l : List ℕ). is_marked l d) now_is
       ∙ ap (λ n. not (n == 0)) (index_same (slice_set marks number 0) marks d (slice_get marks d) (get-set_other marks number d 0 ne) refl)

@@ -12,13 +12,13 @@ use Rattle.extent_groups.specs.Cells.{Cells}
 use Rattle.group_form.specs.Form.{HasGroups}
 use Rattle.journaled_store.specs.Left.{MissesOne}
 use Rattle.journaled_store.specs.Outlasting.{parts_of}
-use Rattle.journaled_store.specs.Steps.{IsEmptied, mark_of}
+use Rattle.journaled_store.specs.Steps.{IsEmptied, loss_mark}
 use Rattle.journaled_store.proofs.Opening.{is_lost_in}
 use Rattle.journaled_store.proofs.Settled.{groups_on, table_there}
 use Rattle.array_recovery.specs.Found.{IsTable, is_marked}
 use Rattle.array_recovery.specs.Reopened.{EndsAt}
 use Rattle.array_recovery.proofs.Marking.{index_is}
-use Rattle.drive_rebuild.specs.Rebuilt.{AreMarked, CanBeRebuilt}
+use Rattle.drive_rebuild.specs.Rebuilt.{AreMarkedLost, CanBeRebuilt}
 use Rattle.drive_rebuild.proofs.Rebuilding.{mark_says, past_marks}
 use Rattle.drive_rebuild.proofs.Shown.{there}
 
@@ -43,7 +43,7 @@ module _ {V X : Type 0} (shows : TiersView → X → Type 0) (seen : V → Image
       let v = there drives d low in
       let same : marks ≡ is.kept.marks = same_Some _ _ (sym table ∙ is.kept.noted) in
       gone_is d (omega (arith, low, few)) ∙ ap (is_missing drive_lost) v.1 ∙ sym (mark_says v.0.lost)
-      ∙ sym (ap (λ (l : List ℕ). is_marked l d) same ∙ ap (λ m. not (m == 0)) (index_is is.kept.marks d (mark_of v.0.lost) (is.kept.reported.each d v.0 v.1)))
+      ∙ sym (ap (λ (l : List ℕ). is_marked l d) same ∙ ap (λ m. not (m == 0)) (index_is is.kept.marks d (loss_mark v.0.lost) (is.kept.reported.each d v.0 v.1)))
 
   rest : (marks : List ℕ) → IsTable marks (recovered (seen vault)) → (d : ℕ) → is_lost lost d ≡ false → is_marked marks d ≡ false
   rest marks table d out = elim (slice_get_cases drives d).1 [

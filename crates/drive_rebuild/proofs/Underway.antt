@@ -10,7 +10,7 @@ use Rattle.vault.specs.declared.store.Stop.{Stop}
 use Rattle.vault.proofs.Runs.{both_runs, goes_on, started, weaker}
 use Rattle.vault.proofs.Writes.{differ_not, front_torn, same_here, torn_back, torn_front, torn_matches, torn_not, torn_on}
 use Rattle.array_recovery.specs.Found.{OnlyRead}
-use Rattle.drive_rebuild.specs.Written.{IsReady, WroteLost}
+use Rattle.drive_rebuild.specs.Written.{IsReadyToWrite, WroteLost}
 
 -- the same units and journal stand for the same units
 pub recovered_same : (lost : List Bool) (a b : Image) → a.journal ≡ b.journal → SameOn lost a.cells b.cells → SameOn lost (recovered a) (recovered b)
@@ -143,7 +143,7 @@ module _ {V : Type 0} (seen : V → Image) (may_leave : V → Stop → Image →
     -- a vault that is ready
     pub ready_now : (counts : List Bool) (v0 v1 v2 v3 v4 v5 : V) → seen v1 ≡ seen v0 → IsSettled seen may_leave counts v1 v2 → WroteLost seen may_leave moment left_since lost v2 v3 → AreLogged seen may_leave lost v3
         → OnlyRead seen may_leave moment left_since v3 v4 → ((stop : Stop) → HasUnitsAtStop counts (seen v3).cells (may_leave v4 stop)) → OnlyRead seen may_leave moment left_since v4 v5 → Underway v0 v5
-        → IsReady seen may_leave lost counts v0 v5
+        → IsReadyToWrite seen may_leave lost counts v0 v5
     ready_now counts v0 v1 v2 v3 v4 v5 first settled wrote logged synced durable read underway = record {
       empty = empty;
       durable = logged_read counts v4 v5 (logged_synced lost counts v3 v4 synced.finds logged (λ stop i now. (synced.time stop).ends i now) durable) read;

@@ -32,7 +32,7 @@ pub record IsReplacedIn (groups : Groups) (drives units number : ℕ) (lost : Li
   pub matches : Matches (marked (unmarked marks number)) (after ready (table_write (unmarked marks number) ∷ [])) i
 
 -- The drives that the table marks are lost, and no others of the first drives are. The table is on none of them.
-pub record AreMarked (drives : ℕ) (lost : List Bool) (c : Cells) : Type 0 where
+pub record AreMarkedLost (drives : ℕ) (lost : List Bool) (c : Cells) : Type 0 where
   pub table : is_lost lost 16 ≡ false
   pub each : (marks : List ℕ) → IsTable marks c → (d : ℕ) → d < drives → is_lost lost d ≡ is_marked marks d
   pub rest : (marks : List ℕ) → IsTable marks c → (d : ℕ) → is_lost lost d ≡ false → is_marked marks d ≡ false
@@ -48,7 +48,7 @@ pub record IsReplaced {V : Type 0} (seen : V → Image) (may_leave : V → Stop 
 
 -- A vault from which an array that shows this is opened now and after each stop, whichever of its drives are absent then. The table
 -- marks none of them.
-pub record IsWhole {V X : Type 0} (shows : TiersView → X → Type 0) (seen : V → Image) (may_leave : V → Stop → Image → Type 0) (what : X) (groups : Groups) (drives units : ℕ) (vault : V) : Type 0 where
+pub record HasAllDrives {V X : Type 0} (shows : TiersView → X → Type 0) (seen : V → Image) (may_leave : V → Stop → Image → Type 0) (what : X) (groups : Groups) (drives units : ℕ) (vault : V) : Type 0 where
   pub sound : IsSoundFor shows seen may_leave what groups drives units [] vault
   pub none_marked : (d : ℕ) → d < drives → is_marked sound.left.kept.marks d ≡ false
   pub leaves : (stop : Stop) (i : Image) → may_leave vault stop i → OpensAs shows (what ∷ []) groups drives (recovered i)
@@ -59,5 +59,5 @@ pub record CanBeRebuilt {V X : Type 0} (shows : TiersView → X → Type 0) (see
   pub left : IsLeftOf shows what groups drives [] (recovered (seen vault))
   pub ends : EndsAt [] drives units (recovered (seen vault))
   pub lost : List Bool
-  pub lost_are : AreMarked drives lost (recovered (seen vault))
+  pub lost_are : AreMarkedLost drives lost (recovered (seen vault))
   pub logged : AreLogged seen may_leave lost vault

@@ -34,7 +34,7 @@ pub record AreLostWith (lost counts : List Bool) (number : ℕ) : Type 0 where
 
 -- The journal is empty, and each stop leaves what calls find: the units of before, but for those of lost drives. Of the drives that
 -- count there is a unit where one was.
-pub record IsReady {V : Type 0} (seen : V → Image) (may_leave : V → Stop → Image → Type 0) (lost counts : List Bool) (old new : V) : Type 0 where
+pub record IsReadyToWrite {V : Type 0} (seen : V → Image) (may_leave : V → Stop → Image → Type 0) (lost counts : List Bool) (old new : V) : Type 0 where
   pub empty : (seen new).journal ≡ []
   pub durable : AreLogged seen may_leave counts new
   pub cells : SameOn lost (seen new).cells (recovered (seen old))

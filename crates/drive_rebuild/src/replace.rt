@@ -8,7 +8,7 @@ ghost use Rattle.byte_store.specs.Lasting.{Shown};
 ghost use Rattle.array_store.specs.Blocks.{Holds};
 ghost use Rattle.journaled_store.specs.Left.{HasBoth, HasKeys};
 ghost use Rattle.journaled_store.specs.Outlasting.{OpensAs};
-ghost use Rattle.drive_rebuild.specs.Rebuilt.{AreMarked, CanBeRebuilt, IsBeforeOrReplaced, IsReplaced, IsWhole};
+ghost use Rattle.drive_rebuild.specs.Rebuilt.{AreMarkedLost, CanBeRebuilt, IsBeforeOrReplaced, IsReplaced, HasAllDrives};
 ghost use Rattle.drive_rebuild.specs.Written.{unmarked};
 
 use crate::fault::RebuildFault;
@@ -43,10 +43,10 @@ fn replace_marked<V: Vault, W: Watch>(
     number: u8,
 ) -> Result<(), RebuildFault>
     ensures stays { V.known vault.old → V.known vault.new }
-    ensures replaced { V.known vault.old → (lost : List Bool) → AreMarked drives lost (recovered (V.seen vault.old)) → AreLogged V.seen V.may_leave lost vault.old
+    ensures replaced { V.known vault.old → (lost : List Bool) → AreMarkedLost drives lost (recovered (V.seen vault.old)) → AreLogged V.seen V.may_leave lost vault.old
         → OnOk result (IsReplaced V.seen V.may_leave groups drives (shape.now.extents * extent_units shape.now.segments) number lost
         (recovered (V.seen vault.old)) vault.new) }
-    ensures any_moment { V.known vault.old → (lost : List Bool) → AreMarked drives lost (recovered (V.seen vault.old)) → AreLogged V.seen V.may_leave lost vault.old
+    ensures any_moment { V.known vault.old → (lost : List Bool) → AreMarkedLost drives lost (recovered (V.seen vault.old)) → AreLogged V.seen V.may_leave lost vault.old
         → (stop : Stop) → LeavesOnly V.moment V.left_since stop vault.old vault.new
         (IsBeforeOrReplaced groups drives (shape.now.extents * extent_units shape.now.segments) number lost (recovered (V.seen vault.old))) }
 {
@@ -88,15 +88,15 @@ pub fn replace_drive<V: Vault, W: Watch>(
     // After Ok the vault has an array with the same bytes and the same block map, of which no drive is lost.
     ensures rebuilt { V.known vault.old → (bytes : List ℕ)
         → CanBeRebuilt Holds V.seen V.may_leave bytes groups drives (shape.now.extents * extent_units shape.now.segments) vault.old
-        → OnOk result (IsWhole Holds V.seen V.may_leave bytes groups drives (shape.now.extents * extent_units shape.now.segments) vault.new) }
+        → OnOk result (HasAllDrives Holds V.seen V.may_leave bytes groups drives (shape.now.extents * extent_units shape.now.segments) vault.new) }
     ensures map { V.known vault.old → (keys : List ℕ)
         → CanBeRebuilt HasKeys V.seen V.may_leave keys groups drives (shape.now.extents * extent_units shape.now.segments) vault.old
-        → OnOk result (IsWhole HasKeys V.seen V.may_leave keys groups drives (shape.now.extents * extent_units shape.now.segments) vault.new) }
+        → OnOk result (HasAllDrives HasKeys V.seen V.may_leave keys groups drives (shape.now.extents * extent_units shape.now.segments) vault.new) }
 
     // And both are of one state.
     ensures both { V.known vault.old → (what : Shown)
         → CanBeRebuilt HasBoth V.seen V.may_leave what groups drives (shape.now.extents * extent_units shape.now.segments) vault.old
-        → OnOk result (IsWhole HasBoth V.seen V.may_leave what groups drives (shape.now.extents * extent_units shape.now.segments) vault.new) }
+        → OnOk result (HasAllDrives HasBoth V.seen V.may_leave what groups drives (shape.now.extents * extent_units shape.now.segments) vault.new) }
 
     // A stop at any moment, also after an error, leaves a vault from which such an array is opened.
     ensures any_moment { V.known vault.old → (bytes : List ℕ)
@@ -110,10 +110,10 @@ pub fn replace_drive<V: Vault, W: Watch>(
         → (stop : Stop) → LeavesOnly V.moment V.left_since stop vault.old vault.new (λ i. OpensAs HasBoth (what ∷ []) groups drives (recovered i)) }
 
     // Of the other drives no unit changes: the marks alone, and the drive's units.
-    ensures others { V.known vault.old → (lost : List Bool) → AreMarked drives lost (recovered (V.seen vault.old)) → AreLogged V.seen V.may_leave lost vault.old
+    ensures others { V.known vault.old → (lost : List Bool) → AreMarkedLost drives lost (recovered (V.seen vault.old)) → AreLogged V.seen V.may_leave lost vault.old
         → OnOk result (IsReplaced V.seen V.may_leave groups drives (shape.now.extents * extent_units shape.now.segments) number lost
         (recovered (V.seen vault.old)) vault.new) }
-    ensures others_any_moment { V.known vault.old → (lost : List Bool) → AreMarked drives lost (recovered (V.seen vault.old))
+    ensures others_any_moment { V.known vault.old → (lost : List Bool) → AreMarkedLost drives lost (recovered (V.seen vault.old))
         → AreLogged V.seen V.may_leave lost vault.old → (stop : Stop) → LeavesOnly V.moment V.left_since stop vault.old vault.new
         (IsBeforeOrReplaced groups drives (shape.now.extents * extent_units shape.now.segments) number lost (recovered (V.seen vault.old))) }
 {

@@ -8,7 +8,7 @@ ghost use Rattle.vault.specs.declared.store.Stop.{Stop};
 ghost use Rattle.journaled_store.specs.Steps.{table_write};
 ghost use Rattle.array_recovery.specs.Found.{IsTable, OnlyRead, is_marked};
 ghost use Rattle.drive_rebuild.specs.Rebuilt.{AreVerified};
-ghost use Rattle.drive_rebuild.specs.Written.{AreLostWith, IsOnlyMarked, IsReady, WroteLost};
+ghost use Rattle.drive_rebuild.specs.Written.{AreLostWith, IsOnlyMarked, IsReadyToWrite, WroteLost};
 
 use crate::compute::compute;
 use crate::fault::RebuildFault;
@@ -123,7 +123,7 @@ pub(crate) fn prepare<V: Vault, W: Watch>(
 ) -> Result<(), RebuildFault>
     ensures stays { V.known vault.old → V.known vault.new }
     ensures ready { V.known vault.old → (lost : List Bool) → AreLostWith lost counts.now number → AreLogged V.seen V.may_leave lost vault.old
-        → OnOk result (IsReady V.seen V.may_leave lost counts.now vault.old vault.new) }
+        → OnOk result (IsReadyToWrite V.seen V.may_leave lost counts.now vault.old vault.new) }
     ensures any_moment { V.known vault.old → (lost : List Bool) → AreLostWith lost counts.now number → AreLogged V.seen V.may_leave lost vault.old
         → (stop : Stop) → LeavesOnly V.moment V.left_since stop vault.old vault.new (Matches lost (recovered (V.seen vault.old))) }
     ensures verified { V.known vault.old → ((d : ℕ) → d < drives → is_lost counts.now d ≡ false)

@@ -19,7 +19,7 @@ use Rattle.array_store.specs.Blocks.{Holds, SpansBlocks}
 use Rattle.journaled_store.specs.Left.{HasBoth}
 use Rattle.journaled_store.specs.Outlasting.{parts_of}
 use Rattle.array_recovery.specs.Reopened.{LosesMore}
-use Rattle.array_growth.specs.Growth.{IsSpread, SameShapes}
+use Rattle.array_expansion.specs.Expansion.{IsSpread, SameShapes}
 use Rattle.array_batch.specs.Arrays.{held_view}
 use Rattle.array_batch.proofs.Arrays.{of_held, shown_at}
 use Rattle.drive_evacuation.specs.Evacuation.{AreClearOf}

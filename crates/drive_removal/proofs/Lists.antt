@@ -4,7 +4,7 @@ use Rattle.std.specs.Prelude.{◌==◌, ◌||◌, not, slice_index_or}
 use Rattle.std.proofs.lemmas.List.{get_or-replicate, length-replicate}
 use Rattle.std.proofs.lemmas.Option.{none-some, slice_get-get_or}
 use Rattle.vault.specs.Images.{is_lost}
-use Rattle.journaled_store.specs.Steps.{mark_of}
+use Rattle.journaled_store.specs.Steps.{loss_mark}
 use Rattle.array_recovery.specs.Found.{is_marked}
 use Rattle.array_recovery.proofs.Marking.{index_is}
 
@@ -37,7 +37,7 @@ zeros_are n d low =
     slice_get-get_or zeros d 0 (omega (arith, low, long)) ∙ ap (λ (k : ℕ). Some k) (get_or-replicate n d 0 0 low)
 
 -- a drive whose mark is 0
-pub unlost : (b : Bool) → mark_of b ≡ 0 → b ≡ false
+pub unlost : (b : Bool) → loss_mark b ≡ 0 → b ≡ false
 unlost false e = refl
 unlost true e = absurd (omega (arith, e))
 

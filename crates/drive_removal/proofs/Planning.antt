@@ -24,7 +24,7 @@ use Rattle.array_recovery.specs.Found.{IsTable}
 use Rattle.array_recovery.specs.Reopened.{EndsAt, Outlives}
 use Rattle.drive_rebuild.proofs.Shown.{of_view, there}
 use Rattle.array_batch.specs.Arrays.{HasArray, held_view}
-use Rattle.array_batch.specs.Batched.{HasUnits}
+use Rattle.array_batch.specs.Batched.{HasAllDriveUnits}
 use Rattle.array_batch.proofs.Arrays.{array_put, ends_after, form_there, of_held, shown_at}
 use Rattle.array_batch.proofs.Batching.{at, put_else, put_here}
 use Rattle.drive_removal.specs.Removed.{HasOthers, IsRemovedIn}
@@ -80,7 +80,7 @@ module _ (what : Shown) (groups : Groups) (drives : ℕ) (c : Cells) (array : Ha
 
   -- the array in memory on one drive fewer, and a batch with its units, its groups and a table without marks
   module _ (shape : Shape) (drive : ℕ) (few : drive ≤ 16) (ends : EndsAt [] drive (shape.extents * extent_units shape.segments) c) (parts : Parts Held) (short : IsShortenedTo what shape groups drive parts)
-      (batch writes : List Intended) (has : HasUnits parts.drives.items (after c batch)) (spelled : (e : Cells) → HasFormPlaces e → HasGroups parts.groups (length parts.drives.items) (after e batch))
+      (batch writes : List Intended) (has : HasAllDriveUnits parts.drives.items (after c batch)) (spelled : (e : Cells) → HasFormPlaces e → HasGroups parts.groups (length parts.drives.items) (after e batch))
       (marks : (e : Cells) → after e batch 16 0 ≡ e 16 0) (put : writes ≡ batch ++ table_write (replicate 16 0) ∷ []) where
     abbrev now : Cells
     now = after c writes
@@ -101,7 +101,7 @@ module _ (what : Shown) (groups : Groups) (drives : ℕ) (c : Cells) (array : Ha
         let same : d ≡ 16 = ap (λ (x : Place). x.drive) e in
         omega (arith, low, many, few, same)
 
-    has_now : HasUnits parts.drives.items now
+    has_now : HasAllDriveUnits parts.drives.items now
     has_now d m is a low = elsewhere (at d a) (low16 d m is a) ∙ has d m is a low
 
     groups_now : HasGroups parts.groups (length parts.drives.items) now

@@ -15,12 +15,12 @@ use Rattle.journaled_store.specs.Outlasting.{parts_of}
 use Rattle.journaled_store.proofs.Settled.{groups_on}
 use Rattle.array_recovery.specs.Found.{IsTable, is_marked}
 use Rattle.array_recovery.proofs.Reopening.{bool_cases}
-use Rattle.drive_rebuild.specs.Rebuilt.{AreMarked, CanBeRebuilt}
+use Rattle.drive_rebuild.specs.Rebuilt.{AreMarkedLost, CanBeRebuilt}
 use Rattle.drive_rebuild.proofs.Rebuilding.{before_opens}
 use Rattle.drive_rebuild.proofs.Underway.{now_matches}
 use Rattle.array_batch.proofs.Batching.{at}
 use Rattle.array_batch.proofs.Opening.{array_on, left_now, opens_array, opens_same}
-use Rattle.drive_removal.specs.Removed.{CanShrink, HasOthers, IsBeforeOrRemoved, IsRemoved, IsRemovedIn, IsWholeWithout, MarksOnly, OpensEither}
+use Rattle.drive_removal.specs.Removed.{CanShrink, HasOthers, IsBeforeOrRemoved, IsRemoved, IsRemovedIn, IsWholeWithout, MarksOnly, OpensBeforeOrWithout}
 use Rattle.drive_removal.proofs.Lists.{no_mark, past_marks, unlost}
 
 -- which drives are out of use, where the table marks no drive but this one
@@ -120,7 +120,7 @@ module _ {X : Type 0} (shows : TiersView → X → Type 0) (x : X) (what : Shown
 
 -- what a stop leaves, by the array of before
 pub opens_either : {X : Type 0} (shows : TiersView → X → Type 0) (x : X) (what : Shown) → ((t : TiersView) → HasBoth t what → shows t x) → (shape : Shape) (groups : Groups) (drives units : ℕ) (before : Cells)
-    → IsLeftOf shows x groups drives [] before → (lost : List Bool) → AreMarked drives lost before → (i : Image) → IsBeforeOrRemoved lost before what shape groups drives units i → OpensEither shows x shape groups drives i
+    → IsLeftOf shows x groups drives [] before → (lost : List Bool) → AreMarkedLost drives lost before → (i : Image) → IsBeforeOrRemoved lost before what shape groups drives units i → OpensBeforeOrWithout shows x shape groups drives i
 opens_either shows x what give shape groups drives units before left lost lost_are i (inl was) = inl (before_opens shows x groups drives before left lost lost_are i was)
 opens_either shows x what give shape groups drives units before left lost lost_are i (inr is) =
     inr (is.groups, is.sizes, is.kept, opens_array shows x what give is.groups (drives - 1) (recovered i) is.array)

@@ -13,8 +13,8 @@ use Rattle.tiered_array.specs.Matches.{RepresentsTiers}
 use Rattle.byte_store.specs.Lasting.{Shown}
 use Rattle.journaled_store.specs.Left.{HasBoth}
 use Rattle.journaled_store.specs.Outlasting.{parts_of}
-use Rattle.array_growth.specs.Growth.{SameShapes}
-use Rattle.array_batch.specs.Arrays.{ArePresent, HaveSizes, held_view}
+use Rattle.array_expansion.specs.Expansion.{SameShapes}
+use Rattle.array_batch.specs.Arrays.{AreHeldPresent, HaveSizes, held_view}
 use Rattle.array_batch.proofs.Arrays.{of_held}
 use Rattle.drive_evacuation.specs.Evacuation.{AreClearOf, on_parts, with_drives}
 use Rattle.drive_evacuation.proofs.Shortening.{without_last}
@@ -22,7 +22,7 @@ use Rattle.drive_removal.specs.Shortened.{IsEmptiedOf, IsShortenedTo}
 use Rattle.drive_removal.proofs.Lists.{last_is, low_is}
 
 module _ (what : Shown) (shape : Shape) (old : Groups) (drive : ℕ) (before after : Parts Held) (emptied : IsEmptiedOf what shape old (drive + 1) drive before) (fit : IsFit held_units before) (last : Held)
-    (drives_are : before.drives.items ≡ after.drives.items ++ last ∷ []) (groups_are : after.groups ≡ before.groups) (enough : 3 ≤ drive) (present : ArePresent after.drives.items) where
+    (drives_are : before.drives.items ≡ after.drives.items ++ last ∷ []) (groups_are : after.groups ≡ before.groups) (enough : 3 ≤ drive) (present : AreHeldPresent after.drives.items) where
   abbrev rest : PartsView
   rest = held_view after
 

@@ -14,8 +14,8 @@ use Rattle.journaled_store.specs.Left.{HasBoth, IsLeftOf}
 use Rattle.journaled_store.specs.Outlasting.{OpensAs, parts_of}
 use Rattle.array_recovery.specs.Found.{IsTable, is_marked}
 use Rattle.array_recovery.specs.Reopened.{EndsAt}
-use Rattle.drive_rebuild.specs.Rebuilt.{AreMarked, CanBeRebuilt}
-use Rattle.array_growth.specs.Growth.{SameShapes}
+use Rattle.drive_rebuild.specs.Rebuilt.{AreMarkedLost, CanBeRebuilt}
+use Rattle.array_expansion.specs.Expansion.{SameShapes}
 use Rattle.array_batch.specs.Arrays.{HasArray, HaveSizes, MarksNone}
 
 -- The table marks no drive but this one, at most. The drives out of use are those that it marks.
@@ -66,7 +66,7 @@ IsBeforeOrRemoved lost before what shape old drives units i = Matches lost befor
 pub record CanShrink {V : Type 0} (seen : V → Image) (may_leave : V → Stop → Image → Type 0) (what : Shown) (groups : Groups) (drives units : ℕ) (lost : List Bool) (vault : V) : Type 0 where
   pub left : IsLeftOf HasBoth what groups drives [] (recovered (seen vault))
   pub ends : EndsAt [] drives units (recovered (seen vault))
-  pub lost_are : AreMarked drives lost (recovered (seen vault))
+  pub lost_are : AreMarkedLost drives lost (recovered (seen vault))
   pub logged : AreLogged seen may_leave lost vault
 
 -- A vault from which an array on so many drives is opened that shows this, now and after each stop, whichever of its drives are absent
@@ -80,6 +80,6 @@ pub record IsWholeWithout {V X : Type 0} (shows : TiersView → X → Type 0) (s
   pub leaves : (stop : Stop) (i : Image) → may_leave vault stop i → OpensAs shows (what ∷ []) groups drives (recovered i)
 
 -- what a stop leaves while a drive is removed: an array that shows this is opened, the one of before or that without the drive
-abbrev pub OpensEither : {X : Type 0} → (TiersView → X → Type 0) → X → Shape → Groups → ℕ → Image → Type 0
-OpensEither shows what shape groups drives i = OpensAs shows (what ∷ []) groups drives (recovered i)
+abbrev pub OpensBeforeOrWithout : {X : Type 0} → (TiersView → X → Type 0) → X → Shape → Groups → ℕ → Image → Type 0
+OpensBeforeOrWithout shows what shape groups drives i = OpensAs shows (what ∷ []) groups drives (recovered i)
     ⊎ ((g : Groups) × HaveSizes shape g × SameShapes groups g × OpensAs shows (what ∷ []) g (drives - 1) (recovered i))

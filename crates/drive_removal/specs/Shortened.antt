@@ -5,7 +5,7 @@ use Rattle.extents.specs.Sizes.{extent_units}
 use Rattle.extents.specs.declared.shape.Shape.{Shape}
 use Rattle.extent_groups.specs.Cells.{Cells}
 use Rattle.extent_groups.specs.Groups.{Groups}
-use Rattle.array_growth.specs.Growth.{SameShapes}
+use Rattle.array_expansion.specs.Expansion.{SameShapes}
 use Rattle.unit_store.specs.Fit.{HaveUnitCount}
 use Rattle.unit_store.specs.Memory.{held_lost, held_units}
 use Rattle.unit_store.specs.declared.parts.Parts.{Parts}
@@ -13,7 +13,7 @@ use Rattle.tiered_array.specs.Views.{TiersView}
 use Rattle.byte_store.specs.Lasting.{Shown}
 use Rattle.journaled_store.specs.Left.{HasBoth}
 use Rattle.journaled_store.specs.Outlasting.{parts_of}
-use Rattle.array_batch.specs.Arrays.{ArePresent, HaveSizes, held_view}
+use Rattle.array_batch.specs.Arrays.{AreHeldPresent, HaveSizes, held_view}
 use Rattle.drive_evacuation.specs.Evacuation.{AreClearOf}
 
 -- so many drives in memory: the last is lost, and the others aren't and have the units at their places
@@ -42,5 +42,5 @@ pub record IsShortenedTo (what : Shown) (shape : Shape) (old : Groups) (drives :
   pub many : length parts.drives.items ≡ drives
   pub sizes : HaveSizes shape parts.groups
   pub kept : SameShapes old parts.groups
-  pub present : ArePresent parts.drives.items
+  pub present : AreHeldPresent parts.drives.items
   pub count : HaveUnitCount held_units parts.drives.items (parts.groups.extents * extent_units parts.groups.segments)

@@ -8,7 +8,7 @@ ghost use Rattle.vault.specs.declared.store.Stop.{Stop};
 ghost use Rattle.array_store.specs.Blocks.{Holds};
 ghost use Rattle.journaled_store.specs.Left.{HasBoth, HasKeys};
 ghost use Rattle.drive_rebuild.specs.Rebuilt.{CanBeRebuilt};
-ghost use Rattle.drive_removal.specs.Removed.{CanShrink, IsBeforeOrRemoved, IsRemoved, IsWholeWithout, OpensEither};
+ghost use Rattle.drive_removal.specs.Removed.{CanShrink, IsBeforeOrRemoved, IsRemoved, IsWholeWithout, OpensBeforeOrWithout};
 
 use crate::fault::RemovalFault;
 use crate::plan::plan;
@@ -81,13 +81,13 @@ pub fn remove_drive<V: Vault>(
     // A stop at any moment, also after an error, leaves a vault from which the array of before is opened, or that without the drive.
     ensures any_moment { V.known vault.old → (bytes : List ℕ)
         → CanBeRebuilt Holds V.seen V.may_leave bytes groups drives (shape.now.extents * extent_units shape.now.segments) vault.old
-        → (stop : Stop) → LeavesOnly V.moment V.left_since stop vault.old vault.new (OpensEither Holds bytes shape.now groups drives) }
+        → (stop : Stop) → LeavesOnly V.moment V.left_since stop vault.old vault.new (OpensBeforeOrWithout Holds bytes shape.now groups drives) }
     ensures map_any_moment { V.known vault.old → (keys : List ℕ)
         → CanBeRebuilt HasKeys V.seen V.may_leave keys groups drives (shape.now.extents * extent_units shape.now.segments) vault.old
-        → (stop : Stop) → LeavesOnly V.moment V.left_since stop vault.old vault.new (OpensEither HasKeys keys shape.now groups drives) }
+        → (stop : Stop) → LeavesOnly V.moment V.left_since stop vault.old vault.new (OpensBeforeOrWithout HasKeys keys shape.now groups drives) }
     ensures both_any_moment { V.known vault.old → (what : Shown)
         → CanBeRebuilt HasBoth V.seen V.may_leave what groups drives (shape.now.extents * extent_units shape.now.segments) vault.old
-        → (stop : Stop) → LeavesOnly V.moment V.left_since stop vault.old vault.new (OpensEither HasBoth what shape.now groups drives) }
+        → (stop : Stop) → LeavesOnly V.moment V.left_since stop vault.old vault.new (OpensBeforeOrWithout HasBoth what shape.now groups drives) }
 {
     remove_units(alloc, vault, shape, groups, extents, drives)
 }

@@ -20,7 +20,7 @@ use Rattle.group_form.specs.Form.{HasGroups}
 use Rattle.journaled_store.specs.Left.{HasBoth}
 use Rattle.journaled_store.specs.Steps.{IsUpToDate}
 use Rattle.journaled_store.specs.Outlasting.{OpensAs, OpensBut, Outlasts, OutlastsSince, Point, Works, allowed, parts_of}
-use Rattle.journaled_store.specs.Keeping.{IsKept, IsWhole, OnlyRead, Whole, at_point}
+use Rattle.journaled_store.specs.Keeping.{KeepsStore, WholeRepresents, OnlyReadKnown, Whole, at_point}
 use Rattle.journaled_store.proofs.Lasting.{allowed_within, moved_lasts, table}
 use Rattle.journaled_store.proofs.Opening.{opens_more}
 use Rattle.journaled_store.proofs.Storing.{has_both, shows_on}
@@ -28,7 +28,7 @@ use Rattle.journaled_store.proofs.Storing.{has_both, shows_on}
 module _ {V X : Type 0} (shows : TiersView → X → Type 0) (known : V → Type 0) (seen : V → Image) (may_leave : V → Stop → Image → Type 0) (moment : V → ℕ) (left_since : V → Stop → ℕ → Image → Type 0)
     (counts_now : (vault : V) → known vault → (stop : Stop) (t : ℕ) (i : Image) → t ≤ moment vault → may_leave vault stop i → left_since vault stop t i)
     (only_now : (vault : V) → known vault → (stop : Stop) (i : Image) → left_since vault stop (moment vault) i → may_leave vault stop i)
-    (p : Point V) (vault : V) (read : known p.vault → OnlyRead known seen may_leave moment left_since p.vault vault) where
+    (p : Point V) (vault : V) (read : known p.vault → OnlyReadKnown known seen may_leave moment left_since p.vault vault) where
   abbrev q : Point V
   q = record { keeper = p.keeper; noted = p.noted; batch = p.batch; failed = p.failed; tiers = p.tiers; vault = vault }
 
@@ -37,7 +37,7 @@ module _ {V X : Type 0} (shows : TiersView → X → Type 0) (known : V → Type
   as_more list more c within o = record { what = o.what; listed = within o.what o.listed; left = λ absent d there same. o.left absent d there same }
 
   module _ (killed cut more_killed more_cut : List X) (out : Outlasts shows known seen may_leave p killed cut) (k : Within killed more_killed) (c : Within cut more_cut) where
-    now : OnlyRead known seen may_leave moment left_since p.vault vault
+    now : OnlyReadKnown known seen may_leave moment left_since p.vault vault
     now = read out.is_known
 
     old_leaves : (stop : Stop) (i : Image) → may_leave p.vault stop i → OpensAs shows (allowed stop more_killed more_cut) (parts_of p.tiers).groups (length (parts_of p.tiers).drives) (recovered i)
@@ -93,15 +93,15 @@ module _ {V : Type 0} (known : V → Type 0) (seen : V → Image) (may_leave : V
     (counts_now : (vault : V) → known vault → (stop : Stop) (t : ℕ) (i : Image) → t ≤ moment vault → may_leave vault stop i → left_since vault stop t i)
     (only_now : (vault : V) → known vault → (stop : Stop) (i : Image) → left_since vault stop (moment vault) i → may_leave vault stop i) where
   abbrev Keeps : Whole V → Whole V → Type 0
-  Keeps = IsKept known seen may_leave moment left_since
+  Keeps = KeepsStore known seen may_leave moment left_since
 
   -- the vault is as it was
-  pub kept_calm : (was now : Whole V) → ((F : StoreState) → IsWhole was F → IsWhole now F)
-      → ((F : StoreState) → IsWhole was F → (block : ℕ) → key_at now.store.tiers.world.array block ≡ key_at was.store.tiers.world.array block)
+  pub kept_calm : (was now : Whole V) → ((F : StoreState) → WholeRepresents was F → WholeRepresents now F)
+      → ((F : StoreState) → WholeRepresents was F → (block : ℕ) → key_at now.store.tiers.world.array block ≡ key_at was.store.tiers.world.array block)
       → (now.store.size ≡ was.store.size) × (now.store.tiers.world.array.parts.groups.payload ≡ was.store.tiers.world.array.parts.groups.payload)
-      → now.vault ≡ was.vault → ((F : StoreState) → IsWhole was F → Follows was.store.tiers now.store.tiers) → (now.failed ≡ false → was.failed ≡ false)
+      → now.vault ≡ was.vault → ((F : StoreState) → WholeRepresents was F → Follows was.store.tiers now.store.tiers) → (now.failed ≡ false → was.failed ≡ false)
       → ((lost : List Bool) (c : Cells) → IsUpToDate lost was.keeper was.noted was.batch c → IsUpToDate lost now.keeper now.noted now.batch c)
-      → IsKept known seen may_leave moment left_since was now
+      → KeepsStore known seen may_leave moment left_since was now
   kept_calm was now bytes keys sizes vault follows works step = record {
     bytes = bytes;
     keys = keys;
@@ -114,7 +114,7 @@ module _ {V : Type 0} (known : V → Type 0) (seen : V → Image) (may_leave : V
   -- and so is the array
   pub kept_same : (was now : Whole V) → now.store ≡ was.store → now.unsynced ≡ was.unsynced → now.vault ≡ was.vault → now.failed ≡ was.failed
       → ((lost : List Bool) (c : Cells) → IsUpToDate lost was.keeper was.noted was.batch c → IsUpToDate lost now.keeper now.noted now.batch c)
-      → IsKept known seen may_leave moment left_since was now
+      → KeepsStore known seen may_leave moment left_since was now
   kept_same was now store unsynced vault failed step = kept_calm was now
       (λ F is. subst (λ (s : StoreView). IsStoreOf s.tiers s.size now.unsynced F) (sym store) (subst (λ b. IsStoreOf was.store.tiers was.store.size b F) (sym unsynced) is))
       (λ F is block. ap (λ (s : StoreView). key_at s.tiers.world.array block) store)
@@ -125,8 +125,8 @@ module _ {V : Type 0} (known : V → Type 0) (seen : V → Image) (may_leave : V
       step
 
   -- its vault was only read
-  pub kept_read : (was : Whole V) (vault : V) → (known was.vault → OnlyRead known seen may_leave moment left_since was.vault vault)
-      → IsKept known seen may_leave moment left_since was
+  pub kept_read : (was : Whole V) (vault : V) → (known was.vault → OnlyReadKnown known seen may_leave moment left_since was.vault vault)
+      → KeepsStore known seen may_leave moment left_since was
       (record { store = was.store; unsynced = was.unsynced; keeper = was.keeper; noted = was.noted; batch = was.batch; failed = was.failed; vault = vault })
   kept_read was vault read = record {
     bytes = λ F is. is;
@@ -138,8 +138,8 @@ module _ {V : Type 0} (known : V → Type 0) (seen : V → Image) (may_leave : V
   }
 
   -- two calls
-  pub kept_more : (was mid now : Whole V) → IsKept known seen may_leave moment left_since was mid → IsKept known seen may_leave moment left_since mid now
-      → IsKept known seen may_leave moment left_since was now
+  pub kept_more : (was mid now : Whole V) → KeepsStore known seen may_leave moment left_since was mid → KeepsStore known seen may_leave moment left_since mid now
+      → KeepsStore known seen may_leave moment left_since was now
   kept_more was mid now one two = record {
     bytes = λ F is. two.bytes F (one.bytes F is);
     keys = λ F is block. two.keys F (one.bytes F is) block ∙ one.keys F is block;
@@ -152,7 +152,7 @@ module _ {V : Type 0} (known : V → Type 0) (seen : V → Image) (may_leave : V
   }
 
   -- no call
-  pub kept_none : (was : Whole V) → IsKept known seen may_leave moment left_since was was
+  pub kept_none : (was : Whole V) → KeepsStore known seen may_leave moment left_since was was
   kept_none was = kept_same was was refl refl refl refl (λ lost c live. live)
 
   works_by : (was now : Bool) → (was ≡ true → now ≡ true) → now ≡ false → was ≡ false
@@ -160,22 +160,22 @@ module _ {V : Type 0} (known : V → Type 0) (seen : V → Image) (may_leave : V
   works_by false later stays on = refl
 
   -- the vault was left, and the journal may have failed or a drive be lost
-  pub kept_given_up : (was now : Whole V) → ((F : StoreState) → IsWhole was F → IsWhole now F)
-      → ((F : StoreState) → IsWhole was F → (block : ℕ) → key_at now.store.tiers.world.array block ≡ key_at was.store.tiers.world.array block)
+  pub kept_given_up : (was now : Whole V) → ((F : StoreState) → WholeRepresents was F → WholeRepresents now F)
+      → ((F : StoreState) → WholeRepresents was F → (block : ℕ) → key_at now.store.tiers.world.array block ≡ key_at was.store.tiers.world.array block)
       → (now.store.size ≡ was.store.size) × (now.store.tiers.world.array.parts.groups.payload ≡ was.store.tiers.world.array.parts.groups.payload)
-      → now.vault ≡ was.vault → ((F : StoreState) → IsWhole was F → Follows was.store.tiers now.store.tiers) → (was.failed ≡ true → now.failed ≡ true)
+      → now.vault ≡ was.vault → ((F : StoreState) → WholeRepresents was F → Follows was.store.tiers now.store.tiers) → (was.failed ≡ true → now.failed ≡ true)
       → ((lost : List Bool) (c : Cells) → IsUpToDate lost was.keeper was.noted was.batch c → IsUpToDate lost now.keeper now.noted now.batch c)
-      → IsKept known seen may_leave moment left_since was now
+      → KeepsStore known seen may_leave moment left_since was now
   kept_given_up was now bytes keys sizes vault follows failed step = kept_calm was now bytes keys sizes vault follows (works_by was.failed now.failed failed) step
 
   -- the store was settled
-  pub kept_settled : (was now : Whole V) → ((F : StoreState) → IsWhole was F → IsWhole now F)
-      → ((F : StoreState) → IsWhole was F → (block : ℕ) → key_at now.store.tiers.world.array block ≡ key_at was.store.tiers.world.array block)
+  pub kept_settled : (was now : Whole V) → ((F : StoreState) → WholeRepresents was F → WholeRepresents now F)
+      → ((F : StoreState) → WholeRepresents was F → (block : ℕ) → key_at now.store.tiers.world.array block ≡ key_at was.store.tiers.world.array block)
       → (now.store.size ≡ was.store.size) × (now.store.tiers.world.array.parts.groups.payload ≡ was.store.tiers.world.array.parts.groups.payload)
-      → (known was.vault → known now.vault) → ((F : StoreState) → IsWhole was F → Follows was.store.tiers now.store.tiers)
-      → ((F : StoreState) (what : Shown) → IsWhole was F → HasBoth was.store.tiers what
+      → (known was.vault → known now.vault) → ((F : StoreState) → WholeRepresents was F → Follows was.store.tiers now.store.tiers)
+      → ((F : StoreState) (what : Shown) → WholeRepresents was F → HasBoth was.store.tiers what
       → Lasts (Outlasts HasBoth known seen may_leave) (λ (r : Point V). moment r.vault) (OutlastsSince HasBoth left_since) what what (at_point was) (at_point now))
-      → IsKept known seen may_leave moment left_since was now
+      → KeepsStore known seen may_leave moment left_since was now
   kept_settled was now bytes keys sizes stays follows lasts = record {
     bytes = bytes;
     keys = keys;

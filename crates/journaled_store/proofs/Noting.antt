@@ -12,7 +12,7 @@ use Rattle.history.specs.declared.view.Entry.{Entry}
 use Rattle.history.specs.Entries.{Course}
 use Rattle.unit_store.specs.Views.{DriveView}
 use Rattle.cached_drive.specs.Saving.{Units}
-use Rattle.journaled_store.specs.Steps.{HasDrives, HasMarks, IsInStep, HasMarksAfter, LeadsTo, mark_of, table_write, view_at, views_to}
+use Rattle.journaled_store.specs.Steps.{HasDrives, HasMarks, IsInStep, HasMarksAfter, LeadsTo, loss_mark, table_write, view_at, views_to}
 use Rattle.journaled_store.proofs.Leading.{shown_at}
 
 -- the batch is as it was, or has the table's write more
@@ -53,13 +53,13 @@ module _ (log : List (Entry Units)) (lost : List Bool) (n : ℕ) (drives : List 
     each = λ d at v there on. let low = (seen_at d v there).0 in other_units batch more marks c d at put (omega (arith, low, few)) ∙ has.each d at v there on;
   }
 
-  pub shown_marks : (marks : List ℕ) → length lost ≡ 16 → marks ≡ map mark_of lost → HasMarks drives marks
+  pub shown_marks : (marks : List ℕ) → length lost ≡ 16 → marks ≡ map loss_mark lost → HasMarks drives marks
   shown_marks marks long reported = record {
     each = λ d v there.
         let one = seen_at d v there in
         let low = one.0 in
-        ap (λ l. slice_get l d) reported ∙ slice_get-map mark_of lost d ∙ ap (option_map mark_of) (slice_get-get_or lost d true (omega (arith, low, few, long)))
-        ∙ ap (λ (w : DriveView). Some (mark_of w.lost)) (sym one.1);
+        ap (λ l. slice_get l d) reported ∙ slice_get-map loss_mark lost d ∙ ap (option_map loss_mark) (slice_get-get_or lost d true (omega (arith, low, few, long)))
+        ∙ ap (λ (w : DriveView). Some (loss_mark w.lost)) (sym one.1);
   }
 
 pub leads_noted : (k now : Course Units) (batch more : List Intended) (marks left : List ℕ) (c : Cells) → LeadsTo k batch marks now more left → HasMarksAfter marks batch c → HasMarksAfter left more c

@@ -6,11 +6,11 @@ use Rattle.std.proofs.lemmas.Option.{none-some, same_Some, slice_get_cases}
 use Rattle.extent_groups.specs.declared.place.Place.{Place}
 use Rattle.extent_groups.specs.Cells.{Cells}
 use Rattle.unit_store.specs.Views.{DriveView}
-use Rattle.journaled_store.specs.declared.wanted.Wanted.{Wanted}
+use Rattle.journaled_store.specs.declared.lookup.Lookup.{Lookup}
 use Rattle.journaled_store.specs.declared.position.ScrubPosition.{ScrubPosition}
-use Rattle.journaled_store.specs.Picking.{IsPicked}
+use Rattle.journaled_store.specs.Picking.{IsLookedUp}
 use Rattle.journaled_store.specs.declared.comparing.Compared.{Compared}
-use Rattle.journaled_store.specs.Scrubbing.{HasNone, HasUnit, IsCompared, IsHeld, IsLast, IsNext, place_of}
+use Rattle.journaled_store.specs.Scrubbing.{HasNone, HasUnit, IsCompared, IsHeldAt, IsLastPosition, IsNextPosition, place_at_position}
 
 -- how many units to compare a position's drive has: all of it, and none if it is lost or there is none; and the unit at the position
 pub record HasUnits (drives : List DriveView) (at : ScrubPosition) (units : ℕ) (unit : List ℕ) : Type 0 where
@@ -34,7 +34,7 @@ below drives d v there = elim (slice_get_cases drives d).1 [
 ]
 
 -- what a walk found of it
-pub units_at : (drives : List DriveView) (lost : List Bool) (count : ℕ) (w : Wanted) (at : ScrubPosition) (units : ℕ) → IsPicked drives lost count w → w.drive ≡ at.drive → w.address ≡ at.address
+pub units_at : (drives : List DriveView) (lost : List Bool) (count : ℕ) (w : Lookup) (at : ScrubPosition) (units : ℕ) → IsLookedUp drives lost count w → w.drive ≡ at.drive → w.address ≡ at.address
     → (at.drive < count → slice_index_or lost at.drive true ≡ false → units ≡ w.units) → (slice_index_or lost at.drive true ≡ true → units ≡ 0) → (count ≤ at.drive → units ≡ 0)
     → HasUnits drives at units w.unit.items
 units_at drives lost count w at units is drive address some gone none = record {
@@ -56,7 +56,7 @@ units_at drives lost count w at units is drive address some gone none = record {
     mark v there = ap (λ d. slice_index_or lost d true) (sym drive) ∙ is.lost_is v (moved v there)
 
 module _ (drives : List DriveView) (at : ScrubPosition) (units : ℕ) (unit : List ℕ) (has : HasUnits drives at units unit) where
-  last_bound : IsLast drives at → units ≤ suc at.address
+  last_bound : IsLastPosition drives at → units ≤ suc at.address
   last_bound last = elim (slice_get_cases drives at.drive).1 [
     | inl is ↦ elim (either is.0.lost) [
       | inl on ↦ (let n = has.lost is.0 is.2 on in omega (arith, n))
@@ -69,7 +69,7 @@ module _ (drives : List DriveView) (at : ScrubPosition) (units : ℕ) (unit : Li
       → (at.address + 1 < units → (next.drive ≡ at.drive) × (next.address ≡ at.address + 1) × (ends ≡ false))
       → (units ≤ at.address + 1 → at.drive + 1 < length drives → (next.drive ≡ at.drive + 1) × (next.address ≡ 0) × (ends ≡ false))
       → (units ≤ at.address + 1 → length drives ≤ at.drive + 1 → (next.drive ≡ 0) × (next.address ≡ 0) × (ends ≡ true))
-      → IsNext drives at next ends
+      → IsNextPosition drives at next ends
   next_at next ends on over back = record {
     on = λ v there present within.
         let n = has.all v there present in
@@ -97,7 +97,7 @@ module _ (drives : List DriveView) (at : ScrubPosition) (units : ℕ) (unit : Li
   ]
 
 -- the same of what a walk found
-module _ (drives : List DriveView) (lost : List Bool) (count : ℕ) (w : Wanted) (at : ScrubPosition) (units : ℕ) (is : IsPicked drives lost count w) (place : (w.drive ≡ at.drive) × (w.address ≡ at.address))
+module _ (drives : List DriveView) (lost : List Bool) (count : ℕ) (w : Lookup) (at : ScrubPosition) (units : ℕ) (is : IsLookedUp drives lost count w) (place : (w.drive ≡ at.drive) × (w.address ≡ at.address))
     (all : at.drive < count → slice_index_or lost at.drive true ≡ false → units ≡ w.units) (gone : slice_index_or lost at.drive true ≡ true → units ≡ 0) (past : count ≤ at.drive → units ≡ 0) where
   found : HasUnits drives at units w.unit.items
   found = units_at drives lost count w at units is place.0 place.1 all gone past
@@ -106,7 +106,7 @@ module _ (drives : List DriveView) (lost : List Bool) (count : ℕ) (w : Wanted)
       → (at.address + 1 < units → (next.drive ≡ at.drive) × (next.address ≡ at.address + 1) × (ends ≡ false))
       → (units ≤ at.address + 1 → at.drive + 1 < count → (next.drive ≡ at.drive + 1) × (next.address ≡ 0) × (ends ≡ false))
       → (units ≤ at.address + 1 → count ≤ at.drive + 1 → (next.drive ≡ 0) × (next.address ≡ 0) × (ends ≡ true))
-      → IsNext drives at next ends
+      → IsNextPosition drives at next ends
   picked_next next ends on over back = next_at drives at units w.unit.items found next ends on
       (λ high low. over high (let c = is.count_is in omega (arith, low, c)))
       (λ high more. back high (let c = is.count_is in omega (arith, more, c)))
@@ -127,13 +127,13 @@ module _ (drives : List DriveView) (lost : List Bool) (count : ℕ) (w : Wanted)
 
 -- what a comparison with the array's unit says
 module _ (attested : Place → Type 0) (c : Cells) (drives : List DriveView) (at : ScrubPosition) (unit : List ℕ) where
-  same_held : (found : Compared) → HasUnit drives at unit → IsCompared attested c (place_of at) unit found → found ≡ Compared.Same → IsHeld attested c drives at
+  same_held : (found : Compared) → HasUnit drives at unit → IsCompared attested c (place_at_position at) unit found → found ≡ Compared.Same → IsHeldAt attested c drives at
   same_held found has is same =
-      let held = subst (λ x. IsCompared attested c (place_of at) unit x) same is in
+      let held = subst (λ x. IsCompared attested c (place_at_position at) unit x) same is in
       record { unit = unit; array = has; vault = held.1; digest = held.0 }
 
-  pub found_held : (found : Compared) → HasUnit drives at unit → IsCompared attested c (place_of at) unit found → ◌≡◌ {A = Option Compared} (Some found) (Some Compared.Same) → IsHeld attested c drives at
+  pub found_held : (found : Compared) → HasUnit drives at unit → IsCompared attested c (place_at_position at) unit found → ◌≡◌ {A = Option Compared} (Some found) (Some Compared.Same) → IsHeldAt attested c drives at
   found_held found has is same = same_held found has is (same_Some found Compared.Same same)
 
-  pub found_waits : (found : Compared) → IsCompared attested c (place_of at) unit found → ◌≡◌ {A = Option Compared} (Some found) (Some Compared.Waits) → attested (place_of at)
-  found_waits found is same = subst (λ x. IsCompared attested c (place_of at) unit x) (same_Some found Compared.Waits same) is
+  pub found_waits : (found : Compared) → IsCompared attested c (place_at_position at) unit found → ◌≡◌ {A = Option Compared} (Some found) (Some Compared.Waits) → attested (place_at_position at)
+  found_waits found is same = subst (λ x. IsCompared attested c (place_at_position at) unit x) (same_Some found Compared.Waits same) is

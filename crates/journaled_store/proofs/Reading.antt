@@ -3,7 +3,7 @@ use Rattle.std.proofs.Common.{◌≡◌, inl, inr, ℕ, arith, ◌∙◌}
 use Rattle.vault.specs.Images.{Image}
 use Rattle.vault.specs.Moments.{Elapses}
 use Rattle.vault.specs.declared.store.Stop.{Stop}
-use Rattle.journaled_store.specs.Keeping.{OnlyRead}
+use Rattle.journaled_store.specs.Keeping.{OnlyReadKnown}
 
 -- time goes on by two calls that only read
 pub elapses_more : {I : Type 0} (a b c : ℕ) (one two three : ℕ → I → Type 0) (here there then : I → Type 0)
@@ -20,7 +20,7 @@ elapses_more a b c one two three here there then x y = record {
 
 -- two calls that only read
 pub read_more : {V : Type 0} (known : V → Type 0) (seen : V → Image) (may_leave : V → Stop → Image → Type 0) (moment : V → ℕ) (left_since : V → Stop → ℕ → Image → Type 0) (old mid new : V)
-    → OnlyRead known seen may_leave moment left_since old mid → OnlyRead known seen may_leave moment left_since mid new → OnlyRead known seen may_leave moment left_since old new
+    → OnlyReadKnown known seen may_leave moment left_since old mid → OnlyReadKnown known seen may_leave moment left_since mid new → OnlyReadKnown known seen may_leave moment left_since old new
 read_more known seen may_leave moment left_since old mid new one two = record {
   stays = two.stays;
   finds = two.finds ∙ one.finds;

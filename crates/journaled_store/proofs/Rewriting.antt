@@ -13,11 +13,11 @@ use Rattle.vault.specs.Images.{is_lost}
 use Rattle.vault.proofs.Writes.{after_both}
 use Rattle.journaled_store.specs.Steps.{HasDrives, IsInStep, IsUpToDate}
 use Rattle.journaled_store.specs.declared.position.ScrubPosition.{ScrubPosition}
-use Rattle.journaled_store.specs.Scrubbing.{HasUnit, place_of}
+use Rattle.journaled_store.specs.Scrubbing.{HasUnit, place_at_position}
 
 -- a unit for a position
 abbrev pub write_of : ScrubPosition → List ℕ → Intended
-write_of at unit = record { place = place_of at; unit = unit }
+write_of at unit = record { place = place_at_position at; unit = unit }
 
 -- writing over a place what it holds changes nothing
 same_write : (c : Cells) (at : ScrubPosition) (unit : List ℕ) → c at.drive at.address ≡ Some unit → (d a : ℕ) → after c (write_of at unit ∷ []) d a ≡ c d a
@@ -64,7 +64,7 @@ write_to place unit = record { place = place; unit = unit }
 
 -- the same, where it was put into the batch or not
 pub live_put : {E : Type 0} (lost : List Bool) (k : Course Units) (marks : List ℕ) (batch more : List Intended) (c : Cells) (drives : List DriveView) (at : ScrubPosition) (unit : List ℕ) (place : Place) (r : Result (Unit {0}) E)
-    → place ≡ place_of at → at.drive < 16 → HasUnit drives at unit → HasDrives lost drives (after c batch) → IsUpToDate lost k marks batch c
+    → place ≡ place_at_position at → at.drive < 16 → HasUnit drives at unit → HasDrives lost drives (after c batch) → IsUpToDate lost k marks batch c
     → OnOk r (more ≡ batch ++ write_to place unit ∷ []) → OnErr r (more ≡ batch) → IsUpToDate lost k marks more c
 live_put lost k marks batch more c drives at unit place (Ok x) is low has holds live ok err =
     subst (λ (ws : List Intended). IsUpToDate lost k marks ws c) (sym (ok ∙ ap (λ (p : Place). batch ++ write_to p unit ∷ []) is)) (live_again lost k marks batch c drives at unit low has holds live)

@@ -16,7 +16,7 @@ use Rattle.journaled_store.specs.Outlasting.{Outlasts, OutlastsSince, Point}
 use Rattle.journaled_store.specs.declared.store.JournaledStore.{JournaledStore}
 
 -- a vault was only read: later calls find what they found before, and a stop leaves what it left before
-pub record OnlyRead {V : Type 0} (known : V → Type 0) (seen : V → Image) (may_leave : V → Stop → Image → Type 0) (moment : V → ℕ) (left_since : V → Stop → ℕ → Image → Type 0) (old new : V) : Type 0 where
+pub record OnlyReadKnown {V : Type 0} (known : V → Type 0) (seen : V → Image) (may_leave : V → Stop → Image → Type 0) (moment : V → ℕ) (left_since : V → Stop → ℕ → Image → Type 0) (old new : V) : Type 0 where
   pub stays : known new
   pub finds : seen new ≡ seen old
   pub time : (stop : Stop) → Elapses (moment old) (moment new) (left_since old stop) (left_since new stop) (may_leave old stop) (may_leave new stop)
@@ -39,16 +39,16 @@ abbrev pub at_point : {V : Type 0} → Whole V → Point V
 at_point w = record { keeper = w.keeper; noted = w.noted; batch = w.batch; failed = w.failed; tiers = w.store.tiers; vault = w.vault }
 
 -- the flat stores that it represents
-abbrev pub IsWhole : {V : Type 0} → Whole V → StoreState → Type 0
-IsWhole w = IsStoreOf w.store.tiers w.store.size w.unsynced
+abbrev pub WholeRepresents : {V : Type 0} → Whole V → StoreState → Type 0
+WholeRepresents w = IsStoreOf w.store.tiers w.store.size w.unsynced
 
 -- The bytes, the block map, the sizes, the groups and drives stay, and a drive that was lost is lost. What a stop leaves of it at any moment
 -- is what one before would have left, or what it shows.
-pub record IsKept {V : Type 0} (known : V → Type 0) (seen : V → Image) (may_leave : V → Stop → Image → Type 0) (moment : V → ℕ) (left_since : V → Stop → ℕ → Image → Type 0) (was now : Whole V) : Type 0 where
-  pub bytes : (F : StoreState) → IsWhole was F → IsWhole now F
-  pub keys : (F : StoreState) → IsWhole was F → (block : ℕ) → key_at now.store.tiers.world.array block ≡ key_at was.store.tiers.world.array block
+pub record KeepsStore {V : Type 0} (known : V → Type 0) (seen : V → Image) (may_leave : V → Stop → Image → Type 0) (moment : V → ℕ) (left_since : V → Stop → ℕ → Image → Type 0) (was now : Whole V) : Type 0 where
+  pub bytes : (F : StoreState) → WholeRepresents was F → WholeRepresents now F
+  pub keys : (F : StoreState) → WholeRepresents was F → (block : ℕ) → key_at now.store.tiers.world.array block ≡ key_at was.store.tiers.world.array block
   pub sizes : (now.store.size ≡ was.store.size) × (now.store.tiers.world.array.parts.groups.payload ≡ was.store.tiers.world.array.parts.groups.payload)
   pub stays : known was.vault → known now.vault
-  pub follows : (F : StoreState) → IsWhole was F → Follows was.store.tiers now.store.tiers
-  pub lasts : (F : StoreState) (what : Shown) → IsWhole was F → Shows was.store.tiers.world.array.keys F what
+  pub follows : (F : StoreState) → WholeRepresents was F → Follows was.store.tiers now.store.tiers
+  pub lasts : (F : StoreState) (what : Shown) → WholeRepresents was F → Shows was.store.tiers.world.array.keys F what
       → Lasts (Outlasts HasBoth known seen may_leave) (λ p. moment p.vault) (OutlastsSince HasBoth left_since) what what (at_point was) (at_point now)

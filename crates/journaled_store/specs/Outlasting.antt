@@ -56,8 +56,8 @@ abbrev pub point : {N V : Type 0} {names : Ghosts N} → JournaledStore N V name
 point s = record { keeper = s.changes.keeper; noted = s.changes.noted; batch = s.changes.batch; failed = s.failed; tiers = s.store.tiers; vault = s.vault }
 
 -- the flat stores that a store represents, and its sizes
-abbrev pub Represents : {N V : Type 0} {names : Ghosts N} → JournaledStore N V names → StoreState → Type 0
-Represents s = IsStoreOf s.store.tiers s.store.size s.unsynced
+abbrev pub RepresentsStore : {N V : Type 0} {names : Ghosts N} → JournaledStore N V names → StoreState → Type 0
+RepresentsStore s = IsStoreOf s.store.tiers s.store.size s.unsynced
 
 abbrev pub sizes_of : {N V : Type 0} {names : Ghosts N} → JournaledStore N V names → Sizes
 sizes_of s = record { bytes = s.store.size; block = s.store.tiers.world.array.parts.groups.payload }

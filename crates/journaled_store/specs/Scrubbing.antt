@@ -10,19 +10,19 @@ use Rattle.journaled_store.specs.declared.comparing.Compared.{Compared}
 use Rattle.journaled_store.specs.declared.comparing.Compared.TheVariants as found
 
 -- the place of the unit at a position
-abbrev pub place_of : ScrubPosition → Place
-place_of at = record { drive = at.drive; address = at.address }
+abbrev pub place_at_position : ScrubPosition → Place
+place_at_position at = record { drive = at.drive; address = at.address }
 
 -- the unit is the last of its drive, or that is lost, or there is none
-abbrev pub IsLast : List DriveView → ScrubPosition → Type 0
-IsLast drives at = (v : DriveView) → slice_get drives at.drive ≡ Some v → v.lost ≡ false → length v.units ≤ suc at.address
+abbrev pub IsLastPosition : List DriveView → ScrubPosition → Type 0
+IsLastPosition drives at = (v : DriveView) → slice_get drives at.drive ≡ Some v → v.lost ≡ false → length v.units ≤ suc at.address
 
 -- The position after another one: the next unit of its drive, else the first of the next drive, else the first of all. There a round ends.
-pub record IsNext (drives : List DriveView) (at next : ScrubPosition) (ends : Bool) : Type 0 where
+pub record IsNextPosition (drives : List DriveView) (at next : ScrubPosition) (ends : Bool) : Type 0 where
   pub on : (v : DriveView) → slice_get drives at.drive ≡ Some v → v.lost ≡ false → suc at.address < length v.units
       → (next.drive ≡ at.drive) × (next.address ≡ suc at.address) × (ends ≡ false)
-  pub over : IsLast drives at → suc at.drive < length drives → (next.drive ≡ suc at.drive) × (next.address ≡ 0) × (ends ≡ false)
-  pub back : IsLast drives at → length drives ≤ suc at.drive → (next.drive ≡ 0) × (next.address ≡ 0) × (ends ≡ true)
+  pub over : IsLastPosition drives at → suc at.drive < length drives → (next.drive ≡ suc at.drive) × (next.address ≡ 0) × (ends ≡ false)
+  pub back : IsLastPosition drives at → length drives ≤ suc at.drive → (next.drive ≡ 0) × (next.address ≡ 0) × (ends ≡ true)
 
 -- there is no unit to compare: the drive is lost, or has none there, or there is no such drive
 abbrev pub HasNone : List DriveView → ScrubPosition → Type 0
@@ -36,11 +36,11 @@ pub record HasUnit (drives : List DriveView) (at : ScrubPosition) (unit : List �
   pub unit_is : slice_get view.units at.address ≡ Some unit
 
 -- what lies in the vault is the array's unit, and as its digest says
-pub record IsHeld (attested : Place → Type 0) (c : Cells) (drives : List DriveView) (at : ScrubPosition) : Type 0 where
+pub record IsHeldAt (attested : Place → Type 0) (c : Cells) (drives : List DriveView) (at : ScrubPosition) : Type 0 where
   pub unit : List ℕ
   pub array : HasUnit drives at unit
-  pub vault : held c (place_of at) ≡ Some unit
-  pub digest : attested (place_of at)
+  pub vault : held c (place_at_position at) ≡ Some unit
+  pub digest : attested (place_at_position at)
 
 -- what a comparison with a unit says of the one in the vault
 abbrev pub IsCompared : (attested : Place → Type 0) → Cells → Place → List ℕ → Compared → Type 0
@@ -83,6 +83,6 @@ IsFailed done.Waits = ⊥
 IsFailed done.Skipped = ⊥
 
 -- The position moves to the next unit, and a round that ends is counted; a failure may leave both.
-abbrev pub HasMoved : List DriveView → ScrubPosition → ℕ → ScrubPosition → ℕ → Scrubbed → Type 0
-HasMoved drives at rounds next more outcome = ((ends : Bool) × IsNext drives at next ends × (more ≡ rounds_after rounds ends))
+abbrev pub HasAdvanced : List DriveView → ScrubPosition → ℕ → ScrubPosition → ℕ → Scrubbed → Type 0
+HasAdvanced drives at rounds next more outcome = ((ends : Bool) × IsNextPosition drives at next ends × (more ≡ rounds_after rounds ends))
     ⊎ (IsFailed outcome × (next ≡ at) × (more ≡ rounds))

@@ -52,9 +52,9 @@ pub record HasDrives (lost : List Bool) (drives : List DriveView) (c : Cells) : 
   pub each : (d at : ℕ) (v : DriveView) → slice_get drives d ≡ Some v → is_lost lost d ≡ false → c d at ≡ slice_get v.units at
 
 -- the mark of a drive in the table: 1 if it is lost
-abbrev pub mark_of : Bool → ℕ
-mark_of false = 0
-mark_of true = 1
+abbrev pub loss_mark : Bool → ℕ
+loss_mark false = 0
+loss_mark true = 1
 
 -- the write of the table
 abbrev pub table_write : List ℕ → Intended
@@ -66,7 +66,7 @@ HasMarksAfter marks batch c = after c batch 16 0 ≡ Some marks
 
 -- the marks say of each drive whether it is lost
 pub record HasMarks (drives : List DriveView) (marks : List ℕ) : Type 0 where
-  pub each : (d : ℕ) (v : DriveView) → slice_get drives d ≡ Some v → slice_get marks d ≡ Some (mark_of v.lost)
+  pub each : (d : ℕ) (v : DriveView) → slice_get drives d ≡ Some v → slice_get marks d ≡ Some (loss_mark v.lost)
 
 -- the table has the same units but for its marks
 abbrev pub SameTable : Cells → Cells → Type 0

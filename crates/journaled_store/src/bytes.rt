@@ -1,7 +1,7 @@
 // A journaled store as a store of bytes.
 ghost use Rattle.array_store.specs.Stores.{Follows};
 ghost use Rattle.journaled_store.specs.Left.{HasBoth};
-ghost use Rattle.journaled_store.specs.Outlasting.{Outlasts, OutlastsSince, Represents, point, sizes_of};
+ghost use Rattle.journaled_store.specs.Outlasting.{Outlasts, OutlastsSince, RepresentsStore, point, sizes_of};
 
 use crate::store::JournaledStore;
 use byte_store::{ByteStore, StoreFault};
@@ -10,7 +10,7 @@ use std::alloc::Global;
 use vault::Vault;
 
 impl<N: Chronicle, V: Vault + Drop> ByteStore for JournaledStore<N, V> {
-    ghost represents = { λ s. Represents s };
+    ghost represents = { λ s. RepresentsStore s };
 
     ghost sizes = { λ s. sizes_of s };
 

@@ -1,10 +1,10 @@
 // What an array's drives have that no batch of a vault has yet.
 ghost use Rattle.std.specs.Prelude.{◌≡◌, ◌≢◌, ◌≤◌, ◌<◌, ◌+◌, ◌++◌, ◌⊎◌, [], ◌∷◌, ℕ, length, map, slice_set, true, OnOk, OnErr, IfOk};
 ghost use Rattle.unit_store.specs.Views.{DriveView, drive_view};
-ghost use Rattle.journaled_store.specs.Steps.{LeadsTo, views_to, mark_of, table_write};
+ghost use Rattle.journaled_store.specs.Steps.{LeadsTo, views_to, loss_mark, table_write};
 ghost use Rattle.journaled_store.specs.Picking.{Picks};
 
-use crate::wanted::{Wanted, look};
+use crate::lookup::{Lookup, look};
 use cached_drive::{CachedDrive, Saved};
 use extent_groups::Place;
 use extents::{DRIVES, Drive};
@@ -32,7 +32,7 @@ pub struct Changes<N: Chronicle> {
     /// Drives that failed the vault. Each is doomed when it is shown.
     pub(crate) failed: [bool; DRIVES],
     /// The unit of the drives that is compared with the vault's.
-    pub(crate) wanted: Wanted,
+    pub(crate) lookup: Lookup,
 }
 
 impl<N: Chronicle> Changes<N> {
@@ -56,7 +56,7 @@ impl<N: Chronicle> Changes<N> {
             noted,
             appended: 0,
             failed: [false; DRIVES],
-            wanted: Wanted {
+            lookup: Lookup {
                 drive: 0,
                 address: 0,
                 units: 0,
@@ -75,19 +75,19 @@ impl<N: Chronicle> Changes<N> {
 }
 
 // A drive's mark in the table.
-fn mark_of(is_lost: bool) -> u8
-    ensures { result ≡ mark_of is_lost }
+fn loss_mark(is_lost: bool) -> u8
+    ensures { result ≡ loss_mark is_lost }
 {
     if is_lost { 1 } else { 0 }
 }
 
 // The table's unit: a mark for each drive.
 pub(crate) fn marks_of(lost: &[bool; DRIVES]) -> [u8; DRIVES]
-    ensures { result ≡ map mark_of lost.now }
+    ensures { result ≡ map loss_mark lost.now }
 {
     let mut marks = [0u8; DRIVES];
     for drive in 0..DRIVES {
-        marks[drive] = mark_of(lost[drive]);
+        marks[drive] = loss_mark(lost[drive]);
     }
     marks
 }
@@ -96,8 +96,8 @@ pub(crate) fn marks_of(lost: &[bool; DRIVES]) -> [u8; DRIVES]
 pub(crate) fn note_lost<N: Chronicle>(changes: &mut Changes<N>) -> Result<(), AllocError>
     ensures keeper { changes.new.keeper ≡ changes.old.keeper }
     ensures shown { (changes.new.lost ≡ changes.old.lost) × (changes.new.next ≡ changes.old.next) }
-    ensures wanted { changes.new.wanted ≡ changes.old.wanted }
-    ensures noted { OnOk result (changes.new.noted ≡ map mark_of changes.old.lost) }
+    ensures lookup { changes.new.lookup ≡ changes.old.lookup }
+    ensures noted { OnOk result (changes.new.noted ≡ map loss_mark changes.old.lost) }
     ensures batch { (changes.new.batch ≡ changes.old.batch) ⊎ (changes.new.batch ≡ changes.old.batch ++ table_write changes.new.noted ∷ []) }
     ensures same { changes.new.batch ≡ changes.old.batch → changes.new.noted ≡ changes.old.noted }
     ensures err { OnErr result (changes.new.batch ≡ changes.old.batch) }
@@ -143,13 +143,13 @@ impl<N: Chronicle> Visit<CachedDrive<N>> for Changes<N> {
 
     ghost shown = { λ c. views_to c.keeper.log c.lost c.next };
 
-    ghost leads_to = { λ c d. LeadsTo c.keeper c.batch c.noted d.keeper d.batch d.noted × Picks c.next c.keeper.log c.wanted d.next d.keeper.log d.wanted };
+    ghost leads_to = { λ c d. LeadsTo c.keeper c.batch c.noted d.keeper d.batch d.noted × Picks c.next c.keeper.log c.lookup d.next d.keeper.log d.lookup };
 
-    ghost stays = { λ c. (leads_stays c.keeper c.batch c.noted, picks_stays c.next c.keeper.log c.wanted) };
+    ghost stays = { λ c. (leads_stays c.keeper c.batch c.noted, picks_stays c.next c.keeper.log c.lookup) };
 
     ghost further = { λ c d e one two. (
       leads_further c.keeper c.batch c.noted d.keeper d.batch d.noted e.keeper e.batch e.noted one.0 two.0,
-      picks_further c.next c.keeper.log c.wanted d.next d.keeper.log d.wanted e.next e.keeper.log e.wanted one.1 two.1,
+      picks_further c.next c.keeper.log c.lookup d.next d.keeper.log d.lookup e.next e.keeper.log e.lookup one.1 two.1,
     ) };
 
     // A drive is saved under its own number. One of another number, or with other units, ends the walk, and so does memory that is
@@ -159,7 +159,7 @@ impl<N: Chronicle> Visit<CachedDrive<N>> for Changes<N> {
         if usize::from(number) >= DRIVES || drive.number() != u64::from(number) {
             return false;
         }
-        if drive.unit_bytes() != self.unit.len() || drive.unit_bytes() != self.wanted.unit.len() {
+        if drive.unit_bytes() != self.unit.len() || drive.unit_bytes() != self.lookup.unit.len() {
             return false;
         }
         let unit: &mut [u8] = &mut self.unit;
@@ -171,7 +171,7 @@ impl<N: Chronicle> Visit<CachedDrive<N>> for Changes<N> {
             &mut self.batch,
         ) {
             Ok(()) => {
-                look(&mut self.wanted, drive, number);
+                look(&mut self.lookup, drive, number);
                 doom_failed(drive, self.failed[usize::from(number)]);
                 mark(&mut self.lost, number, drive.is_lost());
                 self.next += 1;

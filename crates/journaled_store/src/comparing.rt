@@ -1,7 +1,7 @@
 // A unit of a vault is compared with another one.
 ghost use Rattle.std.specs.Prelude.{◌≡◌, ◌+◌, length, true, IfOk};
 ghost use Rattle.vault.specs.Images.{Image};
-ghost use Rattle.journaled_store.specs.Keeping.{OnlyRead};
+ghost use Rattle.journaled_store.specs.Keeping.{OnlyReadKnown};
 ghost use Rattle.journaled_store.specs.Scrubbing.{IsCompared, IsPending};
 ghost use Rattle.journaled_store.specs.declared.comparing.Compared.TheVariants.{Waits};
 
@@ -30,7 +30,7 @@ pub(crate) fn compare<V: Vault>(
     out: &mut [u8],
 ) -> Result<Compared, VaultError>
     requires size { length out.old ≡ length unit.now }
-    ensures reads { V.known vault.old → OnlyRead V.known V.seen V.may_leave V.moment V.left_since vault.old vault.new }
+    ensures reads { V.known vault.old → OnlyReadKnown V.known V.seen V.may_leave V.moment V.left_since vault.old vault.new }
     ensures found { V.known vault.old → IfOk result (λ found. IsCompared (V.attested vault.new) (Image.cells (V.seen vault.new)) place unit.now found) }
     ensures waits { V.known vault.old → IfOk result (λ found. found ≡ Waits → IsPending (length (Image.journal (V.seen vault.new))) waiting) }
 {

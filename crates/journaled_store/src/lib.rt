@@ -5,12 +5,12 @@ mod append;
 mod bytes;
 mod changes;
 mod comparing;
+mod lookup;
 mod position;
 mod publishing;
 mod scrubbing;
 mod settling;
 mod store;
-mod wanted;
 
 pub use changes::Changes;
 pub use position::{ScrubPosition, Scrubbed};

@@ -1,6 +1,6 @@
 // Which unit is compared next, and how many were.
 ghost use Rattle.std.specs.Prelude.{◌≡◌, ◌<◌, ◌≤◌, ◌+◌, false, true};
-ghost use Rattle.journaled_store.specs.Scrubbing.{compared_after, repaired_after, rounds_after, place_of};
+ghost use Rattle.journaled_store.specs.Scrubbing.{compared_after, repaired_after, rounds_after, place_at_position};
 
 use byte_store::StoreFault;
 use extent_groups::Place;
@@ -110,8 +110,8 @@ impl Scrub {
 }
 
 /// The place of the unit at a position.
-pub(crate) fn place_of(at: ScrubPosition) -> Place
-    ensures { result ≡ place_of at }
+pub(crate) fn place_at_position(at: ScrubPosition) -> Place
+    ensures { result ≡ place_at_position at }
 {
     Place {
         drive: at.drive,

@@ -8,7 +8,7 @@ ghost use Rattle.vault.specs.Moments.{LeavesOnly, IsLogged, RepresentsSome};
 ghost use Rattle.vault.specs.declared.store.Stop.{Stop};
 ghost use Rattle.vault.specs.declared.store.Stop.TheVariants.{Killed};
 ghost use Rattle.journaled_store.specs.Steps.{HasDrives, HasMarks, IsBeforeOrNow, IsInStep, IsPersisted, IsUpToDate, HasMarksAfter, SameTable, UnlessSync, fault_of};
-ghost use Rattle.journaled_store.specs.Picking.{IsPicked};
+ghost use Rattle.journaled_store.specs.Picking.{IsLookedUp};
 
 use crate::append::append;
 use crate::changes::{Changes, note_lost};
@@ -44,8 +44,8 @@ pub(crate) fn collect<N: Chronicle>(
     ensures marks { result ≡ true → HasMarks store.old.tiers.world.array.parts.drives changes.new.noted }
 
     // The unit that is asked for.
-    ensures place { (changes.new.wanted.drive ≡ changes.old.wanted.drive) × (changes.new.wanted.address ≡ changes.old.wanted.address) }
-    ensures picked { result ≡ true → IsPicked store.old.tiers.world.array.parts.drives changes.new.lost changes.new.next changes.new.wanted }
+    ensures place { (changes.new.lookup.drive ≡ changes.old.lookup.drive) × (changes.new.lookup.address ≡ changes.old.lookup.address) }
+    ensures picked { result ≡ true → IsLookedUp store.old.tiers.world.array.parts.drives changes.new.lost changes.new.next changes.new.lookup }
 {
     changes.next = 0;
     if changes.keeper.hired() > DRIVES as u64 {

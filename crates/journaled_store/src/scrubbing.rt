@@ -2,12 +2,12 @@
 ghost use Rattle.std.specs.Prelude.{◌≡◌, ◌<◌, ◌≤◌, ◌+◌, [], ◌∷◌, ℕ, List, Bool, length, slice_index_or, Some, None, false, true, OnOk, IfOk, IfSome};
 ghost use Rattle.extent_groups.specs.Cells.{Cells};
 ghost use Rattle.vault.specs.Images.{Image};
-ghost use Rattle.journaled_store.specs.Keeping.{IsKept, whole};
-ghost use Rattle.journaled_store.specs.Scrubbing.{HasMoved, HasNone, HasUnit, IsCompared, IsHeld, IsNext, IsPending, compared_after, place_of, repaired_after};
+ghost use Rattle.journaled_store.specs.Keeping.{KeepsStore, whole};
+ghost use Rattle.journaled_store.specs.Scrubbing.{HasAdvanced, HasNone, HasUnit, IsCompared, IsHeldAt, IsNextPosition, IsPending, compared_after, place_at_position, repaired_after};
 
 use crate::changes::Changes;
 use crate::comparing::{Compared, compare};
-use crate::position::{ScrubPosition, Scrubbed, Step, place_of, step_from};
+use crate::position::{ScrubPosition, Scrubbed, Step, place_at_position, step_from};
 use crate::publishing::{collect, fault_of};
 use crate::store::{JournaledStore, has_lost_two, is_lost};
 use byte_store::StoreFault;
@@ -31,14 +31,14 @@ struct Checked {
 
 // How many units to compare a drive has, if it was shown: none if it is lost.
 fn units_of<N: Chronicle>(changes: &Changes<N>, drive: u8) -> u32
-    ensures all { drive < changes.now.next → slice_index_or changes.now.lost drive true ≡ false → result ≡ changes.now.wanted.units }
+    ensures all { drive < changes.now.next → slice_index_or changes.now.lost drive true ≡ false → result ≡ changes.now.lookup.units }
     ensures lost { slice_index_or changes.now.lost drive true ≡ true → result ≡ 0 }
     ensures past { changes.now.next ≤ drive → result ≡ 0 }
 {
     if drive >= changes.next || is_lost(&changes.lost, drive) {
         return 0;
     }
-    changes.wanted.units
+    changes.lookup.units
 }
 
 impl<N: Chronicle, V: Vault + Drop> JournaledStore<N, V> {
@@ -48,10 +48,10 @@ impl<N: Chronicle, V: Vault + Drop> JournaledStore<N, V> {
     /// the array's after it was written.
     pub fn scrub_unit(&mut self) -> Scrubbed
         // The bytes stay, and what a stop leaves is what the store shows.
-        ensures kept { IsKept V.known V.seen V.may_leave V.moment V.left_since (whole self.old) (whole self.new) }
+        ensures kept { KeepsStore V.known V.seen V.may_leave V.moment V.left_since (whole self.old) (whole self.new) }
 
         // Each unit is reached, in the order of the drives and of their addresses.
-        ensures moves { HasMoved self.old.store.tiers.world.array.parts.drives self.old.scrub.position self.old.scrub.rounds
+        ensures moves { HasAdvanced self.old.store.tiers.world.array.parts.drives self.old.scrub.position self.old.scrub.rounds
             self.new.scrub.position self.new.scrub.rounds result }
         ensures counts { (self.new.scrub.scrubbed ≡ compared_after self.old.scrub.scrubbed result)
             × (self.new.scrub.repaired ≡ repaired_after self.old.scrub.repaired result) }
@@ -59,11 +59,11 @@ impl<N: Chronicle, V: Vault + Drop> JournaledStore<N, V> {
         // What lies in the vault after it.
         ensures skipped { result ≡ Scrubbed.Skipped → HasNone self.old.store.tiers.world.array.parts.drives self.old.scrub.position }
         ensures same { V.known self.old.vault → result ≡ Scrubbed.Same
-            → IsHeld (V.attested self.new.vault) (Image.cells (V.seen self.new.vault)) self.new.store.tiers.world.array.parts.drives self.old.scrub.position }
+            → IsHeldAt (V.attested self.new.vault) (Image.cells (V.seen self.new.vault)) self.new.store.tiers.world.array.parts.drives self.old.scrub.position }
         ensures repaired { V.known self.old.vault → result ≡ Scrubbed.Repaired
-            → IsHeld (V.attested self.new.vault) (Image.cells (V.seen self.new.vault)) self.new.store.tiers.world.array.parts.drives self.old.scrub.position }
+            → IsHeldAt (V.attested self.new.vault) (Image.cells (V.seen self.new.vault)) self.new.store.tiers.world.array.parts.drives self.old.scrub.position }
         ensures waits { V.known self.old.vault → result ≡ Scrubbed.Waits
-            → V.attested self.new.vault (place_of self.old.scrub.position)
+            → V.attested self.new.vault (place_at_position self.old.scrub.position)
             × IsPending (length (Image.journal (V.seen self.new.vault))) (length self.new.changes.batch) }
     {
         // Callees say nothing of it: it is set again at the end.
@@ -82,12 +82,12 @@ impl<N: Chronicle, V: Vault + Drop> JournaledStore<N, V> {
 
     // Writes the unit at a position again, if what was found there needs it.
     fn finish(&mut self, at: ScrubPosition, found: Option<Compared>) -> Scrubbed
-        ensures kept { IsKept V.known V.seen V.may_leave V.moment V.left_since (whole self.old) (whole self.new) }
+        ensures kept { KeepsStore V.known V.seen V.may_leave V.moment V.left_since (whole self.old) (whole self.new) }
         ensures skipped { result ≡ Scrubbed.Skipped → found ≡ None }
         ensures same { result ≡ Scrubbed.Same → (found ≡ Some Compared.Same) × (whole self.new ≡ whole self.old) }
         ensures waits { result ≡ Scrubbed.Waits → (found ≡ Some Compared.Waits) × (whole self.new ≡ whole self.old) }
         ensures repaired { V.known self.old.vault → result ≡ Scrubbed.Repaired
-            → IsHeld (V.attested self.new.vault) (Image.cells (V.seen self.new.vault)) self.new.store.tiers.world.array.parts.drives at }
+            → IsHeldAt (V.attested self.new.vault) (Image.cells (V.seen self.new.vault)) self.new.store.tiers.world.array.parts.drives at }
     {
         match found {
             None => Scrubbed::Skipped,
@@ -102,9 +102,9 @@ impl<N: Chronicle, V: Vault + Drop> JournaledStore<N, V> {
 
     // Writes the array's unit at a position to the vault again, and compares it.
     fn mend(&mut self, at: ScrubPosition) -> Result<(), StoreFault>
-        ensures kept { IsKept V.known V.seen V.may_leave V.moment V.left_since (whole self.old) (whole self.new) }
+        ensures kept { KeepsStore V.known V.seen V.may_leave V.moment V.left_since (whole self.old) (whole self.new) }
         ensures mended { V.known self.old.vault → OnOk result
-            (IsHeld (V.attested self.new.vault) (Image.cells (V.seen self.new.vault)) self.new.store.tiers.world.array.parts.drives at) }
+            (IsHeldAt (V.attested self.new.vault) (Image.cells (V.seen self.new.vault)) self.new.store.tiers.world.array.parts.drives at) }
     {
         if !self.put_again(at) {
             return Err(StoreFault::Memory);
@@ -118,10 +118,10 @@ impl<N: Chronicle, V: Vault + Drop> JournaledStore<N, V> {
 
     // Puts the array's unit at a position into the batch once more. False if out of memory, or if it has none.
     fn put_again(&mut self, at: ScrubPosition) -> bool
-        ensures kept { IsKept V.known V.seen V.may_leave V.moment V.left_since (whole self.old) (whole self.new) }
+        ensures kept { KeepsStore V.known V.seen V.may_leave V.moment V.left_since (whole self.old) (whole self.new) }
     {
-        self.changes.wanted.drive = at.drive;
-        self.changes.wanted.address = at.address;
+        self.changes.lookup.drive = at.drive;
+        self.changes.lookup.address = at.address;
         if !collect(&mut self.store, &mut self.changes) {
             return false;
         }
@@ -130,19 +130,19 @@ impl<N: Chronicle, V: Vault + Drop> JournaledStore<N, V> {
         }
         self.changes
             .batch
-            .push(place_of(at), &self.changes.wanted.unit)
+            .push(place_at_position(at), &self.changes.lookup.unit)
             .is_ok()
     }
 
     // Compares the array's unit at a position with the vault's. `Sync` where nothing can be published.
     fn check(&mut self, at: ScrubPosition) -> Result<Checked, StoreFault>
-        ensures kept { IsKept V.known V.seen V.may_leave V.moment V.left_since (whole self.old) (whole self.new) }
-        ensures next { IfOk result (λ c. IsNext self.old.store.tiers.world.array.parts.drives at c.step.next c.step.ends) }
+        ensures kept { KeepsStore V.known V.seen V.may_leave V.moment V.left_since (whole self.old) (whole self.new) }
+        ensures next { IfOk result (λ c. IsNextPosition self.old.store.tiers.world.array.parts.drives at c.step.next c.step.ends) }
         ensures none { IfOk result (λ c. c.found ≡ None → HasNone self.old.store.tiers.world.array.parts.drives at) }
         ensures same { V.known self.old.vault → IfOk result (λ c. c.found ≡ Some Compared.Same
-            → IsHeld (V.attested self.new.vault) (Image.cells (V.seen self.new.vault)) self.new.store.tiers.world.array.parts.drives at) }
+            → IsHeldAt (V.attested self.new.vault) (Image.cells (V.seen self.new.vault)) self.new.store.tiers.world.array.parts.drives at) }
         ensures waits { V.known self.old.vault → IfOk result (λ c. c.found ≡ Some Compared.Waits
-            → V.attested self.new.vault (place_of at)
+            → V.attested self.new.vault (place_at_position at)
             × IsPending (length (Image.journal (V.seen self.new.vault))) (length self.new.changes.batch)) }
     {
         if self.failed {
@@ -166,44 +166,44 @@ impl<N: Chronicle, V: Vault + Drop> JournaledStore<N, V> {
 
     // Copies the array's unit at a position, and finds what comes after it. None if out of memory.
     fn pick(&mut self, at: ScrubPosition) -> Option<Step>
-        ensures kept { IsKept V.known V.seen V.may_leave V.moment V.left_since (whole self.old) (whole self.new) }
+        ensures kept { KeepsStore V.known V.seen V.may_leave V.moment V.left_since (whole self.old) (whole self.new) }
         ensures vault { self.new.vault ≡ self.old.vault }
-        ensures next { IfSome result (λ s. IsNext self.old.store.tiers.world.array.parts.drives at s.next s.ends) }
+        ensures next { IfSome result (λ s. IsNextPosition self.old.store.tiers.world.array.parts.drives at s.next s.ends) }
         ensures none { IfSome result (λ s. s.is_there ≡ false → HasNone self.old.store.tiers.world.array.parts.drives at) }
         ensures there { IfSome result (λ s. s.is_there ≡ true
-            → HasUnit self.new.store.tiers.world.array.parts.drives at self.new.changes.wanted.unit.items) }
+            → HasUnit self.new.store.tiers.world.array.parts.drives at self.new.changes.lookup.unit.items) }
     {
-        self.changes.wanted.drive = at.drive;
-        self.changes.wanted.address = at.address;
+        self.changes.lookup.drive = at.drive;
+        self.changes.lookup.address = at.address;
         if !collect(&mut self.store, &mut self.changes) {
             return None;
         }
         let units = units_of(&self.changes, at.drive);
         // Else each later walk would copy the unit.
-        self.changes.wanted.drive = NO_DRIVE;
+        self.changes.lookup.drive = NO_DRIVE;
         Some(step_from(at, units, self.changes.next))
     }
 
     // Compares the unit that was copied with the vault's at a position. A drive that fails is lost.
     fn read_back(&mut self, at: ScrubPosition) -> Result<Compared, StoreFault>
-        ensures kept { IsKept V.known V.seen V.may_leave V.moment V.left_since (whole self.old) (whole self.new) }
+        ensures kept { KeepsStore V.known V.seen V.may_leave V.moment V.left_since (whole self.old) (whole self.new) }
         ensures array { OnOk result (self.new.store ≡ self.old.store) }
         ensures found { V.known self.old.vault → IfOk result (λ found. IsCompared (V.attested self.new.vault)
-            (Image.cells (V.seen self.new.vault)) (place_of at) self.old.changes.wanted.unit.items found) }
+            (Image.cells (V.seen self.new.vault)) (place_at_position at) self.old.changes.lookup.unit.items found) }
         ensures waits { V.known self.old.vault → IfOk result (λ found. found ≡ Compared.Waits
             → IsPending (length (Image.journal (V.seen self.new.vault))) (length self.new.changes.batch)) }
     {
-        if self.changes.wanted.read.len() != self.changes.wanted.unit.len() {
+        if self.changes.lookup.read.len() != self.changes.lookup.unit.len() {
             return Err(StoreFault::Memory);
         }
         let waiting = self.changes.batch.len();
-        let unit: &[u8] = &self.changes.wanted.unit;
+        let unit: &[u8] = &self.changes.lookup.unit;
         match compare(
             &mut self.vault,
-            place_of(at),
+            place_at_position(at),
             unit,
             waiting,
-            &mut self.changes.wanted.read,
+            &mut self.changes.lookup.read,
         ) {
             Ok(found) => Ok(found),
             Err(error) => {
@@ -215,7 +215,7 @@ impl<N: Chronicle, V: Vault + Drop> JournaledStore<N, V> {
 
     // Settles where the journal has grown.
     pub(crate) fn settle_grown(&mut self)
-        ensures kept { IsKept V.known V.seen V.may_leave V.moment V.left_since (whole self.old) (whole self.new) }
+        ensures kept { KeepsStore V.known V.seen V.may_leave V.moment V.left_since (whole self.old) (whole self.new) }
     {
         if self.changes.appended >= self.settle_at {
             let _ = self.settle();
@@ -224,7 +224,7 @@ impl<N: Chronicle, V: Vault + Drop> JournaledStore<N, V> {
 
     // Compares a unit, if it is time.
     pub(crate) fn scrub_due(&mut self)
-        ensures kept { IsKept V.known V.seen V.may_leave V.moment V.left_since (whole self.old) (whole self.new) }
+        ensures kept { KeepsStore V.known V.seen V.may_leave V.moment V.left_since (whole self.old) (whole self.new) }
     {
         self.scrub.rests = self.scrub.rests.saturating_add(1);
         if self.scrub.rests >= SCRUB_EVERY {
@@ -235,7 +235,7 @@ impl<N: Chronicle, V: Vault + Drop> JournaledStore<N, V> {
 
     // What is done between requests.
     pub(crate) fn tidy(&mut self)
-        ensures kept { IsKept V.known V.seen V.may_leave V.moment V.left_since (whole self.old) (whole self.new) }
+        ensures kept { KeepsStore V.known V.seen V.may_leave V.moment V.left_since (whole self.old) (whole self.new) }
     {
         self.settle_grown();
         self.scrub_due();

@@ -190,7 +190,7 @@ fn say(rt: &HostRuntime, folder: Folder<'_>, number: u8) {
     }
 }
 
-fn tell(rt: &HostRuntime, number: u8) -> io::Result<()> {
+fn print_added(rt: &HostRuntime, number: u8) -> io::Result<()> {
     let drives = number.saturating_add(1);
     println!(rt; "drive{number} is added: the disk has {drives} drives")
 }
@@ -216,7 +216,7 @@ pub(crate) fn add(rt: &HostRuntime, folder: Folder<'_>, path: Option<&str>) -> R
     let added = add_prepared(rt, grown, file, table, number);
     progress::end(rt, folder);
     added?;
-    match tell(rt, number) {
+    match print_added(rt, number) {
         Ok(()) => Ok(0),
         Err(error) => Err(Trouble::Output(error)),
     }

@@ -44,7 +44,7 @@ fn trouble_of_mending(fault: MendFault) -> Trouble {
     }
 }
 
-fn tell(rt: &HostRuntime, folder: Folder<'_>, count: u32) -> io::Result<()> {
+fn warn_mended(rt: &HostRuntime, folder: Folder<'_>, count: u32) -> io::Result<()> {
     let path = folder.path(rt.alloc(), Name::Folder)?;
     eprintln!(rt;
         "raid_disk: {path}: {count} units weren't as their digests say, and are written again"
@@ -74,7 +74,7 @@ pub(crate) fn mend_disk(rt: &HostRuntime, folder: Folder<'_>) -> Result<u32, Tro
     ) {
         Ok(count) => {
             // Nothing is left to do where standard error can't be written.
-            let _ = tell(rt, folder, count);
+            let _ = warn_mended(rt, folder, count);
             Ok(count)
         }
         Err(fault) => Err(trouble_of_mending(fault)),

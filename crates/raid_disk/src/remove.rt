@@ -96,7 +96,7 @@ fn say(rt: &HostRuntime, folder: Folder<'_>, number: u8) {
     }
 }
 
-fn tell(rt: &HostRuntime, number: u8) -> io::Result<()> {
+fn print_removed(rt: &HostRuntime, number: u8) -> io::Result<()> {
     println!(rt; "drive{number} is removed: the disk has {number} drives")
 }
 
@@ -141,7 +141,7 @@ pub(crate) fn remove(rt: &HostRuntime, folder: Folder<'_>, number: u8) -> Result
     let removed = remove_last(rt, folder, file, table, number);
     progress::end(rt, folder);
     removed?;
-    match tell(rt, number) {
+    match print_removed(rt, number) {
         Ok(()) => Ok(0),
         Err(error) => Err(Trouble::Output(error)),
     }

@@ -170,7 +170,7 @@ fn is_there(rt: &HostRuntime, folder: Folder<'_>, name: Name) -> Result<bool, Tr
     }
 }
 
-fn tell_kept(rt: &HostRuntime, folder: Folder<'_>, number: u8) -> io::Result<()> {
+fn warn_kept(rt: &HostRuntime, folder: Folder<'_>, number: u8) -> io::Result<()> {
     let drive = folder.path(rt.alloc(), Name::Drive(number))?;
     let old = folder.path(rt.alloc(), Name::OldDrive(number))?;
     eprintln!(rt; "raid_disk: what was at {drive} is kept as {old}")
@@ -186,7 +186,7 @@ fn keep_old(rt: &HostRuntime, folder: Folder<'_>, number: u8, sight: Sight) -> R
     }
     rename(rt, folder, Name::Drive(number), Name::OldDrive(number))?;
     // Nothing is left to do where standard error can't be written.
-    let _ = tell_kept(rt, folder, number);
+    let _ = warn_kept(rt, folder, number);
     Ok(())
 }
 
@@ -265,7 +265,7 @@ fn rebuild(
     }
 }
 
-fn tell(rt: &HostRuntime, number: u8) -> io::Result<()> {
+fn print_replaced(rt: &HostRuntime, number: u8) -> io::Result<()> {
     println!(rt; "drive{number} is replaced: no drive is missing")
 }
 
@@ -278,7 +278,7 @@ pub(crate) fn replace(rt: &HostRuntime, folder: Folder<'_>, number: u8) -> Resul
     let rebuilt = rebuild(rt, folder.without(None), file, table, number);
     progress::end(rt, folder);
     rebuilt?;
-    match tell(rt, number) {
+    match print_replaced(rt, number) {
         Ok(()) => Ok(0),
         Err(error) => Err(Trouble::Output(error)),
     }

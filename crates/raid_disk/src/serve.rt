@@ -58,17 +58,17 @@ struct LossWatch<'a> {
     named: Option<u8>,
     // How many units had been compared when that was last written down.
     saved: u64,
-    // How many units had been written again when that was last told.
-    told: u64,
+    // How many units had been written again when that was last warned.
+    warned: u64,
 }
 
 impl<'a> LossWatch<'a> {
     // Writes down where units are compared next, and tells of units that were written again.
     fn note_scrub<N: Chronicle>(&mut self, store: &JournaledStore<N, DiskVault>) {
-        if store.repaired() > self.told {
-            self.told = store.repaired();
+        if store.repaired() > self.warned {
+            self.warned = store.repaired();
             // Nothing is left to do where standard error can't be written.
-            let _ = tell_repaired(self.rt, self.folder, self.told);
+            let _ = warn_repaired(self.rt, self.folder, self.warned);
         }
         if store.scrubbed() >= self.saved.saturating_add(SAVE_EVERY) {
             self.saved = store.scrubbed();
@@ -95,7 +95,7 @@ impl<'a, N: Chronicle> Sees<JournaledStore<N, DiskVault>> for LossWatch<'a> {
 }
 
 // Says how many units were written again since the disk was opened.
-fn tell_repaired(rt: &HostRuntime, folder: Folder<'_>, count: u64) -> io::Result<()> {
+fn warn_repaired(rt: &HostRuntime, folder: Folder<'_>, count: u64) -> io::Result<()> {
     let path = folder.path(rt.alloc(), Name::Folder)?;
     eprintln!(rt;
         "raid_disk: {path}: {count} units on files weren't as the array has them, and are written again"
@@ -198,7 +198,7 @@ fn serve_files<N: Chronicle>(
         drives: &drives,
         named: None,
         saved: 0,
-        told: 0,
+        warned: 0,
     };
     let served = serve_vault::<N, DiskVault, _, _, _>(
         rt.alloc(),

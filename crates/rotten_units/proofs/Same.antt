@@ -14,7 +14,7 @@ use Rattle.extent_groups.proofs.LayoutLaw.{layout_law}
 use Rattle.extent_groups.proofs.Missing.{total_none}
 use Rattle.extent_groups.proofs.Places.{same_or_not}
 use Rattle.extent_groups.proofs.Totals.{Row, length-xor_total, put_agrees, put_other, put_same, total_same, total_split}
-use Rattle.rotten_units.specs.Rows.{AreNotedOnce, AreWhole, IsSized, IsUsed, NotesOne, SameUsed}
+use Rattle.rotten_units.specs.Rows.{AreNotedOnce, AreRowsWhole, IsSiteSized, IsUsed, NotesOne, SameUsed}
 
 there_is : (o : Option (List ℕ)) → (o ≡ None → ⊥) → (v : List ℕ) × (o ≡ Some v)
 there_is None h = absurd (h refl)
@@ -67,13 +67,13 @@ module _ (n : ℕ) (c d : Cells) (noted : Place → Type 0) (decide : (x : Place
       → ((v : List ℕ) × (held e q ≡ Some v) × (length v ≡ n)) → held e p ≡ held e q
   equal_copies e p q sound u v = u.1 ∙ ap (λ w. Some w) (sound u.0 v.0 u.1 v.1) ∙ sym v.1
 
-  member : (row : List Place) (parity i : ℕ) (e : Cells) → IsSized n e (InStripe row parity i) → Whole n (length row) (row_of e row)
+  member : (row : List Place) (parity i : ℕ) (e : Cells) → IsSiteSized n e (InStripe row parity i) → Whole n (length row) (row_of e row)
   member row parity i e sized k low =
       let x = there row k low in
       let u = sized x.0 (k, x.1) in
       (u.0, ap (held_in e) x.1 ∙ u.1, u.2)
 
-  pub site_same : (site : Site) → IsDriveDisjoint site → NotesOne noted site → ((x : Place) → IsOf site x → (noted x → ⊥) → held c x ≡ held d x) → IsSized n c site → IsSized n d site
+  pub site_same : (site : Site) → IsDriveDisjoint site → NotesOne noted site → ((x : Place) → IsOf site x → (noted x → ⊥) → held c x ≡ held d x) → IsSiteSized n c site → IsSiteSized n d site
       → IsSoundAt n c site → IsSoundAt n d site → (x : Place) → IsOf site x → held c x ≡ held d x
   site_same (Pair p q) whole one same sized also sound too x (inl is) =
       subst (λ y. held c y ≡ held d y) (sym is)
@@ -98,7 +98,7 @@ module _ (n : ℕ) (c d : Cells) (noted : Place → Type 0) (decide : (x : Place
 
 -- Two states of the drives in which nothing is missing and all slots are sound, with units that differ only at noted places, of each row
 -- one at most: all units of the groups are the same.
-pub used_same : (groups : Groups) (c d : Cells) (noted : Place → Type 0) → ((x : Place) → noted x ⊎ (noted x → ⊥)) → AreWhole groups c → AreWhole groups d → AreNotedOnce noted groups
+pub used_same : (groups : Groups) (c d : Cells) (noted : Place → Type 0) → ((x : Place) → noted x ⊎ (noted x → ⊥)) → AreRowsWhole groups c → AreRowsWhole groups d → AreNotedOnce noted groups
     → ((x : Place) → IsUsed groups x → (noted x → ⊥) → held c x ≡ held d x) → SameUsed groups c d
 used_same groups c d noted decide is also one same x (slot, site, at, of) =
     site_same (unit_bytes groups) c d noted decide site ((layout_law groups is.formed).whole slot site at) (one slot site at) (λ y on out. same y (slot, site, at, on) out)
@@ -113,7 +113,7 @@ not_true : (b : Bool) → ((b ≡ true) → ⊥) → b ≡ false
 not_true true out = absurd (out refl)
 not_true false out = refl
 
-pub used_same_by : (groups : Groups) (c d : Cells) (noted : Place → Bool) → AreWhole groups c → AreWhole groups d → AreNotedOnce (λ x. noted x ≡ true) groups
+pub used_same_by : (groups : Groups) (c d : Cells) (noted : Place → Bool) → AreRowsWhole groups c → AreRowsWhole groups d → AreNotedOnce (λ x. noted x ≡ true) groups
     → ((x : Place) → IsUsed groups x → noted x ≡ false → held c x ≡ held d x) → SameUsed groups c d
 used_same_by groups c d noted is also one same =
     used_same groups c d (λ x. noted x ≡ true) (λ x. decide_true (noted x)) is also one (λ x used out. same x used (not_true (noted x) out))

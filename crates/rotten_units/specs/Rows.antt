@@ -37,13 +37,13 @@ abbrev pub SameUsed : Groups → Cells → Cells → Type 0
 SameUsed groups c d = (x : Place) → IsUsed groups x → held c x ≡ held d x
 
 -- each place of a site has a unit of n bytes
-abbrev pub IsSized : ℕ → Cells → Site → Type 0
-IsSized n c site = (x : Place) → IsOf site x → (u : List ℕ) × (held c x ≡ Some u) × (length u ≡ n)
+abbrev pub IsSiteSized : ℕ → Cells → Site → Type 0
+IsSiteSized n c site = (x : Place) → IsOf site x → (u : List ℕ) × (held c x ≡ Some u) × (length u ≡ n)
 
 -- No unit of the groups is missing, and all slots are sound: copies are equal, and rows add up to zero.
-pub record AreWhole (groups : Groups) (c : Cells) : Type 0 where
+pub record AreRowsWhole (groups : Groups) (c : Cells) : Type 0 where
   pub formed : AreGroups groups
-  pub sized : (slot : ℕ) (site : Site) → site_of groups slot ≡ Some site → IsSized (unit_bytes groups) c site
+  pub sized : (slot : ℕ) (site : Site) → site_of groups slot ≡ Some site → IsSiteSized (unit_bytes groups) c site
   pub sound : (slot : ℕ) (site : Site) → site_of groups slot ≡ Some site → IsSoundAt (unit_bytes groups) c site
 
 -- of the first places of a row one at most is noted, and none unless it is said so

@@ -11,13 +11,13 @@ use std::process::Abort;
 use unit_store::Parts;
 use vault::{MemVault, Vault};
 
-// Keeps what it was told last.
-struct Told {
+// Keeps the last counts.
+struct Counted {
     units: u32,
     of: u32,
 }
 
-impl Watch for Told {
+impl Watch for Counted {
     fn wrote(&mut self, units: u32, of: u32) {
         self.units = units;
         self.of = of;
@@ -32,19 +32,21 @@ fn replaced(
     number: u8,
 ) -> Result<(), RebuildFault> {
     let (groups, extents) = groups_of(rt, alloc, plan);
-    let mut told = Told { units: 0, of: 0 };
+    let mut counted = Counted { units: 0, of: 0 };
     let done = replace_drive(
         alloc,
         vault,
-        &mut told,
+        &mut counted,
         &plan.shape,
         groups,
         extents,
         plan.drives,
         number,
     );
-    assert!(rt; done.is_err() || (told.units == plan.shape.drive_units() && told.of == told.units));
-    let Told { units: _, of: _ } = told;
+    assert!(rt;
+        done.is_err() || (counted.units == plan.shape.drive_units() && counted.of == counted.units)
+    );
+    let Counted { units: _, of: _ } = counted;
     done
 }
 

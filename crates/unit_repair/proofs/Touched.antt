@@ -25,7 +25,7 @@ use Rattle.unit_store.specs.Memory.{held_failures, held_lost, held_units}
 use Rattle.unit_store.specs.Slots.{cells_in}
 use Rattle.unit_store.specs.declared.parts.Parts.{Parts}
 use Rattle.vault.specs.Images.{Image}
-use Rattle.rotten_units.specs.Rows.{AreNotedOnce, AreWhole, IsSized, IsUsed}
+use Rattle.rotten_units.specs.Rows.{AreNotedOnce, AreRowsWhole, IsSiteSized, IsUsed}
 use Rattle.rotten_units.specs.Written.{WroteFrom}
 use Rattle.rotten_units.proofs.Computing.{keeps_not}
 use Rattle.rotten_units.proofs.Same.{site_same, there}
@@ -113,9 +113,9 @@ computed noted old mid new answer once tables kept fit sound only = record {
 }
 
 module _ (noted : Place → Type 0) (decide : (x : Place) → noted x ⊎ (noted x → ⊥)) (old new : Parts Held) (is : IsComputed noted old new) (answer : Answer old.drives.items)
-    (written : Cells) (whole : AreWhole old.groups written) (same : SameButNoted noted old.groups (cells_in held_units held_lost old) written) where
+    (written : Cells) (whole : AreRowsWhole old.groups written) (same : SameButNoted noted old.groups (cells_in held_units held_lost old) written) where
   module _ (slot : ℕ) (site : Site) (at : site_of old.groups slot ≡ Some site) where
-    memory_sized : IsSized (unit_bytes old.groups) (cells_in held_units held_lost new) site
+    memory_sized : IsSiteSized (unit_bytes old.groups) (cells_in held_units held_lost new) site
     memory_sized x of =
         let place = site_places held_units old.groups new.drives.items slot site whole.formed is.fit at x of in
         let m = there new.drives.items x.drive place.inside in

@@ -13,7 +13,7 @@ use Rattle.extent_groups.proofs.Sites.{site_places}
 use Rattle.flat_machine.specs.Flat.{Stored}
 use Rattle.unit_store.specs.Shows.{ShowsUnits}
 use Rattle.unit_store.specs.Views.{DriveView, drive_lost, drive_units}
-use Rattle.rotten_units.specs.Rows.{AreWhole, IsSized, IsUsed, SameUsed}
+use Rattle.rotten_units.specs.Rows.{AreRowsWhole, IsSiteSized, IsUsed, SameUsed}
 use Rattle.rotten_units.proofs.Same.{there, unit_same}
 use Rattle.unit_repair.specs.Mended.{AreVerified}
 
@@ -46,7 +46,7 @@ module _ (groups : Groups) (drives units : ℕ) (c : Cells) (is : AreVerified gr
     pub verified_now : (x : Place) → IsOf site x → held c x ≡ held now x
     verified_now x of = verified_now_of c is slot site at x of
 
-    pub verified_sized : IsSized (unit_bytes groups) c site
+    pub verified_sized : IsSiteSized (unit_bytes groups) c site
     verified_sized x of =
         let place = site_places drive_units groups is.views slot site is.formed is.fit at x of in
         let v = there is.views x.drive place.inside in
@@ -58,7 +58,7 @@ module _ (groups : Groups) (drives units : ℕ) (c : Cells) (is : AreVerified gr
     verified_sound = (site_fades (unit_bytes groups) now c site now_sized ((layout_law groups is.formed).whole slot site at) (λ x of. inl (verified_now x of)) (is.sound slot site at)).sound
 
   -- nothing is missing, and all slots are sound
-  pub whole : AreWhole groups c
+  pub whole : AreRowsWhole groups c
   whole = record { formed = is.formed; sized = verified_sized; sound = verified_sound }
 
   -- a place that the groups use is one of the drives'

@@ -12,7 +12,7 @@ ghost use Rattle.vault.specs.Marks.{Has};
 ghost use Rattle.vault.specs.Moments.{LeavesOnly};
 ghost use Rattle.vault.specs.declared.store.Stop.{Stop};
 ghost use Rattle.rotten_units.specs.Faults.{UnlessVault};
-ghost use Rattle.rotten_units.specs.Rows.{AreNotedOnce, AreWhole};
+ghost use Rattle.rotten_units.specs.Rows.{AreNotedOnce, AreRowsWhole};
 ghost use Rattle.rotten_units.specs.Written.{DiffersAt, WroteAt};
 ghost use Rattle.unit_repair.specs.Computed.{Answer, IsComputed, SameButNoted, WroteRight};
 ghost use Rattle.unit_repair.specs.Mended.{AreVerified, AttestsUsed, AttestsWritten, IsAtRest, IsMended, LeavesUnits, MayBeMended};
@@ -78,7 +78,7 @@ fn write_again<V: Vault>(
     ensures groups { parts.new.groups ≡ parts.old.groups }
     ensures once { OnOk result (AreNotedOnce (Has rotten.now.marks.items) parts.old.groups) }
     ensures wrote { V.known vault.old → WroteAt V.seen V.may_leave V.moment V.left_since (Has rotten.now.marks.items) vault.old vault.new }
-    ensures units { V.known vault.old → (written : Cells) → AreWhole parts.old.groups written
+    ensures units { V.known vault.old → (written : Cells) → AreRowsWhole parts.old.groups written
         → SameButNoted (Has rotten.now.marks.items) parts.old.groups (cells_in held_units held_lost parts.old) written
         → UnlessVault result (WroteRight V.seen V.attested (Has rotten.now.marks.items) parts.old.groups written vault.old vault.new) }
     ensures durable { V.known vault.old → OnOk result (LeavesUnits V.seen V.may_leave vault.new) }

@@ -17,7 +17,7 @@ use Rattle.nbd_serve.specs.Sessions.{Session}
 use Rattle.nbd_serve.specs.Stopping.{IsAt, StoreType}
 use Rattle.nbd_serve.proofs.Stopping.{has_head, has_rest}
 use Rattle.nbd_serve.specs.declared.end.End.{End}
-use Rattle.vault_server.specs.Served.{AreFound, HasBegun, IsFound, IsOn, IsServedFrom, Opens, Outlived, StopsLeave, durable}
+use Rattle.vault_server.specs.Served.{AreFound, HasBegun, IsExchangeFound, IsOn, IsServedFrom, Opens, Outlived, StopsLeave, durable}
 use Rattle.vault_server.proofs.Sessions.{Held, carry, covers_one, held_served, held_still, rise_between, rise_to, session_ends, session_same}
 use Rattle.vault_server.proofs.Begun.{on_after}
 

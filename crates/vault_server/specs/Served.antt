@@ -40,14 +40,14 @@ pub record HasBegun {V : Type 0} (known : V → Type 0) (seen : V → Image) (ma
 
 -- By what the reply to an exchange says, a stop since the moment when it was answered leaves what was shown then or later: a kill if bytes
 -- were changed, and any stop if all are durable.
-pub record IsFound (opens : Stop → ℕ → List Shown → Type 0) (t : ℕ) (x : Exchange) (later : List Shown) : Type 0 where
+pub record IsExchangeFound (opens : Stop → ℕ → List Shown → Type 0) (t : ℕ) (x : Exchange) (later : List Shown) : Type 0 where
   pub changed : SaysChanged x.request x.reply → opens Killed t later
   pub durable : SaysDurable x.request x.reply → (stop : Stop) → opens stop t later
 
 -- so it is of each exchange
 abbrev pub AreFound : {S : Type 0} → (Stop → ℕ → List Shown → Type 0) → (S → ℕ) → Shown → List Exchange → List (Round S) → Type 0
 AreFound opens moment final [] [] = Unit {0}
-AreFound opens moment final (x ∷ xs) (r ∷ rs) = IsFound opens (moment r.answered) x (final ∷ r.then ∷ passed r.after rs) × AreFound opens moment final xs rs
+AreFound opens moment final (x ∷ xs) (r ∷ rs) = IsExchangeFound opens (moment r.answered) x (final ∷ r.then ∷ passed r.after rs) × AreFound opens moment final xs rs
 AreFound opens moment final [] (r ∷ rs) = ⊥
 AreFound opens moment final (x ∷ xs) [] = ⊥
 

@@ -4,7 +4,7 @@ use Rattle.extent_groups.specs.Planned.{after}
 use Rattle.extent_groups.proofs.Places.{get-set_other}
 use Rattle.vault.specs.Images.{Image}
 use Rattle.rotten_units.proofs.Reading.{read_more}
-use Rattle.array_batch.specs.Batched.{HasDriveUnits, KeepsDrive}
+use Rattle.array_batch.specs.Batched.{HasDriveUnits, KeepsDriveUnits}
 use Rattle.array_batch.proofs.Batching.{drive_more}
 use Rattle.array_batch.proofs.batch.put_drives.Goals as goal
 
@@ -26,7 +26,7 @@ loop-number-preserved g c =
       first = λ known d m low is.
           let cells = Image.cells (g.V.Vault.seen c.args.vault.now) in
           drive_more cells number c.args.drives.now c.loop-number.drives c.index-drives-number.result c.loop-number.batch c.put_drive.new.batch inv.kept
-          (subst (λ (i : Image). KeepsDrive number i.cells (after i.cells c.loop-number.batch) → HasDriveUnits number (get_or c.loop-number.drives number c.index-drives-number.result).units (after i.cells c.put_drive.new.batch))
+          (subst (λ (i : Image). KeepsDriveUnits number i.cells (after i.cells c.loop-number.batch) → HasDriveUnits number (get_or c.loop-number.drives number c.index-drives-number.result).units (after i.cells c.put_drive.new.batch))
           (inv.read known).finds (c.in_ok-put_drive.ensures.put (inv.stays known)))
           (put.others cells) (inv.rest cells) (inv.first known) d m low is;
       rest = λ d x high. put.others d x (omega (arith, high)) ∙ inv.rest d x (omega (arith, high));

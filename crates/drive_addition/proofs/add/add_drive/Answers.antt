@@ -5,7 +5,7 @@ use Rattle.vault.specs.Images.{recovered}
 use Rattle.vault.proofs.Runs.{weaker}
 use Rattle.array_store.specs.Blocks.{Holds}
 use Rattle.journaled_store.specs.Left.{HasBoth, HasKeys}
-use Rattle.drive_addition.specs.Added.{IsBeforeOrAdded, OpensEither}
+use Rattle.drive_addition.specs.Added.{IsBeforeOrAdded, OpensBeforeOrWith}
 use Rattle.array_batch.proofs.Arrays.{bytes_both, bytes_shown, keys_both, keys_of, keys_shown}
 use Rattle.drive_addition.proofs.Adding.{can_grow, opens_either, whole_on}
 use Rattle.drive_addition.proofs.add.add_drive.Goals as goal
@@ -25,7 +25,7 @@ returns-clause-any_moment g c = λ known bytes can ends stop.
     let grows = can_grow Holds bytes what g.V.Vault.seen g.V.Vault.may_leave c.args.groups c.args.drives units c.args.vault.now can (bytes_both can.left.tiers bytes can.left.shown) ends in
     let before = recovered (g.V.Vault.seen c.args.vault.now) in
     weaker g.V.Vault.moment g.V.Vault.left_since stop c.args.vault.now c.add_units.new.vault (IsBeforeOrAdded can.lost before what c.args.shape.now c.args.groups c.args.drives units)
-    (OpensEither Holds bytes c.args.shape.now c.args.groups c.args.drives) (c.add_units.ensures.any_moment known what can.lost grows stop)
+    (OpensBeforeOrWith Holds bytes c.args.shape.now c.args.groups c.args.drives) (c.add_units.ensures.any_moment known what can.lost grows stop)
     (λ i which. opens_either Holds bytes what (λ t both. both.holds) c.args.shape.now c.args.groups c.args.drives units before can.left can.lost can.lost_are i which)
 
 pub returns-clause-map : goal.returns-clause-map
@@ -43,7 +43,7 @@ returns-clause-map_any_moment g c = λ known keys can ends stop.
     let grows = can_grow HasKeys keys what g.V.Vault.seen g.V.Vault.may_leave c.args.groups c.args.drives units c.args.vault.now can (keys_both can.left.tiers keys can.left.shown) ends in
     let before = recovered (g.V.Vault.seen c.args.vault.now) in
     weaker g.V.Vault.moment g.V.Vault.left_since stop c.args.vault.now c.add_units.new.vault (IsBeforeOrAdded can.lost before what c.args.shape.now c.args.groups c.args.drives units)
-    (OpensEither HasKeys keys c.args.shape.now c.args.groups c.args.drives) (c.add_units.ensures.any_moment known what can.lost grows stop)
+    (OpensBeforeOrWith HasKeys keys c.args.shape.now c.args.groups c.args.drives) (c.add_units.ensures.any_moment known what can.lost grows stop)
     (λ i which. opens_either HasKeys keys what (λ t both. keys_of t (keys_shown keys) both) c.args.shape.now c.args.groups c.args.drives units before can.left can.lost can.lost_are i which)
 
 pub returns-clause-both : goal.returns-clause-both
@@ -59,5 +59,5 @@ returns-clause-both_any_moment g c = λ known what can ends stop.
     let grows = can_grow HasBoth what what g.V.Vault.seen g.V.Vault.may_leave c.args.groups c.args.drives units c.args.vault.now can can.left.shown ends in
     let before = recovered (g.V.Vault.seen c.args.vault.now) in
     weaker g.V.Vault.moment g.V.Vault.left_since stop c.args.vault.now c.add_units.new.vault (IsBeforeOrAdded can.lost before what c.args.shape.now c.args.groups c.args.drives units)
-    (OpensEither HasBoth what c.args.shape.now c.args.groups c.args.drives) (c.add_units.ensures.any_moment known what can.lost grows stop)
+    (OpensBeforeOrWith HasBoth what c.args.shape.now c.args.groups c.args.drives) (c.add_units.ensures.any_moment known what can.lost grows stop)
     (λ i which. opens_either HasBoth what what (λ t both. both) c.args.shape.now c.args.groups c.args.drives units before can.left can.lost can.lost_are i which)

@@ -7,7 +7,7 @@ use Rattle.extent_groups.specs.Planned.{after}
 use Rattle.group_form.specs.Form.{HasFormPlaces, HasGroups}
 use Rattle.vault.specs.Images.{Image}
 use Rattle.rotten_units.proofs.Reading.{read_more}
-use Rattle.array_batch.specs.Batched.{HasUnits}
+use Rattle.array_batch.specs.Batched.{HasAllDriveUnits}
 use Rattle.drive_addition.specs.Grown.{IsGrownTo}
 use Rattle.drive_addition.proofs.Planning.{added, outlives}
 use Rattle.drive_addition.proofs.Settling.{none_lost}
@@ -43,5 +43,5 @@ returns-clause-planned g c = λ known what array ends.
     (c.in_ok-caches.ensures.units known) c.in_ok-caches.ensures.formed many
     (record { shape = shape; groups = c.args.groups; extents = c.args.extents; drives = c.in_ok-caches.caches; note = None }) refl refl)) in
     added what c.args.groups c.args.drives cells array shape ends parts grown c.in_ok-parts.ensures.fit c.in_ok-parts.ensures.present batch
-    (subst (λ (l : List Held). HasUnits l (after cells batch)) lent (subst (λ (i : Image). HasUnits c.deref_mut-drives.result.now (after i.cells batch)) finds (c.in_ok-put_array.ensures.units stays)))
+    (subst (λ (l : List Held). HasAllDriveUnits l (after cells batch)) lent (subst (λ (i : Image). HasAllDriveUnits c.deref_mut-drives.result.now (after i.cells batch)) finds (c.in_ok-put_array.ensures.units stays)))
     (subst (λ (l : List Held). (e : Cells) → HasFormPlaces e → HasGroups parts.groups (length l) (after e batch)) lent c.in_ok-put_array.ensures.groups) c.in_ok-put_array.ensures.marks

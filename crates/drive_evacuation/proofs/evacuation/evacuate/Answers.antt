@@ -3,7 +3,7 @@ use Rattle.std.proofs.lemmas.Result.{IfErr-weaker, err_from_is_err_and, on_ok_we
 use Rattle.extent_groups.specs.Groups.{Groups}
 use Rattle.extent_groups.specs.Stores.{HasMemberOn}
 use Rattle.slot_tables.specs.Views.{ArrayView, WorldView}
-use Rattle.array_growth.proofs.Growing.{same_keys}
+use Rattle.array_expansion.proofs.Growing.{same_keys}
 use Rattle.drive_evacuation.specs.Evacuation.{NotEvacuated}
 use Rattle.drive_evacuation.proofs.Moving.{all_clear, not_evacuated_log, spread_log}
 use Rattle.drive_evacuation.proofs.evacuation.evacuate.Goals as goal

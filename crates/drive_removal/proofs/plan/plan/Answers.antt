@@ -6,7 +6,7 @@ use Rattle.unit_store.specs.declared.parts.Parts.{Parts}
 use Rattle.group_form.specs.Form.{HasFormPlaces, HasGroups}
 use Rattle.vault.specs.Images.{Image}
 use Rattle.rotten_units.proofs.Reading.{read_more}
-use Rattle.array_batch.specs.Batched.{HasUnits}
+use Rattle.array_batch.specs.Batched.{HasAllDriveUnits}
 use Rattle.drive_removal.proofs.Planning.{last_lost, outlives, removed}
 use Rattle.drive_removal.proofs.plan.plan.Goals as goal
 
@@ -47,6 +47,6 @@ returns-clause-planned g c = λ known what array ends.
     let short = c.in_ok-parts.ensures.shortened array.tiers what array.shows (outlives what c.args.groups drives cells array caches others read refl refl)
     (last_lost what c.args.groups drives cells array caches others (drives - 1) last read refl) (c.in_ok-caches.ensures.many ∙ sym last) (omega (arith, four)) in
     removed what c.args.groups drives cells array shape (drives - 1) (omega (arith, most)) ends parts short batch c.clear_marks.new.batch
-    (subst (λ (l : List Held). HasUnits l (after cells batch)) lent (subst (λ (i : Image). HasUnits c.deref_mut-rest.result.now (after i.cells batch)) finds (c.in_ok-put_array.ensures.units stays)))
+    (subst (λ (l : List Held). HasAllDriveUnits l (after cells batch)) lent (subst (λ (i : Image). HasAllDriveUnits c.deref_mut-rest.result.now (after i.cells batch)) finds (c.in_ok-put_array.ensures.units stays)))
     (subst (λ (l : List Held). (e : Cells) → HasFormPlaces e → HasGroups parts.groups (length l) (after e batch)) lent c.in_ok-put_array.ensures.groups) c.in_ok-put_array.ensures.marks
     c.in_ok-clear_marks.ensures

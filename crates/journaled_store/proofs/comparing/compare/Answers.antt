@@ -1,5 +1,5 @@
 use Rattle.std.proofs.Common.{refl, ◌∙◌}
-use Rattle.journaled_store.specs.Keeping.{OnlyRead}
+use Rattle.journaled_store.specs.Keeping.{OnlyReadKnown}
 use Rattle.journaled_store.proofs.Reading.{read_more}
 use Rattle.journaled_store.proofs.comparing.compare.Goals as goal
 

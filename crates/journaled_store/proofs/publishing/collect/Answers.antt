@@ -2,8 +2,8 @@ use Rattle.std.proofs.Common.{◌≡◌, ◌≤◌, suc, arith, List, Bool, sym,
 use Rattle.history.specs.Entries.{Course}
 use Rattle.cached_drive.specs.Saving.{Units}
 use Rattle.journaled_store.specs.Steps.{IsInStep}
-use Rattle.journaled_store.specs.Picking.{IsPicked}
-use Rattle.journaled_store.specs.declared.wanted.Wanted.{Wanted}
+use Rattle.journaled_store.specs.Picking.{IsLookedUp}
+use Rattle.journaled_store.specs.declared.lookup.Lookup.{Lookup}
 use Rattle.journaled_store.proofs.Picking.{all_picked, none_picked}
 use Rattle.journaled_store.proofs.Leading.{shown_has}
 use Rattle.journaled_store.proofs.Noting.{leads_noted, other_table, table_step, table_noted, table_has, shown_marks}
@@ -60,8 +60,8 @@ returns-clause-marks g c is =
 pub returns-clause-place : goal.returns-clause-place
 returns-clause-place g c =
     let picks = c.visit_drives.ensures.leads.1 in
-    let same = c.note_lost.ensures.wanted in
-    (ap (λ (w : Wanted). w.drive) same ∙ picks.drive, ap (λ (w : Wanted). w.address) same ∙ picks.address)
+    let same = c.note_lost.ensures.lookup in
+    (ap (λ (w : Lookup). w.drive) same ∙ picks.drive, ap (λ (w : Lookup). w.address) same ∙ picks.address)
 
 pub returns-clause-picked : goal.returns-clause-picked
 returns-clause-picked g c is =
@@ -72,7 +72,7 @@ returns-clause-picked g c is =
     let shown = sym (c.if-not-visit_drives.ensures.shown refl) in
     let leads = c.visit_drives.ensures.leads.0 in
     let few : mid.next ≤ 16 = omega (arith, c.if-from-hired.false, c.from.ensures, c.hired-2.ensures, c.if-hired.false, c.hired.ensures, leads.hired) in
-    let found = all_picked mid.keeper.log mid.lost mid.next drives mid.wanted shown few (picks.keeps (none_picked c.args.changes.now.keeper.log c.args.changes.now.wanted)) in
-    subst (λ (w : Wanted). IsPicked drives now.lost now.next w) (sym c.note_lost.ensures.wanted)
-    (subst (λ (l : List Bool). IsPicked drives l now.next mid.wanted) (sym c.note_lost.ensures.shown.0)
-    (subst (λ n. IsPicked drives mid.lost n mid.wanted) (sym c.note_lost.ensures.shown.1) found))
+    let found = all_picked mid.keeper.log mid.lost mid.next drives mid.lookup shown few (picks.keeps (none_picked c.args.changes.now.keeper.log c.args.changes.now.lookup)) in
+    subst (λ (w : Lookup). IsLookedUp drives now.lost now.next w) (sym c.note_lost.ensures.lookup)
+    (subst (λ (l : List Bool). IsLookedUp drives l now.next mid.lookup) (sym c.note_lost.ensures.shown.0)
+    (subst (λ n. IsLookedUp drives mid.lost n mid.lookup) (sym c.note_lost.ensures.shown.1) found))

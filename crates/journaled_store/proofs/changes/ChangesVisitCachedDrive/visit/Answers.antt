@@ -2,8 +2,8 @@ use Rattle.std.proofs.Common.{◌≡◌, ◌<◌, ◌+◌, ◌++◌, ◌∷◌, 
 use Rattle.history.specs.Entries.{Course, entry}
 use Rattle.cached_drive.specs.Saving.{Units, Brings, saved_by}
 use Rattle.journaled_store.specs.Steps.{LeadsTo, views_to}
-use Rattle.journaled_store.specs.Picking.{Picks, IsUnitOf}
-use Rattle.journaled_store.specs.declared.wanted.Wanted.{Wanted}
+use Rattle.journaled_store.specs.Picking.{Picks, IsLookupOf}
+use Rattle.journaled_store.specs.declared.lookup.Lookup.{Lookup}
 use Rattle.journaled_store.proofs.Leading.{leads_by, seen, seen_more}
 use Rattle.journaled_store.proofs.Picking.{picks_by}
 use Rattle.journaled_store.proofs.changes.ChangesVisitCachedDrive.visit.Goals as goal
@@ -23,9 +23,9 @@ returns-in-Ok-clause-leads g c =
     (subst (λ n. n < me.keeper.hired) own e.below) now
     e.brings.1 (subst (λ n. Brings me.next (saved_by n me.keeper.log) drive.cache.units e.brings.0) own e.brings.2) in
     let looked = c.look.ensures in
-    let picks : Picks me.next me.keeper.log me.wanted (me.next + 1) c.save.new.keeper.log c.look.new.wanted =
-    picks_by me.next me.keeper.log c.save.new.keeper.log me.wanted c.look.new.wanted drive.cache.units log looked.place
-    (λ same. subst (λ us. IsUnitOf us c.look.new.wanted) e.units (looked.own same)) looked.other in
+    let picks : Picks me.next me.keeper.log me.lookup (me.next + 1) c.save.new.keeper.log c.look.new.lookup =
+    picks_by me.next me.keeper.log c.save.new.keeper.log me.lookup c.look.new.lookup drive.cache.units log looked.place
+    (λ same. subst (λ us. IsLookupOf us c.look.new.lookup) e.units (looked.own same)) looked.other in
     (leads, picks)
 
 pub returns-in-Ok-clause-shown : goal.returns-in-Ok-clause-shown

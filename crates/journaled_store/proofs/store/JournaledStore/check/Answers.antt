@@ -38,7 +38,7 @@ pub returns-clause-same : goal.returns-clause-same
 returns-clause-same g c known is =
     let v = g.V.Vault in
     let now = c.read_back.new.self in
-    let unit = c.pick.new.self.changes.wanted.unit.items in
+    let unit = c.pick.new.self.changes.lookup.unit.items in
     let e = c.in_ok-found.ensures in
     let there : HasUnit now.store.tiers.world.array.parts.drives c.args.at unit =
     subst (λ (s : StoreView). HasUnit s.tiers.world.array.parts.drives c.args.at unit) (sym e.array) (c.in-Some.ensures.there (not_false c.in-Some.step.is_there c.if-not-step.false)) in
@@ -48,7 +48,7 @@ pub returns-clause-waits : goal.returns-clause-waits
 returns-clause-waits g c known is =
     let v = g.V.Vault in
     let now = c.read_back.new.self in
-    let unit = c.pick.new.self.changes.wanted.unit.items in
+    let unit = c.pick.new.self.changes.lookup.unit.items in
     let e = c.in_ok-found.ensures in
     let k = c.pick.ensures.kept.stays known in (
       found_waits (v.attested now.vault) (Image.cells (v.seen now.vault)) now.store.tiers.world.array.parts.drives c.args.at unit c.in_ok-found.found (e.found k) is,

@@ -28,14 +28,14 @@ returns-clause-next g c =
     let w = c.collect.new.changes in
     let u = c.units_of-units.ensures in
     let s = c.step_from.ensures in
-    picked_next c.args.self.now.store.tiers.world.array.parts.drives w.lost w.next w.wanted c.args.at c.units_of-units.result (c.if-not-collect.ensures.picked refl) c.collect.ensures.place u.all u.lost u.past
+    picked_next c.args.self.now.store.tiers.world.array.parts.drives w.lost w.next w.lookup c.args.at c.units_of-units.result (c.if-not-collect.ensures.picked refl) c.collect.ensures.place u.all u.lost u.past
     c.step_from.result.next c.step_from.result.ends s.on s.over s.back
 
 pub returns-clause-none : goal.returns-clause-none
 returns-clause-none g c is =
     let w = c.collect.new.changes in
     let u = c.units_of-units.ensures in
-    picked_none c.args.self.now.store.tiers.world.array.parts.drives w.lost w.next w.wanted c.args.at c.units_of-units.result (c.if-not-collect.ensures.picked refl) c.collect.ensures.place u.all u.lost u.past
+    picked_none c.args.self.now.store.tiers.world.array.parts.drives w.lost w.next w.lookup c.args.at c.units_of-units.result (c.if-not-collect.ensures.picked refl) c.collect.ensures.place u.all u.lost u.past
     (c.step_from.ensures.none is)
 
 pub returns-clause-there : goal.returns-clause-there
@@ -43,5 +43,5 @@ returns-clause-there g c is =
     let w = c.collect.new.changes in
     let u = c.units_of-units.ensures in
     let drives = c.args.self.now.store.tiers.world.array.parts.drives in
-    let unit = picked_unit drives w.lost w.next w.wanted c.args.at c.units_of-units.result (c.if-not-collect.ensures.picked refl) c.collect.ensures.place u.all u.lost u.past (c.step_from.ensures.there is) in
-    subst (λ (t : TiersView). HasUnit t.world.array.parts.drives c.args.at w.wanted.unit.items) (sym c.collect.ensures.same.0) unit
+    let unit = picked_unit drives w.lost w.next w.lookup c.args.at c.units_of-units.result (c.if-not-collect.ensures.picked refl) c.collect.ensures.place u.all u.lost u.past (c.step_from.ensures.there is) in
+    subst (λ (t : TiersView). HasUnit t.world.array.parts.drives c.args.at w.lookup.unit.items) (sym c.collect.ensures.same.0) unit

@@ -41,9 +41,9 @@ returns g c =
     record {
       kept = kept_same v.known v.seen v.may_leave v.moment v.left_since g.met.V.Vault.counts_now g.met.V.Vault.only_now (whole c.args.self.now) _
           (same_parts c.args.self.now.store c.collect.new.store e.same) refl refl refl
-          (λ lost cells live. live_put lost w.keeper w.noted w.batch c.push.new.self cells drives at c.deref.result.now c.place_of.result c.push.result c.place_of.ensures
-          (picked_low drives w.lost w.next w.wanted at c.units_of.result picked e.place u.all u.lost u.past within)
-          (subst (HasUnit drives at) (sym c.deref.ensures.value) (picked_unit drives w.lost w.next w.wanted at c.units_of.result picked e.place u.all u.lost u.past within))
+          (λ lost cells live. live_put lost w.keeper w.noted w.batch c.push.new.self cells drives at c.deref.result.now c.place_at_position.result c.push.result c.place_at_position.ensures
+          (picked_low drives w.lost w.next w.lookup at c.units_of.result picked e.place u.all u.lost u.past within)
+          (subst (HasUnit drives at) (sym c.deref.ensures.value) (picked_unit drives w.lost w.next w.lookup at c.units_of.result picked e.place u.all u.lost u.past within))
           (c.if-not-collect.ensures.has refl lost cells live.step)
           (record { step = e.step lost cells live.step; noted = e.noted cells live.noted; rest = λ a. e.rest cells a ∙ live.rest a })
           c.push.ensures.ok c.push.ensures.err);

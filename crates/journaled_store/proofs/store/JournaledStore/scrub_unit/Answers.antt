@@ -2,7 +2,7 @@ use Rattle.std.proofs.Common.{length, ◌≡◌, refl, sym, ◌∙◌, subst, in
 use Rattle.journaled_store.specs.Keeping.{Whole, whole}
 use Rattle.vault.specs.Images.{Image}
 use Rattle.journaled_store.specs.declared.position.ScrubPosition.{ScrubPosition}
-use Rattle.journaled_store.specs.Scrubbing.{IsHeld, IsNext, IsPending, place_of}
+use Rattle.journaled_store.specs.Scrubbing.{IsHeldAt, IsNextPosition, IsPending, place_at_position}
 use Rattle.journaled_store.proofs.Keeping.{kept_more}
 use Rattle.journaled_store.proofs.store.JournaledStore.scrub_unit.Goals as goal
 
@@ -24,14 +24,14 @@ returns-clause-moves g c =
     let drives = c.args.self.now.store.tiers.world.array.parts.drives in
     let at = c.args.self.now.scrub.position in
     let step = c.in-Ok.checked.step in
-    inl (step.ends, subst (λ (q : ScrubPosition). IsNext drives at q step.ends) (sym c.after-self.ensures.position) c.in-Ok.ensures.next, c.after-self.ensures.rounds)
+    inl (step.ends, subst (λ (q : ScrubPosition). IsNextPosition drives at q step.ends) (sym c.after-self.ensures.position) c.in-Ok.ensures.next, c.after-self.ensures.rounds)
 
 pub returns-clause-same : goal.returns-clause-same
 returns-clause-same g c known is =
     let v = g.V.Vault in
     let at = c.args.self.now.scrub.position in
     let s = c.finish-done.ensures.same is in
-    subst (λ (w : Whole _). IsHeld (v.attested w.vault) (Image.cells (v.seen w.vault)) w.store.tiers.world.array.parts.drives at) (sym s.1) (c.in-Ok.ensures.same known s.0)
+    subst (λ (w : Whole _). IsHeldAt (v.attested w.vault) (Image.cells (v.seen w.vault)) w.store.tiers.world.array.parts.drives at) (sym s.1) (c.in-Ok.ensures.same known s.0)
 
 pub returns-clause-repaired : goal.returns-clause-repaired
 returns-clause-repaired g c known is =
@@ -42,4 +42,4 @@ returns-clause-waits g c known is =
     let v = g.V.Vault in
     let at = c.args.self.now.scrub.position in
     let s = c.finish-done.ensures.waits is in
-    subst (λ (w : Whole _). v.attested w.vault (place_of at) × IsPending (length (Image.journal (v.seen w.vault))) (length w.batch)) (sym s.1) (c.in-Ok.ensures.waits known s.0)
+    subst (λ (w : Whole _). v.attested w.vault (place_at_position at) × IsPending (length (Image.journal (v.seen w.vault))) (length w.batch)) (sym s.1) (c.in-Ok.ensures.waits known s.0)

@@ -10,7 +10,7 @@ use Rattle.flat_machine.specs.Cases.{Leaves}
 use Rattle.flat_machine.specs.Flat.{Flat}
 use Rattle.flat_machine.specs.Moves.{moved_to}
 use Rattle.slot_tables.proofs.Fares.{itself, leaves_more}
-use Rattle.array_growth.specs.Growth.{SameShapes, IsSpread}
+use Rattle.array_expansion.specs.Expansion.{SameShapes, IsSpread}
 
 same_shapes : (t : Groups) → SameShapes t t
 same_shapes t = record { extents = refl; segments = refl; payload = refl; blocks = refl; class = λ g. refl; members = λ g. refl }

@@ -1,8 +1,8 @@
 use Rattle.slot_tables.specs.Views.{SameSizes}
 use Rattle.tiered_array.specs.Matches.{RepresentsTiers}
 use Rattle.tiered_array.specs.Tiered.{Tiered}
-use Rattle.array_growth.proofs.Falling.{IsSpreadBy}
-use Rattle.array_growth.proofs.growth.spread.Given as goal
+use Rattle.array_expansion.proofs.Falling.{IsSpreadBy}
+use Rattle.array_expansion.proofs.expansion.spread.Given as goal
 
 -- the moves so far
 abbrev pub invariant-loop : goal.invariant-loop

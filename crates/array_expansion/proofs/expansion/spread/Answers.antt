@@ -1,7 +1,7 @@
 use Rattle.std.proofs.Common.{◌∙◌, refl, subst}
 use Rattle.std.proofs.lemmas.Result.{err_from_is_err_and}
-use Rattle.array_growth.proofs.Falling.{Balances, all_moved, move_refused, no_move, one_move}
-use Rattle.array_growth.proofs.growth.spread.Goals as goal
+use Rattle.array_expansion.proofs.Falling.{Balances, all_moved, move_refused, no_move, one_move}
+use Rattle.array_expansion.proofs.expansion.spread.Goals as goal
 
 pub loop-init : goal.loop-init
 loop-init g c = record { room = record { payload = refl; blocks = refl }; spread = λ T was. no_move c.args.tiers.now T was }

@@ -1,13 +1,13 @@
 // Why an array doesn't get another drive.
 ghost use Rattle.std.specs.Prelude.{◌≡◌};
-ghost use Rattle.array_growth.specs.declared.fault.GrowthFault.TheVariants.{Memory};
+ghost use Rattle.array_expansion.specs.declared.fault.ExpansionFault.TheVariants.{Memory};
 
 use std::alloc::AllocError;
 use step_core::Refusal;
 
 /// Why an array doesn't get another drive, or isn't balanced after it got one.
 #[derive(Clone, Copy, Debug, PartialEq, Eq)]
-pub enum GrowthFault {
+pub enum ExpansionFault {
     /// Out of memory.
     Memory,
     /// There are 16 drives.
@@ -16,10 +16,10 @@ pub enum GrowthFault {
     Refused(Refusal),
 }
 
-impl From<AllocError> for GrowthFault {
+impl From<AllocError> for ExpansionFault {
     ghost from_gives = { λ _ e. e ≡ Memory };
 
-    fn from(_: AllocError) -> GrowthFault {
-        GrowthFault::Memory
+    fn from(_: AllocError) -> ExpansionFault {
+        ExpansionFault::Memory
     }
 }

@@ -7,8 +7,8 @@ use Rattle.flat_machine.specs.Flat.{Flat}
 use Rattle.flat_machine.specs.Moves.{with_new_drive}
 use Rattle.tiered_array.specs.Regrouping.{BalanceCase}
 use Rattle.tiered_array.specs.declared.regrouped.Regrouped.TheVariants as regrouped
-use Rattle.array_growth.specs.declared.fault.GrowthFault.{GrowthFault}
-use Rattle.array_growth.specs.declared.fault.GrowthFault.TheVariants.{Memory, Full, Refused}
+use Rattle.array_expansion.specs.declared.fault.ExpansionFault.{ExpansionFault}
+use Rattle.array_expansion.specs.declared.fault.ExpansionFault.TheVariants.{Memory, Full, Refused}
 
 -- the same groups but for where their members lie: the sizes stay, and each number's group keeps its class and its number of members
 pub record SameShapes (old new : Groups) : Type 0 where
@@ -27,18 +27,18 @@ pub record IsSpread (F G : Flat) : Type 0 where
 
 -- G is the state F with one more drive, which was added present and steady, but for where the groups' members lie, and for drives that
 -- failed since
-pub record IsGrown (F G : Flat) : Type 0 where
+pub record IsExpanded (F G : Flat) : Type 0 where
   pub room : F.drives < most_drives
   pub spread : IsSpread (with_new_drive F false no_failures) G
 
 -- the extents of F were spread as far as G, and then this is the fault: an allocation failed, or the next move by the plan was refused
-abbrev pub NotSpread : Flat → GrowthFault → Flat → Type 0
+abbrev pub NotSpread : Flat → ExpansionFault → Flat → Type 0
 NotSpread F Memory G = IsSpread F G
 NotSpread F Full G = ⊥
 NotSpread F (Refused r) G = (M : Flat) × IsSpread F M × BalanceCase M (regrouped.Refused r) G
 
 -- F has sixteen drives; or an allocation failed, before the drive was added or after it; or the next move by the plan was refused
-abbrev pub NotGrown : Flat → GrowthFault → Flat → Type 0
-NotGrown F Memory G = (G ≡ F) ⊎ IsGrown F G
-NotGrown F Full G = (most_drives ≤ F.drives) × (G ≡ F)
-NotGrown F (Refused r) G = (M : Flat) × IsGrown F M × BalanceCase M (regrouped.Refused r) G
+abbrev pub NotExpanded : Flat → ExpansionFault → Flat → Type 0
+NotExpanded F Memory G = (G ≡ F) ⊎ IsExpanded F G
+NotExpanded F Full G = (most_drives ≤ F.drives) × (G ≡ F)
+NotExpanded F (Refused r) G = (M : Flat) × IsExpanded F M × BalanceCase M (regrouped.Refused r) G

@@ -3,9 +3,9 @@ use Rattle.std.proofs.Common.{◌≡◌, ◌≢◌, ◌+◌, ℕ, false, true, a
 use Rattle.extents.specs.Failures.{Failures, no_failures}
 use Rattle.flat_machine.specs.Flat.{Flat}
 use Rattle.flat_machine.proofs.Pairs.{put_here, put_else}
-use Rattle.array_growth.specs.Growth.{IsGrown}
+use Rattle.array_expansion.specs.Expansion.{IsExpanded}
 
-module _ (F G : Flat) (grown : IsGrown F G) where
+module _ (F G : Flat) (grown : IsExpanded F G) where
   pub writes_kept : G.writes ≡ F.writes
   writes_kept = ap (λ (z : Flat). z.writes) grown.spread.left.same
 

@@ -1,6 +1,6 @@
 use Rattle.std.proofs.lemmas.Result.{IfErr-weaker}
-use Rattle.array_growth.proofs.Growing.{was_full}
-use Rattle.array_growth.proofs.growth.attach.Goals as goal
+use Rattle.array_expansion.proofs.Growing.{was_full}
+use Rattle.array_expansion.proofs.expansion.attach.Goals as goal
 
 pub returns-clause-err : goal.returns-clause-err
 returns-clause-err g c =

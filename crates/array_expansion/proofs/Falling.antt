@@ -16,9 +16,9 @@ use Rattle.tiered_array.specs.Tiered.{Tiered}
 use Rattle.tiered_array.specs.Views.{TiersView}
 use Rattle.tiered_array.specs.declared.regrouped.Regrouped.{Regrouped}
 use Rattle.tiered_array.specs.declared.regrouped.Regrouped.TheVariants.{Moved, Refused, Nothing}
-use Rattle.array_growth.specs.Growth.{IsSpread}
-use Rattle.array_growth.proofs.Loads.{squares_fall, squares_most, squares_some}
-use Rattle.array_growth.proofs.Spreading.{spread_itself, spread_more, moved_spread}
+use Rattle.array_expansion.specs.Expansion.{IsSpread}
+use Rattle.array_expansion.proofs.Loads.{squares_fall, squares_most, squares_some}
+use Rattle.array_expansion.proofs.Spreading.{spread_itself, spread_more, moved_spread}
 
 -- the sum fell by two a move from what it is at most
 pub record HasFallen (F : Flat) (moves : ℕ) : Type 0 where

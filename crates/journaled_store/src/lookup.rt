@@ -1,7 +1,7 @@
 // A unit that is asked for, and what a walk over the drives finds of it.
 ghost use Rattle.std.specs.Prelude.{◌≡◌, ◌≢◌, ◌<◌, length, slice_get, Some};
 ghost use Rattle.extents.specs.Units.{AreUnitsSized};
-ghost use Rattle.journaled_store.specs.Picking.{IsUnitOf};
+ghost use Rattle.journaled_store.specs.Picking.{IsLookupOf};
 
 use cached_drive::CachedDrive;
 use extents::Drive;
@@ -9,7 +9,7 @@ use history::Chronicle;
 
 /// A unit that is asked for by its place. A walk over the drives copies it.
 #[derive(Drop)]
-pub(crate) struct Wanted {
+pub(crate) struct Lookup {
     pub(crate) drive: u8,
     pub(crate) address: u32,
     /// Units of its drive.
@@ -21,20 +21,20 @@ pub(crate) struct Wanted {
 }
 
 /// Copies the unit that is asked for, if it is one of this drive.
-pub(crate) fn look<N: Chronicle>(wanted: &mut Wanted, drive: &mut CachedDrive<N>, number: u8)
-    requires size { AreUnitsSized (length wanted.old.unit.items) drive.old.cache.units }
+pub(crate) fn look<N: Chronicle>(lookup: &mut Lookup, drive: &mut CachedDrive<N>, number: u8)
+    requires size { AreUnitsSized (length lookup.old.unit.items) drive.old.cache.units }
     ensures units { drive.new.cache.units ≡ drive.old.cache.units }
     ensures lost { drive.new.lost ≡ drive.old.lost }
     ensures hand { drive.new.hand ≡ drive.old.hand }
-    ensures place { (wanted.new.drive ≡ wanted.old.drive) × (wanted.new.address ≡ wanted.old.address) }
-    ensures own { number ≡ wanted.old.drive → IsUnitOf drive.old.cache.units wanted.new }
-    ensures other { number ≢ wanted.old.drive → wanted.new ≡ wanted.old }
+    ensures place { (lookup.new.drive ≡ lookup.old.drive) × (lookup.new.address ≡ lookup.old.address) }
+    ensures own { number ≡ lookup.old.drive → IsLookupOf drive.old.cache.units lookup.new }
+    ensures other { number ≢ lookup.old.drive → lookup.new ≡ lookup.old }
 {
-    if number != wanted.drive {
+    if number != lookup.drive {
         return;
     }
-    wanted.units = drive.units();
-    if wanted.address < wanted.units {
-        drive.copy_unit(wanted.address, &mut wanted.unit);
+    lookup.units = drive.units();
+    if lookup.address < lookup.units {
+        drive.copy_unit(lookup.address, &mut lookup.unit);
     }
 }

@@ -1,7 +1,7 @@
 use Rattle.std.proofs.Common.{refl, ◌∙◌}
 use Rattle.std.proofs.lemmas.Result.{IfErr-weaker, err_from_is_err_and, on_ok_weaker}
-use Rattle.array_growth.proofs.Growing.{not_grown, same_keys, spread_keys}
-use Rattle.array_growth.proofs.growth.grow.Goals as goal
+use Rattle.array_expansion.proofs.Growing.{not_grown, same_keys, spread_keys}
+use Rattle.array_expansion.proofs.expansion.expand.Goals as goal
 
 pub returns-clause-grown : goal.returns-clause-grown
 returns-clause-grown g c =

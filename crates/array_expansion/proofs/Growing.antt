@@ -20,9 +20,9 @@ use Rattle.tiered_array.specs.Regrouping.{IsBalanceOf}
 use Rattle.tiered_array.specs.Steps.{StepNoted}
 use Rattle.tiered_array.specs.Tiered.{Tiered}
 use Rattle.tiered_array.specs.Views.{TiersView}
-use Rattle.array_growth.specs.declared.fault.GrowthFault.{GrowthFault}
-use Rattle.array_growth.specs.declared.fault.GrowthFault.TheVariants.{Memory, Full, Refused}
-use Rattle.array_growth.specs.Growth.{IsSpread, NotSpread, NotGrown}
+use Rattle.array_expansion.specs.declared.fault.ExpansionFault.{ExpansionFault}
+use Rattle.array_expansion.specs.declared.fault.ExpansionFault.TheVariants.{Memory, Full, Refused}
+use Rattle.array_expansion.specs.Expansion.{IsSpread, NotSpread, NotExpanded}
 
 -- what a call of `add_drive` does
 abbrev pub Adds : TiersView → TiersView → Answer → Type 0
@@ -34,17 +34,17 @@ full_case F G (answer.Added n) other case = absurd (other n refl)
 full_case F G (answer.Refused refusal.Full) other case = case
 full_case F G _ other case = absurd case
 
-pub was_full : (old new : TiersView) (a : Answer) (fault : GrowthFault) → fault ≡ Full → ((n : ℕ) → a ≢ answer.Added n) → Adds old new a
-    → (T : Tiered) → RepresentsTiers old T → RepresentsTiers new T × NotGrown T.flat fault T.flat
+pub was_full : (old new : TiersView) (a : Answer) (fault : ExpansionFault) → fault ≡ Full → ((n : ℕ) → a ≢ answer.Added n) → Adds old new a
+    → (T : Tiered) → RepresentsTiers old T → RepresentsTiers new T × NotExpanded T.flat fault T.flat
 was_full old new a fault is other adds T was =
     let done = adds T was in
     let full = full_case T.flat done.1.0 a other done.1.1 in (
       subst (RepresentsTiers new) (done.1.2 ∙ ap (λ (G : Flat). record T { flat = G }) full.1) done.2,
-      subst (λ f. NotGrown T.flat f T.flat) (sym is) (full.0, refl),
+      subst (λ f. NotExpanded T.flat f T.flat) (sym is) (full.0, refl),
     )
 
 -- a fault of the moves is one of the whole
-pub not_grown : (F G : Flat) (fault : GrowthFault) → F.drives < most_drives → NotSpread (with_new_drive F false no_failures) fault G → NotGrown F fault G
+pub not_grown : (F G : Flat) (fault : ExpansionFault) → F.drives < most_drives → NotSpread (with_new_drive F false no_failures) fault G → NotExpanded F fault G
 not_grown F G Memory room stops = inr (record { room = room; spread = stops })
 not_grown F G Full room stops = absurd stops
 not_grown F G (Refused r) room stops = (stops.0, record { room = room; spread = stops.1 }, stops.2)
@@ -53,7 +53,7 @@ not_grown F G (Refused r) room stops = (stops.0, record { room = room; spread = 
 spread_log : (F G : Flat) → IsSpread F G → G.emitted ≡ F.emitted
 spread_log F G spread = ap (λ (z : Flat). z.emitted) spread.left.same
 
-not_spread_log : (F G : Flat) (fault : GrowthFault) → NotSpread F fault G → G.emitted ≡ F.emitted
+not_spread_log : (F G : Flat) (fault : ExpansionFault) → NotSpread F fault G → G.emitted ≡ F.emitted
 not_spread_log F G Memory stops = spread_log F G stops
 not_spread_log F G Full stops = absurd stops
 not_spread_log F G (Refused r) stops =
@@ -70,7 +70,7 @@ same_keys old new T G was is log block =
     (subst (λ (records : List Record). IsMapOf records (key_at new.world.array)) log is.world.array.history.map) was.world.array.history.map)
 
 -- the map stays while extents move, whether a fault ends that or not
-pub spread_keys : (r : Result (Unit {0}) GrowthFault) (old new : TiersView)
+pub spread_keys : (r : Result (Unit {0}) ExpansionFault) (old new : TiersView)
     → OnOk r ((T : Tiered) → RepresentsTiers old T → (G : Flat) × RepresentsTiers new (record T { flat = G }) × IsSpread T.flat G × IsBalanceOf G None)
     → IfErr r (λ fault. (T : Tiered) → RepresentsTiers old T → (G : Flat) × RepresentsTiers new (record T { flat = G }) × NotSpread T.flat fault G)
     → (T : Tiered) → RepresentsTiers old T → IsSame (key_at new.world.array) (key_at old.world.array)

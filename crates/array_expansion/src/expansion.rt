@@ -9,9 +9,9 @@ ghost use Rattle.slot_tables.specs.Views.{SameSizes, key_at};
 ghost use Rattle.tiered_array.specs.Matches.{RepresentsTiers};
 ghost use Rattle.tiered_array.specs.Regrouping.{IsBalanceOf};
 ghost use Rattle.tiered_array.specs.Tiered.{Tiered};
-ghost use Rattle.array_growth.specs.Growth.{IsGrown, IsSpread, NotGrown, NotSpread};
+ghost use Rattle.array_expansion.specs.Expansion.{IsExpanded, IsSpread, NotExpanded, NotSpread};
 
-use crate::GrowthFault;
+use crate::ExpansionFault;
 use std::alloc::Global;
 use step_core::{Answer, Drive, HotSwap};
 use tiered_array::{Regrouped, Tiers};
@@ -22,11 +22,11 @@ const MOST_MOVES: u32 = 16 * 512 * 512 / 2 + 1;
 
 /// Adds a drive whose units are all zero, and moves extents, one after another, until no two drives' loads (extents in groups) are
 /// two apart where one could be moved. Blocks, records and held slots stay. After a fault some extents may have moved.
-pub fn grow<D: HotSwap + Drop>(alloc: Global, tiers: &mut Tiers<D>) -> Result<(), GrowthFault>
+pub fn expand<D: HotSwap + Drop>(alloc: Global, tiers: &mut Tiers<D>) -> Result<(), ExpansionFault>
     ensures grown { OnOk result ((T : Tiered) → RepresentsTiers tiers.old T → (U : Tiered) × RepresentsTiers tiers.new U
-        × IsGrown T.flat U.flat × IsBalanceOf U.flat None × (U ≡ record T { flat = U.flat })) }
+        × IsExpanded T.flat U.flat × IsBalanceOf U.flat None × (U ≡ record T { flat = U.flat })) }
     ensures err { IfErr result (λ fault. (T : Tiered) → RepresentsTiers tiers.old T → (U : Tiered) × RepresentsTiers tiers.new U
-        × NotGrown T.flat fault U.flat × (U ≡ record T { flat = U.flat })) }
+        × NotExpanded T.flat fault U.flat × (U ≡ record T { flat = U.flat })) }
     ensures map { (T : Tiered) → RepresentsTiers tiers.old T → IsSame (key_at tiers.new.world.array) (key_at tiers.old.world.array) }
     ensures room { SameSizes tiers.old.world.array tiers.new.world.array }
 {
@@ -35,11 +35,11 @@ pub fn grow<D: HotSwap + Drop>(alloc: Global, tiers: &mut Tiers<D>) -> Result<()
 }
 
 // Adds a drive.
-fn attach<D: HotSwap + Drop>(alloc: Global, tiers: &mut Tiers<D>) -> Result<(), GrowthFault>
+fn attach<D: HotSwap + Drop>(alloc: Global, tiers: &mut Tiers<D>) -> Result<(), ExpansionFault>
     ensures ok { OnOk result ((T : Tiered) → RepresentsTiers tiers.old T → (T.flat.drives < most_drives)
         × RepresentsTiers tiers.new (record T { flat = with_new_drive T.flat false no_failures })) }
     ensures err { IfErr result (λ fault. (T : Tiered) → RepresentsTiers tiers.old T
-        → RepresentsTiers tiers.new T × NotGrown T.flat fault T.flat) }
+        → RepresentsTiers tiers.new T × NotExpanded T.flat fault T.flat) }
     ensures room { SameSizes tiers.old.world.array tiers.new.world.array }
 {
     let answer = tiers.add_drive(alloc)?;
@@ -47,18 +47,18 @@ fn attach<D: HotSwap + Drop>(alloc: Global, tiers: &mut Tiers<D>) -> Result<(), 
 }
 
 // What an answer to a drive that is added means. It is refused with `Full` alone.
-fn added(answer: Answer) -> Result<(), GrowthFault>
+fn added(answer: Answer) -> Result<(), ExpansionFault>
     ensures ok { OnOk result ((n : ℕ) × (answer ≡ Answer.Added n)) }
-    ensures err { IfErr result (λ fault. (fault ≡ GrowthFault.Full) × ((n : ℕ) → answer ≢ Answer.Added n)) }
+    ensures err { IfErr result (λ fault. (fault ≡ ExpansionFault.Full) × ((n : ℕ) → answer ≢ Answer.Added n)) }
 {
     match answer {
         Answer::Added(_) => Ok(()),
-        _ => Err(GrowthFault::Full),
+        _ => Err(ExpansionFault::Full),
     }
 }
 
 // Moves extents until none is to be moved.
-fn spread<D: Drive>(tiers: &mut Tiers<D>) -> Result<(), GrowthFault>
+fn spread<D: Drive>(tiers: &mut Tiers<D>) -> Result<(), ExpansionFault>
     ensures ok { OnOk result ((T : Tiered) → RepresentsTiers tiers.old T → (G : Flat) × RepresentsTiers tiers.new (record T { flat = G })
         × IsSpread T.flat G × IsBalanceOf G None) }
     ensures err { IfErr result (λ fault. (T : Tiered) → RepresentsTiers tiers.old T → (G : Flat) × RepresentsTiers tiers.new (record T { flat = G })
@@ -68,7 +68,7 @@ fn spread<D: Drive>(tiers: &mut Tiers<D>) -> Result<(), GrowthFault>
     for _ in 0..MOST_MOVES {
         match tiers.balance()? {
             Regrouped::Moved(_) => {}
-            Regrouped::Refused(refusal) => return Err(GrowthFault::Refused(refusal)),
+            Regrouped::Refused(refusal) => return Err(ExpansionFault::Refused(refusal)),
             Regrouped::Nothing => return Ok(()),
         }
     }
