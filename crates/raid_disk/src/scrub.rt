@@ -1,17 +1,13 @@
 //! All slots of a disk are tested.
-ghost use Rattle.std.specs.Prelude.{◌≡◌};
-
 use crate::folder::Folder;
 use crate::mending::{accept_disk, mend_disk};
-use crate::opened::{OpenFiles, Use, groups_in, open_array, open_table, open_vault, trouble_of};
+use crate::opened::{OpenFiles, Use, groups_in, open_table, open_vault, trouble_of};
 use crate::trouble::Trouble;
-use array_recovery::{Found, find};
-use cached_drive::Saved;
+use array_recovery::{Found, RecoveryFault, find, tiers_of};
 use drive_rebuild::{Findings, scrub_parts};
 use extents::{DRIVES, HotSwap, MemDrive};
-use history::{Chronicle, Opened};
+use std::alloc::Global;
 use std::io;
-use std::marker::Brand;
 use unit_store::Parts;
 
 // What a disk has, as far as it can be tested.
@@ -55,59 +51,77 @@ fn without_lost(found: Found) -> Vec<MemDrive> {
     drives
 }
 
-// Tests the slots of a disk.
-fn test_slots(rt: &HostRuntime, files: &mut OpenFiles) -> Result<Report, Trouble> {
-    let table = files.table;
-    let plan = table.plan;
-    let spelled = groups_in(rt.alloc(), &mut files.vault, &table)?;
-    let found = match find(
-        rt.alloc(),
-        &mut files.vault,
-        &plan.shape,
-        spelled.drives,
-        &files.drives.absent(),
-    ) {
-        Ok(found) => found,
-        Err(fault) => return Err(trouble_of(fault)),
-    };
-    let lost = found.lost;
-    let mut parts = Parts {
-        shape: plan.shape,
-        groups: spelled.groups,
-        extents: spelled.extents,
-        drives: without_lost(found),
+// Whether the units' headers make an array.
+fn make_array(alloc: Global, parts: Parts<MemDrive>) -> Result<bool, Trouble> {
+    let Parts {
+        shape,
+        groups,
+        extents,
+        drives,
+        note: _,
+    } = parts;
+    let parts = Parts {
+        shape,
+        groups,
+        extents,
+        drives,
         note: None,
     };
-    match scrub_parts(rt.alloc(), &mut parts) {
-        Ok(findings) => Ok(Report {
-            findings,
-            lost,
-            drives: spelled.drives,
-            are_headers_sound: true,
-            mended: 0,
-            accepted: 0,
-        }),
-        Err(fault) => Err(Trouble::of_rebuild(fault)),
+    match tiers_of(alloc, parts) {
+        Ok(_tiers) => Ok(true),
+        Err(RecoveryFault::Unsound | RecoveryFault::Gone(_)) => Ok(false),
+        Err(fault) => Err(trouble_of(fault)),
     }
 }
 
-// Tests the slots and then the headers: whether they make an array.
-fn test_disk<N: Chronicle>(
+// What a disk has, in memory.
+fn load(
     rt: &HostRuntime,
-    folder: Folder<'_>,
-    opened: Opened<Saved>,
-) -> Result<Report, Trouble>
-    requires { opened ≡ N.chronicle }
-{
+    files: &mut OpenFiles,
+) -> Result<(Parts<MemDrive>, [bool; DRIVES]), Trouble> {
+    let table = files.table;
+    let spelled = groups_in(rt.alloc(), &mut files.vault, &table)?;
+    let shape = table.plan.shape;
+    match find(
+        rt.alloc(),
+        &mut files.vault,
+        &shape,
+        spelled.drives,
+        &files.drives.absent(),
+    ) {
+        Ok(found) => {
+            let lost = found.lost;
+            let parts = Parts {
+                shape,
+                groups: spelled.groups,
+                extents: spelled.extents,
+                drives: without_lost(found),
+                note: None,
+            };
+            Ok((parts, lost))
+        }
+        Err(fault) => Err(trouble_of(fault)),
+    }
+}
+
+// Tests the slots of a disk, and then the headers: whether they make an array.
+fn test_once(rt: &HostRuntime, folder: Folder<'_>) -> Result<Report, Trouble> {
     let (file, table) = open_table(rt, folder, Use::Looks)?;
     let mut files = open_vault(rt, folder, Use::Looks, file, table)?;
-    let mut report = test_slots(rt, &mut files)?;
-    match open_array::<N>(rt, folder, files, 0, opened) {
-        Ok(_disk) => {}
-        Err(Trouble::Unsound | Trouble::Gone(_)) => report.are_headers_sound = false,
-        Err(trouble) => return Err(trouble),
-    }
-    Ok(report)
+    let (mut parts, lost) = load(rt, &mut files)?;
+    let drives = parts.drives.len() as u8;
+    let findings = match scrub_parts(rt.alloc(), &mut parts) {
+        Ok(findings) => findings,
+        Err(fault) => return Err(Trouble::of_rebuild(fault)),
+    };
+    Ok(Report {
+        findings,
+        lost,
+        drives,
+        are_headers_sound: make_array(rt.alloc(), parts)?,
+        mended: 0,
+        accepted: 0,
+    })
 }
 
 fn print(rt: &HostRuntime, report: &Report) -> io::Result<()> {
@@ -182,11 +196,6 @@ fn print_json(rt: &HostRuntime, report: &Report) -> io::Result<()> {
     print!(rt; "],\"missing\":[")?;
     print_missing(rt, report)?;
     println!(rt; "]}}")
-}
-
-fn test_once(rt: &HostRuntime, folder: Folder<'_>) -> Result<Report, Trouble> {
-    let opened = Opened::new(rt.alloc())?;
-    test_disk::<Brand>(rt, folder, opened)
 }
 
 // Writes units again that aren't as their digests say, and tests all slots. What can't be computed is taken as it is, if that was asked

@@ -58,17 +58,18 @@ struct LossWatch<'a> {
     named: Option<u8>,
     // How many units had been compared when that was last written down.
     saved: u64,
-    // How many units had been written again when that was last warned.
+    // How many units had been written again when a warning last said so.
     warned: u64,
 }
 
 impl<'a> LossWatch<'a> {
-    // Writes down where units are compared next, and tells of units that were written again.
+    // Writes down where units are compared next, and warns of units that were written again.
     fn note_scrub<N: Chronicle>(&mut self, store: &JournaledStore<N, DiskVault>) {
         if store.repaired() > self.warned {
             self.warned = store.repaired();
             // Nothing is left to do where standard error can't be written.
             let _ = warn_repaired(self.rt, self.folder, self.warned);
+            say_served(self.rt, self.folder, store, self.drives);
         }
         if store.scrubbed() >= self.saved.saturating_add(SAVE_EVERY) {
             self.saved = store.scrubbed();

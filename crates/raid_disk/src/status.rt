@@ -140,6 +140,13 @@ pub(crate) fn served_text<N: Chronicle>(
         let word = word_of(drives, drive, array.is_lost(drive));
         write!(text, "drive{drive} {word}\n")?;
     }
+    let repaired = store.repaired();
+    if repaired > 0 {
+        write!(
+            text,
+            "{repaired} units weren't as the array has them, and are written again\n"
+        )?;
+    }
     match missing_in(array) {
         0 => write!(text, "{}", progress::FINE)?,
         missing => write!(text, "{missing} of the drives lost\n")?,
