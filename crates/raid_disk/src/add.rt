@@ -7,7 +7,7 @@ use crate::opened::{
     Disk, DiskVault, Use, groups_in, header_of, layout_of, open_disk, open_file, open_vault,
     trouble_of,
 };
-use crate::places::absolute;
+use crate::places::places_with;
 use crate::progress;
 use crate::replace::{make_fresh, rename};
 use crate::table::Table;
@@ -54,29 +54,6 @@ pub(crate) fn settle_whole<N: Chronicle>(
     test_whole(&disk, spare)?;
     let drives = disk.store.world().array().drive_count();
     Ok((disk.file, disk.table, drives))
-}
-
-// The drives' own places, with one for the new drive where a path was given.
-fn places_with(
-    rt: &HostRuntime,
-    folder: Folder<'_>,
-    number: u8,
-    path: Option<&str>,
-) -> Result<Vec<String>, Trouble> {
-    let mut places = Vec::new(rt.alloc());
-    for index in 0..folder.places.len() {
-        let place: &str = &folder.places[index];
-        if index < usize::from(number) || path.is_none() {
-            places.push(String::from_str(rt.alloc(), place)?)?;
-        }
-    }
-    if let Some(path) = path {
-        for _ in places.len()..usize::from(number) {
-            places.push(String::new(rt.alloc()))?;
-        }
-        places.push(absolute(rt, path)?)?;
-    }
-    Ok(places)
 }
 
 /// Whether what is at a drive's place is a file of it, whole, as an addition that was stopped may have left it.

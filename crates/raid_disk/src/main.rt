@@ -192,7 +192,7 @@ fn replace_from<'w>(
     folder: Folder<'_>,
 ) -> Result<u8, Trouble> {
     match given.get_one::<u8>("number") {
-        Some(number) => replace::replace(rt, folder, number),
+        Some(number) => replace::replace(rt, folder, number, given.get_str("path")),
         None => Ok(WRONG_WORDS),
     }
 }

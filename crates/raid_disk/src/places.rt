@@ -32,6 +32,31 @@ pub(crate) fn absolute(rt: &HostRuntime, path: &str) -> Result<String, Trouble> 
     }
 }
 
+/// The drives' own places, with a path for one of them where it is given.
+pub(crate) fn places_with(
+    rt: &HostRuntime,
+    folder: Folder<'_>,
+    number: u8,
+    path: Option<&str>,
+) -> Result<Vec<String>, Trouble> {
+    let mut places = Vec::new(rt.alloc());
+    let mut count = folder.places.len();
+    if path.is_some() {
+        count = count.max(usize::from(number) + 1);
+    }
+    for index in 0..count {
+        let place: &str = match folder.places.get(index) {
+            Some(place) => place,
+            None => "",
+        };
+        match path {
+            Some(path) if index == usize::from(number) => places.push(absolute(rt, path)?)?,
+            _ => places.push(String::from_str(rt.alloc(), place)?)?,
+        }
+    }
+    Ok(places)
+}
+
 /// The places for a new disk, one for each path that was given, as paths from the root on.
 pub(crate) fn places_from(rt: &HostRuntime, paths: &[String]) -> Result<Vec<String>, Trouble> {
     let mut places = Vec::new(rt.alloc());

@@ -8,8 +8,10 @@ use crate::folder::{Folder, Name};
 use crate::opened::{
     Disk, Use, file_bytes, groups_in, header_of, layout_of, open_disk, open_vault,
 };
+use crate::places::places_with;
 use crate::progress;
 use crate::table::Table;
+use crate::texts::write_places;
 use crate::trouble::{Trouble, unwritten};
 use cached_drive::Saved;
 use drive_places::{Sight, Verdict};
@@ -190,6 +192,27 @@ fn keep_old(rt: &HostRuntime, folder: Folder<'_>, number: u8, sight: Sight) -> R
     Ok(())
 }
 
+// Lets the own place of a drive that is marked be another one, where nothing may be. Says what is at its place.
+fn move_place(
+    rt: &HostRuntime,
+    folder: Folder<'_>,
+    placed: Folder<'_>,
+    number: u8,
+    sight: Sight,
+) -> Result<Sight, Trouble> {
+    let name = Name::Drive(number);
+    let old = folder.path(rt.alloc(), name)?;
+    let new = placed.path(rt.alloc(), name)?;
+    if old.as_str() == new.as_str() {
+        return Ok(sight);
+    }
+    if is_there(rt, placed, name)? {
+        return Err(Trouble::PathThere);
+    }
+    write_places(rt, placed)?;
+    Ok(Sight::Absent)
+}
+
 // Gives a drive that is marked a file of zeros, in one piece.
 fn put_fresh(
     rt: &HostRuntime,
@@ -269,13 +292,26 @@ fn print_replaced(rt: &HostRuntime, number: u8) -> io::Result<()> {
     println!(rt; "drive{number} is replaced: no drive is missing")
 }
 
-/// Gives a lost drive a new file with its units. Stopped at any moment, the disk has the bytes that it had, and the drive is lost until
-/// all is done.
-pub(crate) fn replace(rt: &HostRuntime, folder: Folder<'_>, number: u8) -> Result<u8, Trouble> {
+/// Gives a lost drive a new file with its units, at its own place, or at a path, which is its place from then on. Stopped at any moment,
+/// the disk has the bytes that it had, and the drive is lost until all is done.
+pub(crate) fn replace(
+    rt: &HostRuntime,
+    folder: Folder<'_>,
+    number: u8,
+    path: Option<&str>,
+) -> Result<u8, Trouble> {
     let opened = Opened::new(rt.alloc())?;
     let (file, table, sight) = mark_lost::<Brand>(rt, folder, number, opened)?;
-    put_fresh(rt, folder, &table, number, sight)?;
-    let rebuilt = rebuild(rt, folder.without(None), file, table, number);
+    let places = places_with(rt, folder, number, path)?;
+    let placed = Folder {
+        name: folder.name,
+        places: &places,
+        others: folder.others,
+        without: None,
+    };
+    let sight = move_place(rt, folder, placed, number, sight)?;
+    put_fresh(rt, placed, &table, number, sight)?;
+    let rebuilt = rebuild(rt, placed, file, table, number);
     progress::end(rt, folder);
     rebuilt?;
     match print_replaced(rt, number) {

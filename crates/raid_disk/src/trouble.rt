@@ -76,6 +76,8 @@ pub(crate) enum Trouble {
     Path,
     /// More places were given than drives.
     Places,
+    /// At the path that was given there is something already.
+    PathThere,
     /// This slot's units contradict one another: the new ones, too, so that the drive stays lost.
     Contradicts(u16),
     /// The unit of this drive at this address isn't as its digest says.
@@ -266,6 +268,9 @@ impl Trouble {
         match self {
             Trouble::Path => eprintln!(rt; "raid_disk: PATH isn't the path of a file"),
             Trouble::Places => eprintln!(rt; "raid_disk: more paths are given than drives"),
+            Trouble::PathThere => eprintln!(rt;
+                "raid_disk: what PATH names is there already: nothing was made or changed"
+            ),
             Trouble::NoPlaces => eprintln!(rt;
                 "raid_disk: {at}/places isn't a list of places: a line for a drive is drive NUMBER PATH, one at most for each"
             ),

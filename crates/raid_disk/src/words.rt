@@ -80,13 +80,22 @@ fn for_drive<'a>(
         .arg(others(alloc))
 }
 
+// Where a drive's new file is to be.
+fn path<'a>(alloc: Global, help: &'a str) -> Arg<'a> {
+    Arg::new(alloc, "path").value_name("PATH").help(help)
+}
+
 fn replace<'a>(alloc: Global) -> Result<Command<'a>, AllocError> {
     for_drive(
         alloc,
         "replace",
         "makes the file of a lost drive again, with its units, from the other drives",
         "the lost drive's number, 0 for drive0",
-    )
+    )?
+    .arg(path(
+        alloc,
+        "the drive's file from now on; at the drive's own place unless it is given",
+    ))
 }
 
 fn remove<'a>(alloc: Global) -> Result<Command<'a>, AllocError> {
@@ -99,9 +108,10 @@ fn remove<'a>(alloc: Global) -> Result<Command<'a>, AllocError> {
 }
 
 fn add<'a>(alloc: Global) -> Result<Command<'a>, AllocError> {
-    let path = Arg::new(alloc, "path")
-        .value_name("PATH")
-        .help("the new drive's file; in the folder unless it is given");
+    let path = path(
+        alloc,
+        "the new drive's file; in the folder unless it is given",
+    );
     Command::new(alloc, "add")
         .about("adds a drive, and spreads what the others have over all of them")
         .arg(folder(alloc))?
