@@ -1,12 +1,13 @@
 // All slots of an array are tested.
-ghost use Rattle.std.specs.Prelude.{◌≡◌, length, true, IfOk, OnOk};
+ghost use Rattle.std.specs.Prelude.{◌≡◌, ◌≢◌, length, true, IfOk, OnOk};
 ghost use Rattle.extent_groups.specs.Stores.{AreSound, unit_bytes};
 ghost use Rattle.unit_store.specs.Fit.{IsFit};
+ghost use Rattle.unit_store.specs.Losses.{LosesOnly};
 ghost use Rattle.unit_store.specs.Slots.{cells_in};
 
 use crate::fault::RebuildFault;
 use consistency_check::{find_unsound, is_sound};
-use extent_groups::{GROUPS, SLOTS};
+use extent_groups::{GROUPS, GroupTable, SLOTS};
 use extents::Drive;
 use std::alloc::Global;
 use unit_store::Parts;
@@ -25,11 +26,19 @@ pub struct Findings {
     pub named: Vec<u16>,
 }
 
-// Notes a slot that was tested.
+// How many slots the groups have.
+fn slots_in(groups: &GroupTable) -> u32 {
+    let mut slots = 0u32;
+    for group in 0..GROUPS as u16 {
+        slots = slots.saturating_add(u32::from(groups.slots_of(group)));
+    }
+    slots
+}
+
+// Notes a slot that was tested, if it isn't sound.
 fn note(findings: &mut Findings, slot: u16, is_sound: bool) -> Result<(), RebuildFault>
     ensures { OnOk result (findings.new.unsound ≡ 0 → is_sound ≡ true) }
 {
-    findings.slots = findings.slots.saturating_add(1);
     if is_sound {
         return Ok(());
     }
@@ -52,7 +61,7 @@ fn scrub_group<D: Drive>(
     requires unit { length unit.old ≡ unit_bytes parts.old.groups }
     requires other { length other.old ≡ unit_bytes parts.old.groups }
     ensures fit { IsFit D.units parts.new }
-    ensures groups { parts.new.groups ≡ parts.old.groups }
+    ensures only { LosesOnly D.units D.lost D.failures parts.old parts.new }
 {
     for index in 0..parts.groups.slots_of(group) {
         let slot = SLOTS * group + index;
@@ -73,10 +82,35 @@ fn scrub_groups<D: Drive>(
     requires unit { length unit.old ≡ unit_bytes parts.old.groups }
     requires other { length other.old ≡ unit_bytes parts.old.groups }
     ensures fit { IsFit D.units parts.new }
-    ensures groups { parts.new.groups ≡ parts.old.groups }
+    ensures only { LosesOnly D.units D.lost D.failures parts.old parts.new }
 {
     for group in 0..GROUPS as u16 {
         scrub_group(parts, group, unit, other, findings)?;
+    }
+    Ok(())
+}
+
+// Tests all slots. Names those that aren't sound, if there are any, with two buffers of a unit's length.
+fn name_unsound<D: Drive>(
+    parts: &mut Parts<D>,
+    unit: &mut [u8],
+    other: &mut [u8],
+    findings: &mut Findings,
+) -> Result<(), RebuildFault>
+    requires fit { IsFit D.units parts.old }
+    requires unit { length unit.old ≡ unit_bytes parts.old.groups }
+    requires other { length other.old ≡ unit_bytes parts.old.groups }
+    ensures sound { OnOk result (findings.new.unsound ≡ 0 → AreSound parts.new.groups (cells_in D.units D.lost parts.new)) }
+    ensures only { LosesOnly D.units D.lost D.failures parts.old parts.new }
+{
+    // Mostly there is none: this reads each row once, while a test of each slot reads a row for each of its slots.
+    let Some(slot) = find_unsound(parts, unit, other) else {
+        return Ok(());
+    };
+    scrub_groups(parts, unit, other, findings)?;
+    // Its drive may be lost since.
+    if findings.unsound == 0 {
+        note(findings, slot, false)?;
     }
     Ok(())
 }
@@ -86,6 +120,9 @@ fn scrub_groups<D: Drive>(
 pub fn scrub_parts<D: Drive>(alloc: Global, parts: &mut Parts<D>) -> Result<Findings, RebuildFault>
     // None was found only if all slots are sound.
     ensures sound { IfOk result (λ f. f.unsound ≡ 0 → AreSound parts.new.groups (cells_in D.units D.lost parts.new)) }
+
+    // It reads, and nothing else: a drive is lost by its own failure alone.
+    ensures only { LosesOnly D.units D.lost D.failures parts.old parts.new }
 {
     if !parts.is_fit() {
         return Err(RebuildFault::Misfit);
@@ -94,16 +131,10 @@ pub fn scrub_parts<D: Drive>(alloc: Global, parts: &mut Parts<D>) -> Result<Find
     let mut unit = vec![in alloc; 0u8; size]?;
     let mut other = vec![in alloc; 0u8; size]?;
     let mut findings = Findings {
-        slots: 0,
+        slots: slots_in(&parts.groups),
         unsound: 0,
         named: Vec::new(alloc),
     };
-    scrub_groups(parts, &mut unit, &mut other, &mut findings)?;
-    // What the loop has found is counted; that it missed none is tested once more.
-    if let Some(slot) = find_unsound(parts, &mut unit, &mut other) {
-        if findings.unsound == 0 {
-            note(&mut findings, slot, false)?;
-        }
-    }
+    name_unsound(parts, &mut unit, &mut other, &mut findings)?;
     Ok(findings)
 }
