@@ -74,11 +74,11 @@ fn make_array(alloc: Global, parts: Parts<MemDrive>) -> Result<bool, Trouble> {
     }
 }
 
-// What a disk has, in memory.
+// What a disk has, in memory, which of its drives are lost, and how many it has.
 fn load(
     rt: &HostRuntime,
     files: &mut OpenFiles,
-) -> Result<(Parts<MemDrive>, [bool; DRIVES]), Trouble> {
+) -> Result<(Parts<MemDrive>, [bool; DRIVES], u8), Trouble> {
     let table = files.table;
     let spelled = groups_in(rt.alloc(), &mut files.vault, &table)?;
     let shape = table.plan.shape;
@@ -98,7 +98,7 @@ fn load(
                 drives: without_lost(found),
                 note: None,
             };
-            Ok((parts, lost))
+            Ok((parts, lost, spelled.drives))
         }
         Err(fault) => Err(trouble_of(fault)),
     }
@@ -108,8 +108,7 @@ fn load(
 fn test_once(rt: &HostRuntime, folder: Folder<'_>) -> Result<Report, Trouble> {
     let (file, table) = open_table(rt, folder, Use::Looks)?;
     let mut files = open_vault(rt, folder, Use::Looks, file, table)?;
-    let (mut parts, lost) = load(rt, &mut files)?;
-    let drives = parts.drives.len() as u8;
+    let (mut parts, lost, drives) = load(rt, &mut files)?;
     let findings = match scrub_parts(rt.alloc(), &mut parts) {
         Ok(findings) => findings,
         Err(fault) => return Err(Trouble::of_rebuild(fault)),
