@@ -1,16 +1,17 @@
 -- Where a session begins.
-use Rattle.std.proofs.Common.{◌≡◌, ℕ, ◌≤◌, Bool, true, false, List, [], ◌∷◌, inl, inr, sym, arith, ◌∙◌, Option}
+use Rattle.std.proofs.Common.{◌≡◌, ℕ, ◌≤◌, Bool, true, false, List, [], ◌∷◌, inl, inr, sym, subst, arith, ◌∙◌, Option}
 use Rattle.std.proofs.lemmas.Bool.{true≢false}
 use Rattle.extent_groups.specs.Groups.{Groups}
 use Rattle.extent_groups.specs.Cells.{Cells}
 use Rattle.tiered_array.specs.Views.{TiersView}
 use Rattle.vault.specs.Images.{Image}
 use Rattle.vault.specs.declared.store.Stop.{Stop}
-use Rattle.byte_store.specs.Lasting.{Lasts, Shown}
+use Rattle.byte_store.specs.Flat.{StoreState}
+use Rattle.byte_store.specs.Lasting.{Lasts, Shown, Shows}
 use Rattle.byte_store.specs.declared.fault.StoreFault.{StoreFault}
 use Rattle.nbd_serve.specs.Stopping.{StoreType}
 use Rattle.nbd_serve.specs.declared.end.End.{End}
-use Rattle.array_store.specs.Stores.{Follows}
+use Rattle.array_store.specs.Stores.{Follows, IsStoreOf, StoreView}
 use Rattle.journaled_store.specs.Left.{HasBoth, IsLeftOf}
 use Rattle.journaled_store.specs.Outlasting.{Outlasts, OutlastsSince, Point}
 use Rattle.journaled_store.proofs.Opening.{alone}
@@ -18,7 +19,7 @@ use Rattle.vault_server.specs.Served.{HasBegun, IsOn, IsServedFrom}
 use Rattle.vault_server.proofs.Sessions.{covers_one}
 
 -- of an array that a vault has all of, more drives may be absent
-pub left_absent : (what : Shown) (groups : Groups) (drives : ℕ) (absent : List Bool) (c : Cells) → IsLeftOf HasBoth what groups drives [] c → IsLeftOf HasBoth what groups drives absent c
+abbrev pub left_absent : (what : Shown) (groups : Groups) (drives : ℕ) (absent : List Bool) (c : Cells) → IsLeftOf HasBoth what groups drives [] c → IsLeftOf HasBoth what groups drives absent c
 left_absent what groups drives absent c left = record {
   tiers = left.tiers;
   shown = left.shown;
@@ -34,6 +35,12 @@ left_absent what groups drives absent c left = record {
 -- the same groups and drives, after a call
 pub on_after : (groups : Groups) (drives : ℕ) (old new : TiersView) → IsOn groups drives old → Follows old new → IsOn groups drives new
 on_after groups drives old new on follows = record { groups_are = follows.groups ∙ on.groups_are; many = follows.many ∙ on.many }
+
+-- what a store shows whose parts are the same
+pub shows_then : (was now : StoreView) (u w : Bool) (F : StoreState) (what : Shown) → now ≡ was → w ≡ u → Shows was.tiers.world.array.keys F what × IsStoreOf was.tiers was.size u F
+    → Shows now.tiers.world.array.keys F what × IsStoreOf now.tiers now.size w F
+shows_then was now u w F what same noted there = subst (λ (s : StoreView). Shows s.tiers.world.array.keys F what × IsStoreOf s.tiers s.size w F) (sym same)
+    (there.0, subst (λ b. IsStoreOf was.tiers was.size b F) (sym noted) there.1)
 
 module _ {V : Type 0} (known : V → Type 0) (seen : V → Image) (may_leave : V → Stop → Image → Type 0) (moment : V → ℕ) (left_since : V → Stop → ℕ → Image → Type 0) where
   -- after a call that leaves what is shown

@@ -1,3 +1,4 @@
 mod Sessions
 mod Begun
 mod Stops
+mod Missing

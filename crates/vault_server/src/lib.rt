@@ -4,5 +4,5 @@
 mod opening;
 mod session;
 
-pub use opening::open_settled;
+pub use opening::{OpenedStore, open_settled};
 pub use session::{Served, serve_vault};

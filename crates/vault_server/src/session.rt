@@ -1,5 +1,5 @@
 // A session with one client, from the opening of a vault's array to its last settling.
-ghost use Rattle.std.specs.Prelude.{◌≡◌, ◌*◌, ℕ, length, IfErr, IfOk, IsOk};
+ghost use Rattle.std.specs.Prelude.{◌≡◌, ◌*◌, ℕ, length, IfErr, IfOk, IsOk, OnOk, ⊤};
 ghost use Rattle.extents.specs.Sizes.{extent_units};
 ghost use Rattle.extent_groups.specs.Groups.{Groups};
 ghost use Rattle.vault.specs.Images.{recovered};
@@ -10,8 +10,9 @@ ghost use Rattle.nbd_serve.specs.Stopping.{store_type};
 ghost use Rattle.array_recovery.specs.Found.{OnlyRead};
 ghost use Rattle.array_recovery.specs.Reopened.{IsSoundFor};
 ghost use Rattle.vault_server.specs.Served.{HasBegun, IsOn, IsServedFrom, Opens, durable};
+ghost use Rattle.vault_server.specs.Missing.{IsSoundBut, OnceMarked};
 
-use crate::opening::open_settled;
+use crate::opening::{OpenedStore, open_settled};
 use array_recovery::RecoveryFault;
 use byte_store::{ByteStore, StoreFault};
 use cached_drive::Saved;
@@ -28,6 +29,8 @@ use watched_store::{Sees, Watched};
 /// What is there after a session.
 #[derive(Drop)]
 pub struct Served<N: Chronicle, V: Vault + Drop, W: Sees<JournaledStore<N, V>> + Drop> {
+    /// Whether all that a session before has left, and the marks of the drives that were missing, were durable before it began.
+    pub marked: Result<(), StoreFault>,
     /// How it ended.
     pub end: End,
     /// Whether all bytes are durable.
@@ -42,10 +45,12 @@ pub struct Served<N: Chronicle, V: Vault + Drop, W: Sees<JournaledStore<N, V>> +
 fn attend<N: Chronicle, V: Vault + Drop, W: Sees<JournaledStore<N, V>> + Drop, R: Read, O: Write>(
     alloc: Global,
     store: JournaledStore<N, V>,
+    marked: Result<(), StoreFault>,
     watch: W,
     reader: &mut R,
     writer: &mut O,
 ) -> Served<N, V, W>
+    ensures marked { result.marked ≡ marked }
     ensures served { let type = store_type ⟦<Watched<JournaledStore<N, V>, W> as ByteStore>⟧.represents ⟦<Watched<JournaledStore<N, V>, W> as ByteStore>⟧.keys
         ⟦<Watched<JournaledStore<N, V>, W> as ByteStore>⟧.stays ⟦<Watched<JournaledStore<N, V>, W> as ByteStore>⟧.outlasts
         ⟦<Watched<JournaledStore<N, V>, W> as ByteStore>⟧.moment ⟦<Watched<JournaledStore<N, V>, W> as ByteStore>⟧.outlasts_since in
@@ -64,6 +69,7 @@ fn attend<N: Chronicle, V: Vault + Drop, W: Sees<JournaledStore<N, V>> + Drop, R
     let _ = store.settle();
     watch.sees(&store);
     Served {
+        marked,
         end,
         flushed,
         store,
@@ -110,15 +116,28 @@ pub fn serve_vault<
         (IsSoundFor HasBoth V.seen V.may_leave what groups drives (shape.now.extents * extent_units shape.now.segments) absent.now vault)
         (Opens V.left_since groups drives s.store.vault) (V.moment vault) (V.moment s.store.vault) (IsOk s.flushed) what s.end
         (R.remaining reader.old) (R.remaining reader.new) (O.contents writer.old) (O.contents writer.new)) }
+
+    // So it is where a drive is missing for the first time, for all stops since the drive was marked. One before that leaves what is
+    // opened again if the same drives are absent.
+    ensures missing { let type = store_type ⟦<Watched<JournaledStore<N, V>, W> as ByteStore>⟧.represents ⟦<Watched<JournaledStore<N, V>, W> as ByteStore>⟧.keys
+        ⟦<Watched<JournaledStore<N, V>, W> as ByteStore>⟧.stays ⟦<Watched<JournaledStore<N, V>, W> as ByteStore>⟧.outlasts
+        ⟦<Watched<JournaledStore<N, V>, W> as ByteStore>⟧.moment ⟦<Watched<JournaledStore<N, V>, W> as ByteStore>⟧.outlasts_since in
+        V.known vault → (what : Shown) → length what.bytes ≡ size
+        → IsSoundBut V.seen V.may_leave what groups drives (shape.now.extents * extent_units shape.now.segments) absent.now vault
+        → IfOk result (λ s. OnOk s.marked (OnceMarked V.known V.moment V.left_since what groups drives absent.now vault
+        (λ t. IsServedFrom type ⟦<Watched<JournaledStore<N, V>, W> as ByteStore>⟧.may_refuse ⊤
+        (Opens V.left_since groups drives s.store.vault) t (V.moment s.store.vault) (IsOk s.flushed) what s.end
+        (R.remaining reader.old) (R.remaining reader.new) (O.contents writer.old) (O.contents writer.new)))) }
 {
     let store = open_settled::<N, V>(
         alloc, vault, opened, shape, groups, extents, drives, size, absent, settle_at, scrub_at,
     );
     match store {
-        Ok(store) => {
+        Ok(settled) => {
+            let OpenedStore { store, marked } = settled;
             let mut watch = watch;
             watch.sees(&store);
-            Ok(attend(alloc, store, watch, reader, writer))
+            Ok(attend(alloc, store, marked, watch, reader, writer))
         }
         Err(refused) => Err(refused),
     }
