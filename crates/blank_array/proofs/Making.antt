@@ -15,7 +15,7 @@ use Rattle.vault.specs.Moments.{AreLogged, IsSettled}
 use Rattle.vault.specs.declared.store.Stop.{Stop}
 use Rattle.journaled_store.specs.Left.{IsLeftOf}
 use Rattle.array_recovery.specs.Reopened.{IsSoundFor, marked}
-use Rattle.blank_array.specs.Blank.{IsBlankArray, IsBlankArray, unit_count}
+use Rattle.blank_array.specs.Blank.{IsBlankArray, IsBlankVault, unit_count}
 
 -- groups that agree with owners of as many extents have extents of these drives
 pub stands : (groups : Groups) (owners : Owners) (drives : ℕ) → AreGroups groups → Agree groups owners → length owners.rows ≡ drives → owners.extents ≡ groups.extents → GroupsStand groups drives
@@ -32,7 +32,7 @@ abbrev at_place : ℕ → ℕ → Place
 at_place drive address = record { drive = drive; address = address }
 
 module _ {V : Type 0} (seen : V → Image) (may_leave : V → Stop → Image → Type 0) (groups : Groups) (drives : ℕ) (most : drives ≤ 16) (old mid new : V) (batch : List Intended) (lost : List Bool)
-    (never : (d : ℕ) → is_lost lost d ≡ false) (blank : IsBlankArray seen may_leave groups drives old) (kept : Matches lost (after (recovered (seen old)) batch) (seen mid))
+    (never : (d : ℕ) → is_lost lost d ≡ false) (blank : IsBlankVault seen may_leave groups drives old) (kept : Matches lost (after (recovered (seen old)) batch) (seen mid))
     (settled : IsSettled seen may_leave lost mid new) (form : (c : Cells) → HasFormPlaces c → HasGroups groups drives (after c batch)) (others : (c : Cells) → SameButGroups (after c batch) c) where
   emptied : SameOn lost (recovered (seen new)) (recovered (seen mid))
   emptied = subst (λ b. SameOn lost (after (seen new).cells (flat b)) (recovered (seen mid))) (sym settled.empty) settled.cells

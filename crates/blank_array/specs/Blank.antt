@@ -40,7 +40,7 @@ pub record IsBlankArray (groups : Groups) (drives : ℕ) (absent : List Bool) (c
   pub form : HasGroups groups drives c
 
 -- A vault of blank units, with room in its table for groups. Its journal is empty, and a stop leaves these units.
-pub record IsBlankArray {V : Type 0} (seen : V → Image) (may_leave : V → Stop → Image → Type 0) (groups : Groups) (drives : ℕ) (vault : V) : Type 0 where
+pub record IsBlankVault {V : Type 0} (seen : V → Image) (may_leave : V → Stop → Image → Type 0) (groups : Groups) (drives : ℕ) (vault : V) : Type 0 where
   pub units : AreBlank groups drives [] (seen vault).cells
   pub marks : IsTable (replicate 16 0) (seen vault).cells
   pub places : HasFormPlaces (seen vault).cells

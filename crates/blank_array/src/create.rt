@@ -4,7 +4,7 @@ ghost use Rattle.extents.specs.Shapes.{IsShapeOf};
 ghost use Rattle.extent_groups.specs.Groups.{Groups};
 ghost use Rattle.journaled_store.specs.Left.{HasBoth};
 ghost use Rattle.array_recovery.specs.Reopened.{IsSoundFor};
-ghost use Rattle.blank_array.specs.Blank.{IsBlankArray, unit_count, zeros_shown};
+ghost use Rattle.blank_array.specs.Blank.{IsBlankVault, unit_count, zeros_shown};
 ghost use Rattle.blank_array.specs.Files.{IsLayoutOf};
 
 use crate::fault::BlankFault;
@@ -52,7 +52,7 @@ pub fn create_vault<F: Files + Drop>(
     ensures known { F.known files → IfOk result (λ v. ⟦<FileVault<F> as Vault>⟧.known v) }
     ensures layout { IfOk result (λ v. v.layout ≡ layout) }
     ensures blank { F.known files → (groups : Groups) (drives : ℕ) → IsLayoutOf layout groups drives
-        → IfOk result (λ v. IsBlankArray ⟦<FileVault<F> as Vault>⟧.seen ⟦<FileVault<F> as Vault>⟧.may_leave groups drives v) }
+        → IfOk result (λ v. IsBlankVault ⟦<FileVault<F> as Vault>⟧.seen ⟦<FileVault<F> as Vault>⟧.may_leave groups drives v) }
 {
     FileVault::create(alloc, files, layout)
 }

@@ -4,7 +4,7 @@ ghost use Rattle.vault.specs.Images.{Image};
 ghost use Rattle.array_store.specs.Blocks.{Holds};
 ghost use Rattle.journaled_store.specs.Left.{HasBoth, HasKeys};
 ghost use Rattle.array_recovery.specs.Reopened.{IsSoundFor};
-ghost use Rattle.blank_array.specs.Blank.{CanBeMade, IsBlankArray, unit_count, zeros_shown};
+ghost use Rattle.blank_array.specs.Blank.{CanBeMade, IsBlankVault, unit_count, zeros_shown};
 
 use crate::fault::BlankFault;
 use extent_groups::GroupTable;
@@ -46,13 +46,13 @@ pub fn make_array<V: Vault>(
 ) -> Result<(), BlankFault>
     ensures stays { V.known vault.old → V.known vault.new }
     ensures can { OnOk result (CanBeMade groups.now drives) }
-    ensures made { V.known vault.old → IsBlankArray V.seen V.may_leave groups.now drives vault.old → (size : ℕ)
+    ensures made { V.known vault.old → IsBlankVault V.seen V.may_leave groups.now drives vault.old → (size : ℕ)
         → OnOk result (IsSoundFor HasBoth V.seen V.may_leave (zeros_shown size) groups.now drives (unit_count groups.now) [] vault.new) }
-    ensures bytes { V.known vault.old → IsBlankArray V.seen V.may_leave groups.now drives vault.old → (size : ℕ)
+    ensures bytes { V.known vault.old → IsBlankVault V.seen V.may_leave groups.now drives vault.old → (size : ℕ)
         → OnOk result (IsSoundFor Holds V.seen V.may_leave (replicate size 0) groups.now drives (unit_count groups.now) [] vault.new) }
-    ensures map { V.known vault.old → IsBlankArray V.seen V.may_leave groups.now drives vault.old
+    ensures map { V.known vault.old → IsBlankVault V.seen V.may_leave groups.now drives vault.old
         → OnOk result (IsSoundFor HasKeys V.seen V.may_leave [] groups.now drives (unit_count groups.now) [] vault.new) }
-    ensures settled { V.known vault.old → IsBlankArray V.seen V.may_leave groups.now drives vault.old → OnOk result (Image.journal (V.seen vault.new) ≡ []) }
+    ensures settled { V.known vault.old → IsBlankVault V.seen V.may_leave groups.now drives vault.old → OnOk result (Image.journal (V.seen vault.new) ≡ []) }
 {
     test_groups(groups, extents, drives)?;
     let mut batch = Batch::new(alloc);
