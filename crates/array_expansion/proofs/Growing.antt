@@ -17,7 +17,7 @@ use Rattle.step_core.specs.declared.step.Answer.TheVariants as answer
 use Rattle.step_core.proofs.Worlds.{refused_leaves}
 use Rattle.tiered_array.specs.Matches.{RepresentsTiers}
 use Rattle.tiered_array.specs.Regrouping.{IsBalanceOf}
-use Rattle.tiered_array.specs.Steps.{StepNoted}
+use Rattle.tiered_array.specs.Steps.{StepAlone}
 use Rattle.tiered_array.specs.Tiered.{Tiered}
 use Rattle.tiered_array.specs.Views.{TiersView}
 use Rattle.array_expansion.specs.declared.fault.ExpansionFault.{ExpansionFault}
@@ -26,7 +26,7 @@ use Rattle.array_expansion.specs.Expansion.{IsSpread, NotSpread, NotExpanded}
 
 -- what a call of `add_drive` does
 abbrev pub Adds : TiersView → TiersView → Answer → Type 0
-Adds old new a = (T : Tiered) → RepresentsTiers old T → (U : Tiered) × StepNoted T AddDrive (flat_answer a) U × RepresentsTiers new U
+Adds old new a = (T : Tiered) → RepresentsTiers old T → (U : Tiered) × StepAlone T AddDrive (flat_answer a) U × RepresentsTiers new U
 
 -- there are sixteen drives, if none is added
 full_case : (F G : Flat) (a : Answer) → ((n : ℕ) → a ≢ answer.Added n) → AddCase F (flat_answer a) G → (most_drives ≤ F.drives) × (G ≡ F)

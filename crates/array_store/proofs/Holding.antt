@@ -11,7 +11,7 @@ use Rattle.flat_machine.specs.Steps as step
 use Rattle.step_core.specs.Reported.{read_answer}
 use Rattle.tiered_array.specs.Room.{AlwaysCase, AlwaysStops, SpareCase, SpareStops}
 use Rattle.tiered_array.specs.Matches.{RepresentsTiers}
-use Rattle.tiered_array.specs.Steps.{StepNoted}
+use Rattle.tiered_array.specs.Steps.{StepAlone}
 use Rattle.tiered_array.specs.Tiered.{Tiered}
 use Rattle.tiered_array.specs.Views.{TiersView}
 use Rattle.tiered_array.specs.declared.outcome.Outcome.{Outcome}
@@ -115,7 +115,7 @@ stopped_makes t u b x stops T matches = let done = stops 0 T matches in (done.0,
 
 -- what a read does
 abbrev pub DoesRead : TiersView → TiersView → ℕ → Result (Option ℕ) Refusal → List ℕ → Type 0
-DoesRead t u b r payload = (T : Tiered) → RepresentsTiers t T → (U : Tiered) × StepNoted T (step.Read b) (read_answer r payload) U × RepresentsTiers u U
+DoesRead t u b r payload = (T : Tiered) → RepresentsTiers t T → (U : Tiered) × StepAlone T (step.Read b) (read_answer r payload) U × RepresentsTiers u U
 
 -- a read makes no write
 pub read_makes : (t u : TiersView) (b : ℕ) (r : Result (Option ℕ) Refusal) (payload : List ℕ) → DoesRead t u b r payload → Makes t u Keeps

@@ -37,8 +37,8 @@ fn test_slot<D: Drive>(
     is_slot_sound(groups, drives, slot, unit, other)
 }
 
-// The lowest slot of a group that isn't sound, with two buffers of a unit's length.
-fn first_of_group<D: Drive>(
+// The lowest unsound slot of a group, with two buffers of a unit's length.
+fn first_unsound_of<D: Drive>(
     groups: &GroupTable,
     drives: &mut [D],
     group: u16,
@@ -81,7 +81,7 @@ fn first_unsound<D: Drive>(
     ensures drives { AreDrives D.units groups.now drives.new }
 {
     for group in 0..GROUPS as u16 {
-        let found = first_of_group(groups, drives, group, unit, other);
+        let found = first_unsound_of(groups, drives, group, unit, other);
         if found.is_some() {
             return found;
         }

@@ -72,6 +72,7 @@ impl<T: Drop> From<AllocFailed<T>> for Trouble {
     }
 }
 
+// Only standard output's errors come by `?`: those of files are read with their names.
 impl From<io::Error> for Trouble {
     fn from(error: io::Error) -> Trouble {
         match error.kind() {

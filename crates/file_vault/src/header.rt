@@ -4,7 +4,7 @@ ghost use Rattle.std.specs.Prelude.{◌≡◌, ◌≢◌, ◌<◌, ◌^◌, leng
 ghost use Rattle.std.specs.Int.{w32, to_le_bytes};
 ghost use Rattle.vault.specs.Moments.{Elapses};
 ghost use Rattle.vault.specs.declared.store.Stop.{Stop};
-ghost use Rattle.file_vault.specs.Folders.{HasFault, Wrote, part};
+ghost use Rattle.file_vault.specs.Folders.{HasFault, HasFile, Wrote, part};
 ghost use Rattle.file_vault.specs.Headers.{HasFileHeader, mark as the_mark, number_at};
 
 use crate::files::{FileFault, Files};
@@ -29,6 +29,7 @@ pub struct Header {
 pub fn write_header<F: Files>(files: &mut F, header: &Header) -> Result<(), FileFault>
     ensures stays { F.known files.old → F.known files.new }
     ensures header { F.known files.old → OnOk result (HasFileHeader (F.seen files.new header.now.number) header.now) }
+    ensures durable { F.known files.old → OnOk result ((stop : Stop) → HasFile header.now.number (F.seen files.new) (F.may_leave files.new stop)) }
 {
     let number = header.number;
     write_identity(files, number, &header.identity)?;

@@ -192,7 +192,8 @@ impl<N: Chronicle, V: Vault + Drop> JournaledStore<N, V> {
         published
     }
 
-    /// Publishes, and makes all batches of the journal durable. `Sync` where that failed.
+    /// Publishes, and then makes all batches of the journal durable. Refused as `publish` is: then nothing is synced. `Sync` where that
+    /// failed: then each later change is refused, too.
     pub fn publish_durably(&mut self) -> Result<(), StoreFault>
         ensures same { (self.new.store ≡ self.old.store) × (self.new.unsynced ≡ self.old.unsynced) }
         ensures works { OnOk result ((self.new.failed ≡ false) × MissesOne self.new.store.tiers.world.array.parts.drives) }
@@ -351,7 +352,8 @@ impl<N: Chronicle, V: Vault + Drop> JournaledStore<N, V> {
         zeroed
     }
 
-    /// Makes all bytes durable. `Sync` where the journal failed, and while more than one drive is lost.
+    /// Makes all bytes durable. `Sync` where the journal failed, and while more than one drive is lost; `Memory` if out of memory: the
+    /// next call has it all.
     pub fn kept_flush(&mut self) -> Result<(), StoreFault>
         ensures change { (F : StoreState) → IsStoreOf self.old.store.tiers self.old.store.size self.old.unsynced F
             → (G : StoreState) × IsStoreOf self.new.store.tiers self.new.store.size self.new.unsynced G × IsFlushed result F G }

@@ -183,7 +183,7 @@ fn count_live(blocks: &[Option<u32>]) -> u32 {
     count
 }
 
-// The titles.
+// The title, lines of sizes and counts, and the word over the extents' numbers.
 fn put_titles(out: &mut String, scene: &Scene<'_>, drives: usize) -> Result<(), AllocError> {
     write!(
         out,
@@ -218,7 +218,7 @@ fn put_groups(out: &mut String, groups: &GroupTable) -> Result<(), AllocError> {
     )
 }
 
-// The page, white, with the style of its text.
+// Opens the document, which `draw` closes: a white page, with the style of its text.
 fn put_page(out: &mut String, width: u32, height: u32) -> Result<(), AllocError> {
     write!(
         out,

@@ -1,11 +1,11 @@
 //! A disk gets one more drive, and its extents are spread over all of them.
 ghost use Rattle.std.specs.Prelude.{◌≡◌};
 
+use crate::any_vault::{add_to, settle_store};
 use crate::create::is_there;
 use crate::folder::{Folder, Name};
 use crate::opened::{
-    Disk, DiskVault, Use, groups_in, header_of, layout_of, open_disk, open_file, open_vault,
-    trouble_of,
+    Disk, Use, groups_in, header_of, layout_of, open_disk, open_file, open_vault, trouble_of,
 };
 use crate::places::places_with;
 use crate::progress;
@@ -14,7 +14,7 @@ use crate::table::Table;
 use crate::texts::{write_places, write_table};
 use crate::trouble::{Trouble, unwritten};
 use cached_drive::Saved;
-use drive_addition::{AdditionFault, add_drive};
+use drive_addition::AdditionFault;
 use drive_places::Verdict;
 use extent_groups::Place;
 use extents::DRIVES;
@@ -47,7 +47,7 @@ pub(crate) fn settle_whole<N: Chronicle>(
 {
     let mut disk = open_disk::<N>(rt, folder, Use::Serves, 0, opened)?;
     test_whole(&disk, spare)?;
-    if disk.store.settle().is_err() {
+    if settle_store(&mut disk.store).is_err() {
         return Err(Trouble::Sync);
     }
     // A drive that failed in this run is lost since.
@@ -85,13 +85,18 @@ fn make_drive(
     folder: Folder<'_>,
     table: &Table,
     number: u8,
+    is_given: bool,
 ) -> Result<(), Trouble> {
     if is_made(rt, folder, table, number)? {
         return Ok(());
     }
     let name = Name::Drive(number);
     if is_there(rt, folder, name)? {
-        return Err(Trouble::Exists(name));
+        return Err(if is_given {
+            Trouble::PathThere
+        } else {
+            Trouble::Exists(name)
+        });
     }
     make_fresh(rt, folder, table, number)?;
     rename(rt, folder, Name::FreshDrive(number), name)?;
@@ -102,9 +107,9 @@ fn make_drive(
 }
 
 // Writes blank units to all places of a drive.
-fn blank(
+fn blank<V: Vault>(
     rt: &HostRuntime,
-    vault: &mut DiskVault,
+    vault: &mut V,
     table: &Table,
     number: u8,
 ) -> Result<(), Trouble> {
@@ -147,14 +152,7 @@ fn add_made(
     }
     let spelled = groups_in(rt.alloc(), &mut files.vault, &table)?;
     blank(rt, &mut files.vault, &table, number)?;
-    match add_drive(
-        rt.alloc(),
-        &mut files.vault,
-        &table.plan.shape,
-        spelled.groups,
-        spelled.extents,
-        spelled.drives,
-    ) {
+    match add_to(rt.alloc(), &mut files.vault, &table.plan.shape, spelled) {
         Ok(()) => Ok(()),
         Err(fault) => Err(trouble_of_addition(fault)),
     }
@@ -190,7 +188,7 @@ pub(crate) fn add(rt: &HostRuntime, folder: Folder<'_>, path: Option<&str>) -> R
     };
     let table = table.with_drives(number + 1);
     say(rt, folder, number);
-    let added = add_prepared(rt, grown, file, table, number);
+    let added = add_prepared(rt, grown, file, table, number, path.is_some());
     progress::end(rt, folder);
     added?;
     match print_added(rt, number) {
@@ -199,15 +197,16 @@ pub(crate) fn add(rt: &HostRuntime, folder: Folder<'_>, path: Option<&str>) -> R
     }
 }
 
-// Makes what the new drive needs, and adds it.
+// Makes what the new drive needs, at a path that was given or at the drive's own place, and adds it.
 fn add_prepared(
     rt: &HostRuntime,
     folder: Folder<'_>,
     file: File,
     table: Table,
     number: u8,
+    is_given: bool,
 ) -> Result<(), Trouble> {
-    make_drive(rt, folder, &table, number)?;
+    make_drive(rt, folder, &table, number, is_given)?;
     // Before the vault has the drive. Until then the array has the drives of before.
     write_places(rt, folder)?;
     write_table(rt, folder, &table)?;

@@ -1,4 +1,5 @@
 //! A new disk.
+use crate::any_vault::make_zero_array;
 use crate::disk_files::DiskFiles;
 use crate::folder::{Folder, Name};
 use crate::identity::new_identity;
@@ -7,9 +8,9 @@ use crate::pairs::{Pair, Pairs, join_pairs};
 use crate::table::Table;
 use crate::texts::{write_places, write_table};
 use crate::trouble::{Trouble, unwritten};
-use blank_array::{BlankFault, make_disk};
+use blank_array::BlankFault;
 use disk_shape::{Plan, plan_disk};
-use file_vault::{Layout, RealFiles, StampedFiles, TABLE_FILE, TABLE_SECOND, Twin, write_header};
+use file_vault::{Layout, RealFiles, TABLE_FILE, TABLE_SECOND, Twin, write_header};
 use std::fs::{self, File, OpenOptions};
 use std::io;
 use std::io::Write;
@@ -39,14 +40,14 @@ fn make_zeros(
     bytes: u64,
 ) -> Result<File, Trouble> {
     let mut file = make_file(rt, folder, name)?;
-    match zeroed(&mut file, bytes) {
+    match write_zeros(&mut file, bytes) {
         Ok(()) => Ok(file),
         Err(error) => Err(unwritten(error, name)),
     }
 }
 
-/// Writes zeros, so that the system has room for all bytes of the file from the start.
-pub(crate) fn zeroed(file: &mut File, bytes: u64) -> io::Result<()> {
+/// Writes zeros, and makes them durable, so that the system has room for all bytes of the file from the start.
+pub(crate) fn write_zeros(file: &mut File, bytes: u64) -> io::Result<()> {
     let zeros = [0u8; 4096];
     for _piece in 0..bytes / 4096 {
         file.write_all(&zeros)?;
@@ -56,7 +57,7 @@ pub(crate) fn zeroed(file: &mut File, bytes: u64) -> io::Result<()> {
 }
 
 /// Writes a text, and makes it durable.
-pub(crate) fn written(file: &mut File, text: &str) -> io::Result<()> {
+pub(crate) fn write_text(file: &mut File, text: &str) -> io::Result<()> {
     file.write_all(text.as_bytes())?;
     file.sync_all()
 }
@@ -193,12 +194,12 @@ pub(crate) fn create_disk(
     };
     mark_files(&mut files, &layout, identity, drives)?;
     let mut pairs = Pairs::new();
-    let Ok(files) = StampedFiles::open(join_pairs(files, &mut pairs)?) else {
-        return Err(Trouble::NoState);
-    };
+    let files = join_pairs(files, &mut pairs)?;
     let (groups, extents) = groups_of(rt.alloc(), &plan)?;
-    if let Err(fault) = make_disk(rt.alloc(), files, &groups, &extents, drives) {
-        return Err(trouble_of_blank(fault));
+    match make_zero_array(rt.alloc(), files, &groups, &extents, drives) {
+        Some(Ok(())) => {}
+        Some(Err(fault)) => return Err(trouble_of_blank(fault)),
+        None => return Err(Trouble::NoState),
     }
     write_places(rt, folder)?;
     sync_places(rt, folder, drives)?;

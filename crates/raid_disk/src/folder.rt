@@ -15,7 +15,7 @@ pub(crate) enum Name {
     TableCopy,
     /// The table until it is whole.
     Fresh,
-    /// A file of the state: which drives are lost.
+    /// A file of the state: which drives are lost, the groups, and the number of drives.
     State(Twin),
     /// The state of a disk that has one file of it.
     OneState,

@@ -2,6 +2,7 @@
 #![tactic(auto)]
 
 mod add;
+mod any_vault;
 mod create;
 mod disk_files;
 mod drawing;

@@ -1,13 +1,14 @@
 //! Units that aren't as their digests say are computed from the others, and written again.
+use crate::any_vault::mend_in;
 use crate::folder::{Folder, Name};
-use crate::opened::{DiskVault, OpenFiles, Use, groups_in, open_table, open_vault, trouble_of};
+use crate::opened::{OpenFiles, Use, groups_in, open_table, open_vault, trouble_of};
 use crate::trouble::Trouble;
 use array_recovery::{lost_drives, read_marks};
 use extent_groups::Place;
 use extents::DRIVES;
 use std::alloc::Global;
 use std::io;
-use unit_repair::{MendFault, mend};
+use unit_repair::MendFault;
 use vault::{Batch, UnitRead, Vault, VaultError, settle};
 
 // Which drives are lost.
@@ -64,14 +65,7 @@ pub(crate) fn mend_disk(rt: &HostRuntime, folder: Folder<'_>) -> Result<u32, Tro
         return Err(Trouble::Vault(error));
     }
     let vault = &mut files.vault;
-    match mend(
-        rt.alloc(),
-        vault,
-        &table.plan.shape,
-        spelled.groups,
-        spelled.extents,
-        spelled.drives,
-    ) {
+    match mend_in(rt.alloc(), vault, &table.plan.shape, spelled) {
         Ok(count) => {
             // Nothing is left to do where standard error can't be written.
             let _ = warn_mended(rt, folder, count);
@@ -82,8 +76,8 @@ pub(crate) fn mend_disk(rt: &HostRuntime, folder: Folder<'_>) -> Result<u32, Tro
 }
 
 // Gives each rotten unit of a drive the digest of its own bytes. Takes a buffer of a unit's length. Returns how many.
-fn accept_drive(
-    vault: &mut DiskVault,
+fn accept_drive<V: Vault>(
+    vault: &mut V,
     drive: u8,
     units: u32,
     unit: &mut [u8],

@@ -2,6 +2,7 @@
 ghost use Rattle.std.specs.Prelude.{◌≡◌, ◌<◌};
 ghost use Rattle.extent_groups.specs.Groups.{Agree};
 
+use crate::any_vault::{VaultFault, find_drives, groups_of_vault, open_array_of, open_file_vault};
 use crate::disk_files::DiskFiles;
 use crate::drives::{Drives, open_drives};
 use crate::folder::{Folder, Name};
@@ -9,7 +10,7 @@ use crate::notes::{note_drives, note_marked};
 use crate::pairs::{Pairs, open_pairs};
 use crate::table::{Table, table_in};
 use crate::trouble::{Trouble, unread};
-use array_recovery::{RecoveryFault, find, open_store};
+use array_recovery::RecoveryFault;
 use blank_array::layout_for;
 use cached_drive::Saved;
 use disk_shape::{Plan, class_of, member_at};
@@ -19,7 +20,7 @@ use file_vault::{
     FileVault, Files, Header, Layout, PairedFiles, RealFiles, StampedFiles, TABLE_SECOND, Verdict,
     judge, read_generation,
 };
-use group_form::{FormFault, Spelled, find_groups};
+use group_form::{FormFault, Spelled};
 use history::{Chronicle, Opened};
 use journaled_store::JournaledStore;
 use std::alloc::{AllocError, Global};
@@ -240,7 +241,7 @@ pub(crate) fn groups_in(
     vault: &mut DiskVault,
     table: &Table,
 ) -> Result<Spelled, Trouble> {
-    match find_groups(alloc, vault, &table.plan.shape) {
+    match groups_of_vault(alloc, vault, &table.plan.shape) {
         Ok(found) if found.drives == table.drives => Ok(found),
         Ok(found) if found.drives == table.drives.saturating_sub(1) => Ok(found),
         Ok(_) | Err(FormFault::Misfit) => Err(Trouble::Unsound),
@@ -299,12 +300,10 @@ pub(crate) fn open_vault(
     let _ = note_drives(rt, folder, &drives, table.drives);
     let (mut files, pairs) = open_pairs(rt, folder, files, &layout, &table, usage)?;
     note_old(&mut files, &layout, &table, &mut drives)?;
-    let Ok(files) = StampedFiles::open(files) else {
-        return Err(Trouble::NoState);
-    };
-    let vault = match FileVault::open(rt.alloc(), files, layout) {
+    let vault = match open_file_vault(rt.alloc(), files, layout) {
         Ok(vault) => vault,
-        Err((error, _files)) => return Err(Trouble::Vault(error)),
+        Err(VaultFault::NoGeneration) => return Err(Trouble::NoState),
+        Err(VaultFault::Vault(error)) => return Err(Trouble::Vault(error)),
     };
     Ok(OpenFiles {
         table,
@@ -326,7 +325,7 @@ fn name_marked(
 ) -> Result<(), Trouble> {
     let mut vault = vault;
     let absent = drives.absent();
-    let found = match find(rt.alloc(), &mut vault, &plan.shape, count, &absent) {
+    let found = match find_drives(rt.alloc(), &mut vault, &plan.shape, count, &absent) {
         Ok(found) => found,
         Err(fault) => return Err(trouble_of(fault)),
     };
@@ -385,14 +384,12 @@ pub(crate) fn open_array<N: Chronicle>(
     let spelled = groups_in(alloc, &mut vault, &table)?;
     let count = spelled.drives;
     let units = units_in(journal, &plan);
-    let store = open_store::<N, DiskVault>(
+    let store = open_array_of::<N, DiskVault>(
         alloc,
         vault,
         opened,
         &plan.shape,
-        spelled.groups,
-        spelled.extents,
-        count,
+        spelled,
         plan.size,
         &files.drives.absent(),
         units,

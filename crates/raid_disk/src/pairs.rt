@@ -1,5 +1,5 @@
 //! What a disk has in two files: its state, and its journal.
-use crate::create::zeroed;
+use crate::create::write_zeros;
 use crate::disk_files::DiskFiles;
 use crate::folder::{Folder, Name};
 use crate::opened::{Use, header_of, open_file};
@@ -19,7 +19,7 @@ use vault::TABLE;
 /// What lies in two files.
 #[derive(Clone, Copy, Debug, PartialEq, Eq)]
 pub(crate) enum Pair {
-    /// Which drives are lost.
+    /// The vault's table: which drives are lost, the groups, and the number of drives.
     State,
     Journal,
 }
@@ -212,7 +212,7 @@ fn make_blank(rt: &HostRuntime, folder: Folder<'_>, name: Name, length: u64) -> 
         .create(true)
         .truncate(true)
         .open(rt, &path)?;
-    zeroed(&mut file, length)?;
+    write_zeros(&mut file, length)?;
     folder.sync(rt)?;
     Ok(file)
 }
@@ -262,7 +262,7 @@ fn compare(files: &mut DiskFiles, pair: Pair, found: &mut Conditions, usage: Use
     }
 }
 
-// Whether a unit of a file of the state isn't as its digest says.
+// Whether a unit of a file of the state can't be read, or isn't as its digest says. The file is read whole.
 fn is_rotten(files: &mut DiskFiles, layout: &Layout, number: u8) -> bool {
     let mut unit = [0u8; DRIVES];
     let mut digest = [0u8; DIGEST_BYTES];

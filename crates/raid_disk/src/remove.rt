@@ -1,12 +1,13 @@
 //! A disk goes on with one drive fewer.
 use crate::add::{is_made, settle_whole};
+use crate::any_vault::remove_from;
 use crate::folder::{Folder, Name};
 use crate::opened::{Use, groups_in, open_vault, trouble_of};
 use crate::progress;
 use crate::table::Table;
 use crate::texts::{write_places, write_table};
 use crate::trouble::{Trouble, unwritten};
-use drive_removal::{RemovalFault, remove_drive};
+use drive_removal::RemovalFault;
 use history::Opened;
 use std::fs::{self, File};
 use std::io;
@@ -39,14 +40,7 @@ fn empty_last(
     if spelled.drives != table.drives {
         return Ok(files.file);
     }
-    match remove_drive(
-        rt.alloc(),
-        &mut files.vault,
-        &table.plan.shape,
-        spelled.groups,
-        spelled.extents,
-        spelled.drives,
-    ) {
+    match remove_from(rt.alloc(), &mut files.vault, &table.plan.shape, spelled) {
         Ok(()) => Ok(files.file),
         Err(fault) => Err(trouble_of_removal(number, fault)),
     }

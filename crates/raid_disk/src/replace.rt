@@ -1,7 +1,8 @@
 //! A lost drive's file is made again, and gets its units from the others'.
 ghost use Rattle.std.specs.Prelude.{◌≡◌};
 
-use crate::create::zeroed;
+use crate::any_vault::{replace_in, settle_store};
+use crate::create::write_zeros;
 use crate::disk_files::DiskFiles;
 use crate::drives::Drives;
 use crate::folder::{Folder, Name};
@@ -15,7 +16,7 @@ use crate::texts::write_places;
 use crate::trouble::{Trouble, unwritten};
 use cached_drive::Saved;
 use drive_places::{Sight, Verdict};
-use drive_rebuild::{RebuildFault, Watch, replace_drive};
+use drive_rebuild::{RebuildFault, Watch};
 use file_vault::{Files, RealFiles, write_header};
 use history::{Chronicle, Opened};
 use std::alloc::AllocError;
@@ -104,7 +105,7 @@ fn mark_lost<N: Chronicle>(
     let mut disk = open_disk::<N>(rt, folder, Use::Serves, 0, opened)?;
     test_lost(&disk, number)?;
     let sight = own_place(&disk, number)?;
-    if disk.store.settle().is_err() {
+    if settle_store(&mut disk.store).is_err() {
         return Err(Trouble::Sync);
     }
     // A drive that failed in this run is lost since.
@@ -132,7 +133,7 @@ pub(crate) fn make_fresh(
         Ok(file) => file,
         Err(error) => return Err(unwritten(error, name)),
     };
-    if let Err(error) = zeroed(&mut file, file_bytes(&layout, number)) {
+    if let Err(error) = write_zeros(&mut file, file_bytes(&layout, number)) {
         return Err(unwritten(error, name));
     }
     let mut files = DiskFiles {
@@ -273,14 +274,12 @@ fn rebuild(
         number,
         tenths: 0,
     };
-    match replace_drive(
+    match replace_in(
         rt.alloc(),
         &mut files.vault,
         &mut progress,
         &plan.shape,
-        spelled.groups,
-        spelled.extents,
-        spelled.drives,
+        spelled,
         number,
     ) {
         Ok(()) => Ok(()),

@@ -1,9 +1,10 @@
 //! All slots of a disk are tested.
+use crate::any_vault::find_drives;
 use crate::folder::Folder;
 use crate::mending::{accept_disk, mend_disk};
 use crate::opened::{OpenFiles, Use, groups_in, open_table, open_vault, trouble_of};
 use crate::trouble::Trouble;
-use array_recovery::{Found, RecoveryFault, find, tiers_of};
+use array_recovery::{Found, RecoveryFault, tiers_of};
 use drive_rebuild::{Findings, scrub_parts};
 use extents::{DRIVES, HotSwap, MemDrive};
 use std::alloc::Global;
@@ -82,7 +83,7 @@ fn load(
     let table = files.table;
     let spelled = groups_in(rt.alloc(), &mut files.vault, &table)?;
     let shape = table.plan.shape;
-    match find(
+    match find_drives(
         rt.alloc(),
         &mut files.vault,
         &shape,

@@ -1,6 +1,7 @@
 //! A disk that is served.
 ghost use Rattle.std.specs.Prelude.{◌≡◌};
 
+use crate::any_vault::serve_array;
 use crate::drives::Drives;
 use crate::folder::{Folder, Name};
 use crate::mending::mend_disk;
@@ -23,7 +24,6 @@ use nbd_serve::End;
 use std::io;
 use std::io::BufReader;
 use std::marker::Brand;
-use vault_server::serve_vault;
 use watched_store::Sees;
 
 /// After so many units that were compared it is written down where the next one is.
@@ -201,14 +201,12 @@ fn serve_files<N: Chronicle>(
         saved: 0,
         warned: 0,
     };
-    let served = serve_vault::<N, DiskVault, _, _, _>(
+    let served = serve_array::<N, DiskVault, _, _, _>(
         rt.alloc(),
         vault,
         opened,
         &plan.shape,
-        spelled.groups,
-        spelled.extents,
-        count,
+        spelled,
         plan.size,
         &drives.absent(),
         units_in(journal, &plan),

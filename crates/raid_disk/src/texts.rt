@@ -1,5 +1,5 @@
 //! The texts of a disk: its table, the table's copy, and the places of its drives' files.
-use crate::create::written;
+use crate::create::write_text;
 use crate::folder::{Folder, Name};
 use crate::replace::rename;
 use crate::table::{Table, text_of};
@@ -19,7 +19,7 @@ fn put_text(rt: &HostRuntime, folder: Folder<'_>, name: Name, text: &str) -> Res
         Ok(file) => file,
         Err(error) => return Err(unwritten(error, Name::Fresh)),
     };
-    if let Err(error) = written(&mut file, text) {
+    if let Err(error) = write_text(&mut file, text) {
         return Err(unwritten(error, Name::Fresh));
     }
     rename(rt, folder, Name::Fresh, name)?;

@@ -38,7 +38,7 @@ fn lost(alloc: Global, shape: &Shape) -> Result<MemDrive, Trouble> {
     Ok(drive)
 }
 
-// The drive of an image's bytes.
+// The drive of an image's bytes; a wrong length is refused with the file's number (0 is the table, 1 the first image).
 fn drive_of(alloc: Global, shape: &Shape, image: &[u8], file: usize) -> Result<MemDrive, Trouble> {
     match load(alloc, shape, image) {
         Ok(drive) => Ok(drive),

@@ -53,8 +53,8 @@ fn twin_of(spots: &[Spot], higher: usize) -> Option<usize>
     None
 }
 
-/// The numbers of two names that are of one file, the lower first.
-pub(crate) fn first_twins(spots: &[Spot]) -> Option<(usize, usize)>
+/// The numbers of two names that are of one file, the lower first; none where there are none.
+pub(crate) fn find_aliases(spots: &[Spot]) -> Option<(usize, usize)>
     ensures some { IfSome result (λ found. AreTwins spots.now found.0 found.1) }
     ensures none { IfNone result (HasNoAliases spots.now) }
 {

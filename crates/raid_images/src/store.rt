@@ -6,7 +6,7 @@
 //! whole, or the new one.
 use crate::choice::{Choice, choose, owner_of};
 use crate::digest::{Sum, sum_of};
-use crate::names::{Node, Spot, first_twins};
+use crate::names::{Node, Spot, find_aliases};
 use crate::table::Table;
 use crate::trouble::{Name, Trouble, unread, unwritten};
 use crate::words::{Files, LOST};
@@ -130,7 +130,7 @@ pub(crate) fn look(rt: &HostRuntime, files: Files<'_, '_>) -> Result<Vec<Spot>, 
     }
     // Names with `.new` are compared too: an image with such a name of another file would be overwritten.
     let spots = spots_of(rt, files)?;
-    if let Some((one, other)) = first_twins(&spots) {
+    if let Some((one, other)) = find_aliases(&spots) {
         return Err(Trouble::OneFile(name_at(files, one), name_at(files, other)));
     }
     for file in 0..files.images.len().saturating_add(1) {

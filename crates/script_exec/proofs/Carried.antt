@@ -7,7 +7,7 @@ use Rattle.map_join.specs.Maps.{Entries, at}
 use Rattle.flat_machine.specs.Flat.{put}
 use Rattle.flat_machine.specs.Steps.{FlatStep, FlatAnswer}
 use Rattle.tiered_array.specs.Tiered.{Tiered}
-use Rattle.tiered_array.specs.Steps.{TierStep, TierCase, CommitNoted, StepNoted}
+use Rattle.tiered_array.specs.Steps.{TierStep, TierCase, CommitNoted, StepAlone}
 use Rattle.tiered_array.specs.Matches.{RepresentsTiers}
 use Rattle.tiered_array.specs.declared.outcome.Outcome.{Outcome}
 use Rattle.tiered_array.specs.Views.{TiersView}
@@ -23,7 +23,7 @@ use Rattle.script_exec.proofs.Benches.{put_here}
 -- a step whose answer is appended carries its command out
 pub reported_noted : {E : Type 0} (r : Result (Unit {0}) E) (before : Bench) (u : TiersView) (order : Order) (step : FlatStep) (answer : FlatAnswer)
     (old new : List ℕ) → OnOk r (new ≡ old ++ answer_text (asked_version step) answer)
-    → ((T : Tiered) → RepresentsTiers before.tiers T → (U : Tiered) × StepNoted T step answer U × RepresentsTiers u U)
+    → ((T : Tiered) → RepresentsTiers before.tiers T → (U : Tiered) × StepAlone T step answer U × RepresentsTiers u U)
     → ((P : Position) (text : List ℕ) (t : State) → Steps P step text t → Answers (Some P) order text t)
     → OnOk r (Carries before (record before { tiers = u }) order old new)
 reported_noted (Ok x) before u order step answer old new ok steps answers = λ P matches.

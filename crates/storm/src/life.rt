@@ -254,7 +254,7 @@ fn conclude<N: slot_words::Naming + Sizes, A: map_words::Naming, B: map_words::N
     }
 }
 
-// How many drives are missing.
+// How many drives are lost.
 fn count_lost<N: slot_words::Naming>(array: &Array<MemDrive, Claim<N>>) -> u8 {
     let mut lost = 0u8;
     for drive in 0..array.drive_count() {

@@ -16,12 +16,12 @@ pub struct Tally {
     pub reads: u64,
     /// Reads of blocks of which the controller's words have no record.
     pub blanks: u64,
-    /// Drives that were missing at the end.
+    /// Drives that were lost at the end.
     pub lost: u8,
 }
 
 impl Tally {
-    // Nothing was carried out, and no drive is missing.
+    // Nothing was carried out, and no drive is lost.
     pub(crate) fn new() -> Tally {
         Tally {
             writes: 0,

@@ -15,7 +15,7 @@ use Rattle.rebalancer.specs.declared.shift.Shift.{Shift}
 use Rattle.tiered_array.specs.Marking.{AreMarked}
 use Rattle.tiered_array.specs.Regrouping.{ShiftCase, BalanceCase, RebuildCase}
 use Rattle.tiered_array.specs.Matches.{RepresentsTiers}
-use Rattle.tiered_array.specs.Steps.{StepNoted}
+use Rattle.tiered_array.specs.Steps.{StepAlone}
 use Rattle.tiered_array.specs.Tiered.{Tiered}
 use Rattle.tiered_array.specs.Views.{TiersView}
 use Rattle.tiered_array.specs.declared.regrouped.Regrouped.{Regrouped}
@@ -27,7 +27,7 @@ use Rattle.tiered_array.proofs.Standing.{matches_with, matches_left}
 -- a step of the world is one of the whole
 pub steps_with : (t : TiersView) (v : WorldView) (taken : FlatStep) (answer : FlatAnswer) → IsCalm taken
     → ((F : Flat) → Represents t.world F → (G : Flat) × Case F taken answer G × Represents v G)
-    → (T : Tiered) → RepresentsTiers t T → (U : Tiered) × StepNoted T taken answer U × RepresentsTiers (record t { world = v }) U
+    → (T : Tiered) → RepresentsTiers t T → (U : Tiered) × StepAlone T taken answer U × RepresentsTiers (record t { world = v }) U
 steps_with t v taken answer calm takes T matches =
     let done = takes T.flat matches.world in
     (record T { flat = done.0 }, (done.0, done.1, refl), matches_with t v T done.0 taken answer calm matches done.2 done.1)
@@ -35,7 +35,7 @@ steps_with t v taken answer calm takes T matches =
 -- so is one of a call that may fail
 pub steps_if : {E : Type 0} (t : TiersView) (v : WorldView) (taken : FlatStep) (r : Result Answer E) → IsCalm taken
     → IfOk r (λ a. (F : Flat) → Represents t.world F → (G : Flat) × Case F taken (flat_answer a) G × Represents v G)
-    → IfOk r (λ a. (T : Tiered) → RepresentsTiers t T → (U : Tiered) × StepNoted T taken (flat_answer a) U × RepresentsTiers (record t { world = v }) U)
+    → IfOk r (λ a. (T : Tiered) → RepresentsTiers t T → (U : Tiered) × StepAlone T taken (flat_answer a) U × RepresentsTiers (record t { world = v }) U)
 steps_if t v taken (Ok a) calm takes = steps_with t v taken (flat_answer a) calm takes
 steps_if t v taken (Err e) calm takes = tt
 

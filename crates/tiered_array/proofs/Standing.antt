@@ -41,7 +41,7 @@ use Rattle.step_core.specs.Placing.{Places}
 use Rattle.flat_machine.specs.declared.refusal.Refusal.{Refusal}
 use Rattle.flat_machine.specs.declared.refusal.Refusal.TheVariants.{Memory}
 use Rattle.tiered_array.specs.Placing.{Put, Fresh, Again, PlaceCase, record_slot, put_step, put_answer}
-use Rattle.tiered_array.specs.Steps.{StepNoted, AppendsAt, MovesTo, WritesAt, WritesIn, PutStops, DemoteCase, PlugCase, Cleans, CleanCase, WriteCase, CommitNoted, IsFreeMirror, IsFreeHole, end_after, order_following}
+use Rattle.tiered_array.specs.Steps.{StepAlone, AppendsAt, MovesTo, WritesAt, WritesIn, PutStops, DemoteCase, PlugCase, Cleans, CleanCase, WriteCase, CommitNoted, IsFreeMirror, IsFreeHole, end_after, order_following}
 use Rattle.tiered_array.specs.Matches.{RepresentsTiers}
 use Rattle.tiered_array.specs.Inside.{IsFreeHere}
 use Rattle.tiered_array.specs.Marking.{AreMarked, IsCommitNoted, PutsAt, is_mirrors, order_noted, order_put}
@@ -612,7 +612,7 @@ pub makes : (t : TiersView) (v : WorldView) (hints holes : List ℕ) (class : Cl
     → ((g s : ℕ) → a ≡ answer.Made g → g < 512 → s / 128 ≡ g → IsHinted hints s) → ((s : ℕ) → IsHinted t.hints s → IsHinted hints s)
     → ((g s : ℕ) → a ≡ answer.Made g → g < 512 → s / 128 ≡ g → IsHinted holes s) → ((s : ℕ) → IsHinted t.holes s → IsHinted holes s)
     → (T : Tiered) → RepresentsTiers t T
-    → (U : Tiered) × StepNoted T (step.Make class members) (flat_answer a) U × RepresentsTiers (record t { world = v; hints = hints; holes = holes }) U
+    → (U : Tiered) × StepAlone T (step.Make class members) (flat_answer a) U × RepresentsTiers (record t { world = v; hints = hints; holes = holes }) U
 makes t v hints holes class members a takes new others new_holes other_holes T matches =
     let done = takes T.flat matches.world in
     (record T { flat = done.0 }, (done.0, done.1, refl), go a done.0 done.2 done.1 new new_holes)
@@ -668,7 +668,7 @@ matches_unmade t v T G w g matches rep made claimed leaves = record {
 
 unmakes : (t : TiersView) (v : WorldView) (w g : ℕ) (a : Answer)
     → ((F : Flat) → Represents t.world F → (G : Flat) × Case F (step.Unmake w g) (flat_answer a) G × Represents v G)
-    → (T : Tiered) → RepresentsTiers t T → (U : Tiered) × StepNoted T (step.Unmake w g) (flat_answer a) U × RepresentsTiers (record t { world = v }) U
+    → (T : Tiered) → RepresentsTiers t T → (U : Tiered) × StepAlone T (step.Unmake w g) (flat_answer a) U × RepresentsTiers (record t { world = v }) U
 unmakes t v w g a takes T matches =
     let done = takes T.flat matches.world in
     (record T { flat = done.0 }, (done.0, done.1, refl), go a done.0 done.2 done.1)
@@ -680,7 +680,7 @@ unmakes t v w g a takes T matches =
 
 pub unmade_if : {E : Type 0} (t : TiersView) (v : WorldView) (w g : ℕ) (r : Result Answer E)
     → IfOk r (λ a. (F : Flat) → Represents t.world F → (G : Flat) × Case F (step.Unmake w g) (flat_answer a) G × Represents v G)
-    → IfOk r (λ a. (T : Tiered) → RepresentsTiers t T → (U : Tiered) × StepNoted T (step.Unmake w g) (flat_answer a) U × RepresentsTiers (record t { world = v }) U)
+    → IfOk r (λ a. (T : Tiered) → RepresentsTiers t T → (U : Tiered) × StepAlone T (step.Unmake w g) (flat_answer a) U × RepresentsTiers (record t { world = v }) U)
 unmade_if t v w g (Ok a) takes = unmakes t v w g a takes
 unmade_if t v w g (Err e) takes = tt
 
@@ -693,7 +693,7 @@ matches_with t v T G taken answer calm matches rep case =
 pub releases : (t : TiersView) (v : WorldView) (hints holes : List ℕ) (w slot : ℕ) (a : Answer)
     → ((F : Flat) → Represents t.world F → (G : Flat) × Case F (step.Release w slot) (flat_answer a) G × Represents v G)
     → IsHinted hints slot → ((s : ℕ) → IsHinted t.hints s → IsHinted hints s) → IsHinted holes slot → ((s : ℕ) → IsHinted t.holes s → IsHinted holes s)
-    → (T : Tiered) → RepresentsTiers t T → (U : Tiered) × StepNoted T (step.Release w slot) (flat_answer a) U × RepresentsTiers (record t { world = v; hints = hints; holes = holes }) U
+    → (T : Tiered) → RepresentsTiers t T → (U : Tiered) × StepAlone T (step.Release w slot) (flat_answer a) U × RepresentsTiers (record t { world = v; hints = hints; holes = holes }) U
 releases t v hints holes w slot a takes new others new_hole other_holes T matches =
     let done = takes T.flat matches.world in
     (record T { flat = done.0 }, (done.0, done.1, refl), go a done.0 done.2 done.1)

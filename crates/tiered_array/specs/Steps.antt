@@ -213,5 +213,5 @@ pub record CommitNoted (T : Tiered) (w s b : ℕ) (answer : FlatAnswer) (U : Tie
   pub same : U.end ≡ T.end
 
 -- a single step of the flat machine, which notes nothing
-abbrev pub StepNoted : Tiered → FlatStep → FlatAnswer → Tiered → Type 0
-StepNoted T taken answer U = (G : Flat) × Case T.flat taken answer G × (U ≡ record T { flat = G })
+abbrev pub StepAlone : Tiered → FlatStep → FlatAnswer → Tiered → Type 0
+StepAlone T taken answer U = (G : Flat) × Case T.flat taken answer G × (U ≡ record T { flat = G })

@@ -18,7 +18,7 @@ pub(crate) fn lowest_bit(word: u64) -> Option<u32>
 
 // Sets a bit.
 #[inline(always)]
-pub(crate) fn put(words: &mut [u64], at: usize)
+pub(crate) fn set_bit(words: &mut [u64], at: usize)
     requires { at < 64 * length words.old }
     ensures { IsBitSet words.old words.new at }
 {
@@ -27,7 +27,7 @@ pub(crate) fn put(words: &mut [u64], at: usize)
 
 // Clears a bit that is set, which makes its word smaller: by this a search that clears bits ends.
 #[inline(always)]
-pub(crate) fn take(words: &mut [u64], at: usize)
+pub(crate) fn clear_bit(words: &mut [u64], at: usize)
     requires inside { at < 64 * length words.old }
     requires there { HasBitAt words.old at }
     ensures taken { IsBitCleared words.old words.new at }

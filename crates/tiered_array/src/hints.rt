@@ -5,7 +5,7 @@ ghost use Rattle.migrator.specs.First.{IsFirst};
 ghost use Rattle.step_core.specs.declared.step.Answer.TheVariants as Answer;
 ghost use Rattle.tiered_array.specs.Hints.{IsHinted, AreHints, IsSought, IsFirstHint, InRow, InRows, Anywhere};
 
-use crate::bits::{BITS, lowest_bit, put, take};
+use crate::bits::{BITS, clear_bit, lowest_bit, set_bit};
 use extent_groups::{GROUPS, SLOTS};
 use migrator::Free;
 use std::alloc::{AllocError, Global};
@@ -52,8 +52,8 @@ impl FreeHints {
         ensures others { (other : ℕ) → IsHinted self.old other → IsHinted self.new other }
     {
         let slot = usize::from(slot);
-        put(&mut self.slots, slot);
-        put(&mut self.rows, slot / BITS);
+        set_bit(&mut self.slots, slot);
+        set_bit(&mut self.rows, slot / BITS);
     }
 
     /// The lowest hinted slot that is free. Hints of slots that aren't free are cleared on the way.
@@ -129,7 +129,7 @@ fn first_in_rows<F: Free>(slots: &mut [u64], rows: &mut [u64], word: usize, free
             return Some(slot);
         }
         // So that no search looks here again, until a slot of the row is hinted.
-        take(rows, row);
+        clear_bit(rows, row);
     }
     None
 }
@@ -147,7 +147,7 @@ fn first_in_row<F: Free>(slots: &mut [u64], row: usize, free: &F) -> Option<u16>
             return Some(slot as u16);
         }
         // Its release hints it again.
-        take(slots, slot);
+        clear_bit(slots, slot);
     }
     None
 }

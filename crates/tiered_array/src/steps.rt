@@ -8,7 +8,7 @@ ghost use Rattle.slot_tables.specs.Views.{SameSizes};
 ghost use Rattle.step_core.specs.Reported.{flat_answer, read_answer};
 ghost use Rattle.tiered_array.specs.Matches.{RepresentsTiers};
 ghost use Rattle.tiered_array.specs.Regrouping.{BalanceCase, RebuildCase};
-ghost use Rattle.tiered_array.specs.Steps.{StepNoted};
+ghost use Rattle.tiered_array.specs.Steps.{StepAlone};
 ghost use Rattle.tiered_array.specs.Tiered.{Tiered};
 
 use crate::{Regrouped, Tiers, balance, rebuild};
@@ -20,7 +20,7 @@ impl<D: Drive> Tiers<D> {
     /// Claims a slot that nobody holds, also one of no group; answers `Taken` where somebody holds it.
     pub fn claim(&mut self, worker: u8, slot: u16) -> Answer
         ensures flat { (T : Tiered) → RepresentsTiers self.old T
-            → (U : Tiered) × StepNoted T (f.Claim worker slot) (flat_answer result) U × RepresentsTiers self.new U }
+            → (U : Tiered) × StepAlone T (f.Claim worker slot) (flat_answer result) U × RepresentsTiers self.new U }
         ensures room { SameSizes self.old.world.array self.new.world.array }
     {
         self.world.claim(worker, slot)
@@ -31,7 +31,7 @@ impl<D: Drive> Tiers<D> {
     pub fn fill(&mut self, worker: u8, slot: u16, payload: &[u8]) -> Result<Answer, AllocError>
         requires { length payload.now ≡ self.old.world.array.parts.groups.payload }
         ensures ok { IfOk result (λ answer. (T : Tiered) → RepresentsTiers self.old T
-            → (U : Tiered) × StepNoted T (f.Fill worker slot (Payload payload.now)) (flat_answer answer) U × RepresentsTiers self.new U) }
+            → (U : Tiered) × StepAlone T (f.Fill worker slot (Payload payload.now)) (flat_answer answer) U × RepresentsTiers self.new U) }
         ensures succeeds { IsOk result }
         ensures room { SameSizes self.old.world.array self.new.world.array }
     {
@@ -44,7 +44,7 @@ impl<D: Drive> Tiers<D> {
     pub fn copy(&mut self, worker: u8, slot: u16, block: u32) -> Result<Answer, AllocError>
         requires { block < self.old.world.array.parts.groups.blocks }
         ensures ok { IfOk result (λ answer. (T : Tiered) → RepresentsTiers self.old T
-            → (U : Tiered) × StepNoted T (f.Copy worker slot block) (flat_answer answer) U × RepresentsTiers self.new U) }
+            → (U : Tiered) × StepAlone T (f.Copy worker slot block) (flat_answer answer) U × RepresentsTiers self.new U) }
         ensures succeeds { IsOk result }
         ensures room { SameSizes self.old.world.array self.new.world.array }
     {
@@ -55,7 +55,7 @@ impl<D: Drive> Tiers<D> {
     /// there. The unit stays.
     pub fn discard(&mut self, worker: u8, slot: u16) -> Answer
         ensures flat { (T : Tiered) → RepresentsTiers self.old T
-            → (U : Tiered) × StepNoted T (f.Discard worker slot) (flat_answer result) U × RepresentsTiers self.new U }
+            → (U : Tiered) × StepAlone T (f.Discard worker slot) (flat_answer result) U × RepresentsTiers self.new U }
         ensures room { SameSizes self.old.world.array self.new.world.array }
     {
         self.world.discard(worker, slot)
@@ -67,7 +67,7 @@ impl<D: Drive> Tiers<D> {
         requires block { block < self.old.world.array.parts.groups.blocks }
         requires payload { length payload.old ≡ self.old.world.array.parts.groups.payload }
         ensures flat { (T : Tiered) → RepresentsTiers self.old T
-            → (U : Tiered) × StepNoted T (f.Read block) (read_answer result payload.new) U × RepresentsTiers self.new U }
+            → (U : Tiered) × StepAlone T (f.Read block) (read_answer result payload.new) U × RepresentsTiers self.new U }
         ensures room { SameSizes self.old.world.array self.new.world.array }
     {
         self.world.read_into(block, payload)
@@ -107,7 +107,7 @@ impl<D: Drive> Tiers<D> {
     pub fn read_at(&mut self, alloc: Global, asked: Record) -> Result<Answer, AllocError>
         requires { asked.block < self.old.world.array.parts.groups.blocks }
         ensures ok { IfOk result (λ answer. (T : Tiered) → RepresentsTiers self.old T
-            → (U : Tiered) × StepNoted T (f.ReadAt asked) (flat_answer answer) U × RepresentsTiers self.new U) }
+            → (U : Tiered) × StepAlone T (f.ReadAt asked) (flat_answer answer) U × RepresentsTiers self.new U) }
         ensures err { OnErr result (self.new ≡ self.old) }
         ensures room { SameSizes self.old.world.array self.new.world.array }
     {
@@ -139,7 +139,7 @@ impl<D: HotSwap> Tiers<D> {
     /// Loses a drive from outside, also one that is lost; refused with `BadMember` where there is none of that number.
     pub fn lose(&mut self, drive: u8) -> Answer
         ensures flat { (T : Tiered) → RepresentsTiers self.old T
-            → (U : Tiered) × StepNoted T (f.Lose drive) (flat_answer result) U × RepresentsTiers self.new U }
+            → (U : Tiered) × StepAlone T (f.Lose drive) (flat_answer result) U × RepresentsTiers self.new U }
         ensures room { SameSizes self.old.world.array self.new.world.array }
     {
         self.world.lose(drive)
@@ -150,7 +150,7 @@ impl<D: HotSwap + Drop> Tiers<D> {
     /// Adds a new drive, all of whose units are zero; refused with `Full` where there are 16.
     pub fn add_drive(&mut self, alloc: Global) -> Result<Answer, AllocError>
         ensures ok { IfOk result (λ answer. (T : Tiered) → RepresentsTiers self.old T
-            → (U : Tiered) × StepNoted T f.AddDrive (flat_answer answer) U × RepresentsTiers self.new U) }
+            → (U : Tiered) × StepAlone T f.AddDrive (flat_answer answer) U × RepresentsTiers self.new U) }
         ensures err { OnErr result (self.new ≡ self.old) }
         ensures room { SameSizes self.old.world.array self.new.world.array }
     {

@@ -6,7 +6,7 @@ ghost use Rattle.flat_machine.specs.Flat.{Flat};
 ghost use Rattle.step_core.specs.Reported.{flat_answer};
 ghost use Rattle.tiered_array.specs.Matches.{RepresentsTiers};
 ghost use Rattle.flat_machine.specs.Steps as f;
-ghost use Rattle.tiered_array.specs.Steps.{CommitNoted, StepNoted};
+ghost use Rattle.tiered_array.specs.Steps.{CommitNoted, StepAlone};
 ghost use Rattle.tiered_array.specs.Tiered.{Tiered, begun};
 
 use crate::hints::hint_made;
@@ -96,7 +96,7 @@ impl<D: Drive> Tiers<D> {
     /// Releases a slot that the worker holds; answers `NotHeld` where it doesn't, also of its ticket's slot.
     pub fn release(&mut self, worker: u8, slot: u16) -> Answer
         ensures flat { (T : Tiered) → RepresentsTiers self.old T
-            → (U : Tiered) × StepNoted T (f.Release worker slot) (flat_answer result) U × RepresentsTiers self.new U }
+            → (U : Tiered) × StepAlone T (f.Release worker slot) (flat_answer result) U × RepresentsTiers self.new U }
         ensures room { SameSizes self.old.world.array self.new.world.array }
     {
         let answer = self.world.release(worker, slot);
@@ -116,7 +116,7 @@ impl<D: Drive> Tiers<D> {
         members: &[Member],
     ) -> Result<Answer, AllocError>
         ensures ok { IfOk result (λ answer. (T : Tiered) → RepresentsTiers self.old T
-            → (U : Tiered) × StepNoted T (f.Make class members.now) (flat_answer answer) U × RepresentsTiers self.new U) }
+            → (U : Tiered) × StepAlone T (f.Make class members.now) (flat_answer answer) U × RepresentsTiers self.new U) }
         ensures err { OnErr result (self.new ≡ self.old) }
         ensures room { SameSizes self.old.world.array self.new.world.array }
     {
@@ -130,7 +130,7 @@ impl<D: Drive> Tiers<D> {
     /// it doesn't hold. Hints no slot: its group's number holds them from then on.
     pub fn unmake(&mut self, alloc: Global, worker: u8, group: u16) -> Result<Answer, AllocError>
         ensures ok { IfOk result (λ answer. (T : Tiered) → RepresentsTiers self.old T
-            → (U : Tiered) × StepNoted T (f.Unmake worker group) (flat_answer answer) U × RepresentsTiers self.new U) }
+            → (U : Tiered) × StepAlone T (f.Unmake worker group) (flat_answer answer) U × RepresentsTiers self.new U) }
         ensures err { OnErr result (self.new ≡ self.old) }
         ensures room { SameSizes self.old.world.array self.new.world.array }
     {

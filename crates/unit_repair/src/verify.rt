@@ -23,7 +23,7 @@ use std::alloc::Global;
 use unit_store::Parts;
 use vault::Places;
 
-// Whether a slot is sound, if one of its units is rotten. Takes two buffers of a unit's length.
+// Whether a slot is sound, if one of its copies, or a unit of its row, was rotten; true of all others. Takes two buffers of a unit's length.
 fn is_right(
     parts: &mut Parts<MemDrive>,
     rotten: &Places,

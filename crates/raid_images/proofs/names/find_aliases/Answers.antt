@@ -2,7 +2,7 @@ use Rattle.std.proofs.Common.{◌<◌, ℕ, length, arith, rules}
 use Rattle.std.proofs.lemmas.Option.{slice_get_within}
 use Rattle.raid_images.specs.Names.{AreTwins}
 use Rattle.raid_images.proofs.Firsts.{none_next}
-use Rattle.raid_images.proofs.names.first_twins.Goals as goal
+use Rattle.raid_images.proofs.names.find_aliases.Goals as goal
 
 pub loop-higher-preserved : goal.loop-higher-preserved
 loop-higher-preserved c = λ k low lower twins. none_next (λ n. (m : ℕ) × AreTwins c.args.spots.now m n) c.loop-higher.higher

@@ -2,7 +2,7 @@ use Rattle.std.proofs.Common.{◌+◌, ◌*◌}
 use Rattle.extent_groups.specs.Cells.{cells}
 use Rattle.extent_groups.specs.Calls.{NoPlace, KeepsDrives}
 use Rattle.consistency_check.specs.Sound.{AreSoundBelow}
-use Rattle.consistency_check.proofs.search.first_of_group.Given as goal
+use Rattle.consistency_check.proofs.search.first_unsound_of.Given as goal
 
 abbrev pub invariant-loop-index : goal.invariant-loop-index
 invariant-loop-index g l = record {

@@ -1,5 +1,5 @@
 use Rattle.tiered_array.proofs.Words.{take_at, falls}
-use Rattle.tiered_array.proofs.bits.take.Goals as goal
+use Rattle.tiered_array.proofs.bits.clear_bit.Goals as goal
 
 pub returns-clause-taken : goal.returns-clause-taken
 returns-clause-taken c = take_at c.args.words.now c.args.at c.requires.inside

@@ -5,7 +5,7 @@ use Rattle.extent_groups.proofs.DriveCalls.{keeps_trans}
 use Rattle.extent_groups.proofs.Losses.{kept_fades}
 use Rattle.unit_store.proofs.GoneSlots.{index_is}
 use Rattle.consistency_check.proofs.Below.{below_fades, below_more, group_below}
-use Rattle.consistency_check.proofs.search.first_of_group.Goals as goal
+use Rattle.consistency_check.proofs.search.first_unsound_of.Goals as goal
 
 pub overflow_add-slot : goal.overflow_add-slot
 overflow_add-slot g c =
