@@ -6,6 +6,7 @@ use crate::opened::{OpenFiles, Use, groups_in, open_table, open_vault, trouble_o
 use crate::trouble::Trouble;
 use array_recovery::{Found, RecoveryFault, tiers_of};
 use drive_rebuild::{Findings, scrub_parts};
+use extent_groups::SLOTS;
 use extents::{DRIVES, HotSwap, MemDrive};
 use std::alloc::Global;
 use std::io;
@@ -134,8 +135,8 @@ fn print(rt: &HostRuntime, report: &Report) -> io::Result<()> {
         println!(rt; "{accepted} units weren't as their digests say, and are taken as they are")?;
     }
     for slot in report.findings.named.iter() {
-        let group = *slot / 128;
-        let index = *slot % 128;
+        let group = *slot / SLOTS;
+        let index = *slot % SLOTS;
         println!(rt; "group {group} slot {index}: its units contradict one another")?;
     }
     let unsound = report.findings.unsound;
@@ -162,8 +163,8 @@ fn print(rt: &HostRuntime, report: &Report) -> io::Result<()> {
 fn print_named(rt: &HostRuntime, report: &Report) -> io::Result<()> {
     let mut comma = "";
     for slot in report.findings.named.iter() {
-        let group = *slot / 128;
-        let index = *slot % 128;
+        let group = *slot / SLOTS;
+        let index = *slot % SLOTS;
         print!(rt; "{comma}{{\"group\":{group},\"slot\":{index}}}")?;
         comma = ",";
     }

@@ -3,6 +3,7 @@ use crate::folder::{Folder, Name};
 use crate::opened::trouble_of;
 use disk_shape::ShapeFault;
 use drive_rebuild::RebuildFault;
+use extent_groups::SLOTS;
 use file_vault::{JOURNAL, SECOND, TABLE_SECOND, Twin};
 use nbd_serve::End;
 use std::alloc::{AllocError, AllocFailed};
@@ -177,8 +178,8 @@ impl Trouble {
                 "raid_disk: {at}: the drives' files don't fit one another"
             ),
             Trouble::Gone(slot) => {
-                let group = slot / 128;
-                let index = slot % 128;
+                let group = slot / SLOTS;
+                let index = slot % SLOTS;
                 eprintln!(rt;
                     "raid_disk: {at}: too many drives are missing: slot {index} of group {group} can't be read"
                 )
@@ -239,8 +240,8 @@ impl Trouble {
         let at = folder.name;
         match self {
             Trouble::Contradicts(slot) => {
-                let group = slot / 128;
-                let index = slot % 128;
+                let group = slot / SLOTS;
+                let index = slot % SLOTS;
                 eprintln!(rt;
                     "raid_disk: {at}: the units of slot {index} of group {group} contradict one another: the drive isn't replaced"
                 )
@@ -342,16 +343,16 @@ impl Trouble {
             }
             Trouble::RottenTwice(slot) => {
                 let at = folder.name;
-                let group = slot / 128;
-                let index = slot % 128;
+                let group = slot / SLOTS;
+                let index = slot % SLOTS;
                 eprintln!(rt;
                     "raid_disk: {at}: slot {index} of group {group} has more than one unit that isn't as its digest says: scrub --accept takes them as they are"
                 )
             }
             Trouble::RottenAndUnsound(slot) => {
                 let at = folder.name;
-                let group = slot / 128;
-                let index = slot % 128;
+                let group = slot / SLOTS;
+                let index = slot % SLOTS;
                 eprintln!(rt;
                     "raid_disk: {at}: units that aren't as their digests say can't be computed: those of slot {index} of group {group} contradict one another"
                 )
