@@ -5,7 +5,8 @@ use crate::any_vault::{add_to, settle_store};
 use crate::create::is_there;
 use crate::folder::{Folder, Name};
 use crate::opened::{
-    Disk, Use, groups_in, header_of, layout_of, open_disk, open_file, open_vault, trouble_of,
+    Disk, OpenFiles, Use, groups_in, header_of, layout_of, open_disk, open_file, open_vault,
+    trouble_of,
 };
 use crate::places::places_with;
 use crate::progress;
@@ -26,7 +27,10 @@ use std::marker::Brand;
 use vault::Vault;
 
 // Tests that no drive of the array is lost, but for one that may be.
-fn test_whole<N: Chronicle>(disk: &Disk<N>, spare: Option<u8>) -> Result<(), Trouble> {
+fn test_whole<N: Chronicle, V: Vault + Drop>(
+    disk: &Disk<N, V>,
+    spare: Option<u8>,
+) -> Result<(), Trouble> {
     let array = disk.store.world().array();
     for drive in 0..array.drive_count() {
         if array.is_lost(drive) && Some(drive) != spare {
@@ -34,6 +38,22 @@ fn test_whole<N: Chronicle>(disk: &Disk<N>, spare: Option<u8>) -> Result<(), Tro
         }
     }
     Ok(())
+}
+
+// Settles a disk that is open.
+fn settle_opened<N: Chronicle, V: Vault + Drop>(
+    disk: Disk<N, V>,
+    spare: Option<u8>,
+) -> Result<(File, Table, u8), Trouble> {
+    let mut disk = disk;
+    test_whole(&disk, spare)?;
+    if settle_store(&mut disk.store).is_err() {
+        return Err(Trouble::Sync);
+    }
+    // A drive that failed in this run is lost since.
+    test_whole(&disk, spare)?;
+    let drives = disk.store.world().array().drive_count();
+    Ok((disk.file, disk.table, drives))
 }
 
 /// Settles a disk of which no drive is lost, but for one that may be. Says how many drives its array has. Keeps the disk locked.
@@ -45,15 +65,8 @@ pub(crate) fn settle_whole<N: Chronicle>(
 ) -> Result<(File, Table, u8), Trouble>
     requires { opened ≡ N.chronicle }
 {
-    let mut disk = open_disk::<N>(rt, folder, Use::Serves, 0, opened)?;
-    test_whole(&disk, spare)?;
-    if settle_store(&mut disk.store).is_err() {
-        return Err(Trouble::Sync);
-    }
-    // A drive that failed in this run is lost since.
-    test_whole(&disk, spare)?;
-    let drives = disk.store.world().array().drive_count();
-    Ok((disk.file, disk.table, drives))
+    let disk = open_disk::<N>(rt, folder, Use::Serves, 0, opened)?;
+    settle_opened(disk, spare)
 }
 
 /// Whether what is at a drive's place is a file of it, whole, as an addition that was stopped may have left it.
@@ -138,6 +151,25 @@ fn trouble_of_addition(fault: AdditionFault) -> Trouble {
     }
 }
 
+// Gives the array of a disk that is open a drive that has a file.
+fn add_opened<V: Vault + Drop>(
+    rt: &HostRuntime,
+    files: OpenFiles<V>,
+    table: &Table,
+    number: u8,
+) -> Result<(), Trouble> {
+    let mut files = files;
+    if files.drives.verdict(number) != Verdict::Present {
+        return Err(Trouble::Unread(number));
+    }
+    let spelled = groups_in(rt.alloc(), &mut files.vault, table)?;
+    blank(rt, &mut files.vault, table, number)?;
+    match add_to(rt.alloc(), &mut files.vault, &table.plan.shape, spelled) {
+        Ok(()) => Ok(()),
+        Err(fault) => Err(trouble_of_addition(fault)),
+    }
+}
+
 // Gives the array a drive that has a file.
 fn add_made(
     rt: &HostRuntime,
@@ -146,16 +178,8 @@ fn add_made(
     table: Table,
     number: u8,
 ) -> Result<(), Trouble> {
-    let mut files = open_vault(rt, folder, Use::Serves, file, table)?;
-    if files.drives.verdict(number) != Verdict::Present {
-        return Err(Trouble::Unread(number));
-    }
-    let spelled = groups_in(rt.alloc(), &mut files.vault, &table)?;
-    blank(rt, &mut files.vault, &table, number)?;
-    match add_to(rt.alloc(), &mut files.vault, &table.plan.shape, spelled) {
-        Ok(()) => Ok(()),
-        Err(fault) => Err(trouble_of_addition(fault)),
-    }
+    let files = open_vault(rt, folder, Use::Serves, file, table)?;
+    add_opened(rt, files, &table, number)
 }
 
 // Says for `status` what is under way. Nothing is left to do where that can't be said.

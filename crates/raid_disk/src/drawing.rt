@@ -2,23 +2,20 @@
 ghost use Rattle.std.specs.Prelude.{◌≡◌};
 
 use crate::folder::Folder;
-use crate::opened::{Use, open_disk};
+use crate::opened::{Disk, Use, open_disk};
 use crate::trouble::Trouble;
 use cached_drive::Saved;
 use history::{Chronicle, Opened};
 use picture::draw;
 use std::io::Write;
 use std::marker::Brand;
+use vault::Vault;
 
-// Draws a disk.
-fn draw_opened<N: Chronicle>(
+// Draws a disk that is open.
+fn draw_disk<N: Chronicle, V: Vault + Drop>(
     rt: &HostRuntime,
-    folder: Folder<'_>,
-    opened: Opened<Saved>,
-) -> Result<u8, Trouble>
-    requires { opened ≡ N.chronicle }
-{
-    let disk = open_disk::<N>(rt, folder, Use::Looks, 0, opened)?;
+    disk: &Disk<N, V>,
+) -> Result<u8, Trouble> {
     let array = disk.store.world().array();
     let Ok(map) = array.map(rt.alloc()) else {
         return Err(Trouble::Memory);
@@ -36,6 +33,18 @@ fn draw_opened<N: Chronicle>(
         Ok(()) => Ok(0),
         Err(error) => Err(Trouble::Output(error)),
     }
+}
+
+// Draws a disk.
+fn draw_opened<N: Chronicle>(
+    rt: &HostRuntime,
+    folder: Folder<'_>,
+    opened: Opened<Saved>,
+) -> Result<u8, Trouble>
+    requires { opened ≡ N.chronicle }
+{
+    let disk = open_disk::<N>(rt, folder, Use::Looks, 0, opened)?;
+    draw_disk(rt, &disk)
 }
 
 /// Prints a picture of a disk, in SVG.

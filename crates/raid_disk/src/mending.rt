@@ -12,7 +12,10 @@ use unit_repair::MendFault;
 use vault::{Batch, UnitRead, Vault, VaultError, settle};
 
 // Which drives are lost.
-fn lost_of(files: &mut OpenFiles, batch: &mut Batch) -> Result<[bool; DRIVES], Trouble> {
+fn lost_of<V: Vault + Drop>(
+    files: &mut OpenFiles<V>,
+    batch: &mut Batch,
+) -> Result<[bool; DRIVES], Trouble> {
     match read_marks(&mut files.vault, batch) {
         Ok(marks) => Ok(lost_drives(&marks, &files.drives.absent())),
         Err(fault) => Err(trouble_of(fault)),
@@ -20,7 +23,11 @@ fn lost_of(files: &mut OpenFiles, batch: &mut Batch) -> Result<[bool; DRIVES], T
 }
 
 // Refuses to mend where one of the drives is lost: what it shares with others can't be computed, and its own units may be old.
-fn test_none_lost(files: &mut OpenFiles, batch: &mut Batch, drives: u8) -> Result<(), Trouble> {
+fn test_none_lost<V: Vault + Drop>(
+    files: &mut OpenFiles<V>,
+    batch: &mut Batch,
+    drives: u8,
+) -> Result<(), Trouble> {
     let lost = lost_of(files, batch)?;
     for drive in 0..drives {
         if lost[usize::from(drive % 16)] {
@@ -52,10 +59,13 @@ fn warn_mended(rt: &HostRuntime, folder: Folder<'_>, count: u32) -> io::Result<(
     )
 }
 
-/// Mends the units of a disk of which no drive is lost. Returns how many.
-pub(crate) fn mend_disk(rt: &HostRuntime, folder: Folder<'_>) -> Result<u32, Trouble> {
-    let (file, table) = open_table(rt, folder, Use::Serves)?;
-    let mut files = open_vault(rt, folder, Use::Serves, file, table)?;
+// Mends the units of a disk that is open.
+fn mend_opened<V: Vault + Drop>(
+    rt: &HostRuntime,
+    folder: Folder<'_>,
+    files: OpenFiles<V>,
+) -> Result<u32, Trouble> {
+    let mut files = files;
     let mut batch = Batch::new(rt.alloc());
     let table = files.table;
     let spelled = groups_in(rt.alloc(), &mut files.vault, &table)?;
@@ -73,6 +83,13 @@ pub(crate) fn mend_disk(rt: &HostRuntime, folder: Folder<'_>) -> Result<u32, Tro
         }
         Err(fault) => Err(trouble_of_mending(fault)),
     }
+}
+
+/// Mends the units of a disk of which no drive is lost. Returns how many.
+pub(crate) fn mend_disk(rt: &HostRuntime, folder: Folder<'_>) -> Result<u32, Trouble> {
+    let (file, table) = open_table(rt, folder, Use::Serves)?;
+    let files = open_vault(rt, folder, Use::Serves, file, table)?;
+    mend_opened(rt, folder, files)
 }
 
 // Gives each rotten unit of a drive the digest of its own bytes. Takes a buffer of a unit's length. Returns how many.
@@ -96,9 +113,9 @@ fn accept_drive<V: Vault>(
 }
 
 // Takes all rotten units of the drives that aren't lost as they are.
-fn accept_units(
+fn accept_units<V: Vault + Drop>(
     alloc: Global,
-    files: &mut OpenFiles,
+    files: &mut OpenFiles<V>,
     lost: &[bool; DRIVES],
 ) -> Result<u32, Trouble> {
     let plan = files.table.plan;
@@ -119,14 +136,20 @@ fn accept_units(
     }
 }
 
-/// Takes units that aren't as their digests say, and can't be computed, as they are. Returns how many.
-pub(crate) fn accept_disk(rt: &HostRuntime, folder: Folder<'_>) -> Result<u32, Trouble> {
-    let (file, table) = open_table(rt, folder, Use::Serves)?;
-    let mut files = open_vault(rt, folder, Use::Serves, file, table)?;
-    let mut batch = Batch::new(rt.alloc());
+// Takes the rotten units of a disk that is open as they are.
+fn accept_opened<V: Vault + Drop>(alloc: Global, files: OpenFiles<V>) -> Result<u32, Trouble> {
+    let mut files = files;
+    let mut batch = Batch::new(alloc);
     let lost = lost_of(&mut files, &mut batch)?;
     if let Err(error) = settle(&mut files.vault, &mut batch, &lost) {
         return Err(Trouble::Vault(error));
     }
-    accept_units(rt.alloc(), &mut files, &lost)
+    accept_units(alloc, &mut files, &lost)
+}
+
+/// Takes units that aren't as their digests say, and can't be computed, as they are. Returns how many.
+pub(crate) fn accept_disk(rt: &HostRuntime, folder: Folder<'_>) -> Result<u32, Trouble> {
+    let (file, table) = open_table(rt, folder, Use::Serves)?;
+    let files = open_vault(rt, folder, Use::Serves, file, table)?;
+    accept_opened(rt.alloc(), files)
 }

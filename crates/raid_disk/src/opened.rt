@@ -27,9 +27,9 @@ use std::alloc::{AllocError, Global};
 use std::fs::{File, OpenOptions, TryLockError};
 use std::io;
 use std::io::Read;
-use vault::TABLE;
+use vault::{TABLE, Vault};
 
-/// The vault of a disk.
+/// The vault of a disk. What is done with it is written over any vault: see `any_vault`.
 pub(crate) type DiskVault = FileVault<StampedFiles<PairedFiles<DiskFiles>>>;
 
 /// What a command does with a disk.
@@ -43,9 +43,9 @@ pub(crate) enum Use {
 
 /// A disk that is open.
 #[derive(Drop)]
-pub(crate) struct Disk<N: Chronicle> {
+pub(crate) struct Disk<N: Chronicle, V: Vault + Drop> {
     pub(crate) table: Table,
-    pub(crate) store: JournaledStore<N, DiskVault>,
+    pub(crate) store: JournaledStore<N, V>,
     /// What was found of the drives' files.
     pub(crate) drives: Drives,
     /// What was found of the state's files, and of the journal's.
@@ -236,9 +236,9 @@ pub(crate) fn groups_of(alloc: Global, plan: &Plan) -> Result<(GroupTable, Exten
 
 /// The groups that a disk's vault has, the owners of the extents, and how many drives the array has: those of the text, or one less
 /// where the addition or the removal of the last one was stopped.
-pub(crate) fn groups_in(
+pub(crate) fn groups_in<V: Vault>(
     alloc: Global,
-    vault: &mut DiskVault,
+    vault: &mut V,
     table: &Table,
 ) -> Result<Spelled, Trouble> {
     match groups_of_vault(alloc, vault, &table.plan.shape) {
@@ -265,9 +265,9 @@ pub(crate) fn trouble_of(fault: RecoveryFault) -> Trouble {
 
 /// A disk's files, and nothing more.
 #[derive(Drop)]
-pub(crate) struct OpenFiles {
+pub(crate) struct OpenFiles<V: Vault + Drop> {
     pub(crate) table: Table,
-    pub(crate) vault: DiskVault,
+    pub(crate) vault: V,
     /// What was found of the drives' files.
     pub(crate) drives: Drives,
     pub(crate) pairs: Pairs,
@@ -293,7 +293,7 @@ pub(crate) fn open_vault(
     usage: Use,
     file: File,
     table: Table,
-) -> Result<OpenFiles, Trouble> {
+) -> Result<OpenFiles<DiskVault>, Trouble> {
     let layout = layout_of(&table.plan, table.drives);
     let (files, mut drives) = open_files(rt, folder, &table, &layout, usage)?;
     // Nothing is left to do where standard error can't be written.
@@ -315,10 +315,10 @@ pub(crate) fn open_vault(
 }
 
 // Names the drives whose files are there and that are marked as lost, of a disk that can't be opened.
-fn name_marked(
+fn name_marked<V: Vault + Drop>(
     rt: &HostRuntime,
     folder: Folder<'_>,
-    vault: DiskVault,
+    vault: V,
     plan: &Plan,
     count: u8,
     drives: &Drives,
@@ -340,11 +340,11 @@ fn name_marked(
 }
 
 /// Why a disk isn't opened. Where a slot's units are gone, the drives that are marked are named.
-pub(crate) fn unopened(
+pub(crate) fn unopened<V: Vault + Drop>(
     rt: &HostRuntime,
     folder: Folder<'_>,
     fault: RecoveryFault,
-    vault: DiskVault,
+    vault: V,
     plan: &Plan,
     count: u8,
     drives: &Drives,
@@ -368,13 +368,13 @@ pub(crate) fn units_in(bytes: u64, plan: &Plan) -> u64 {
 
 /// Opens a disk whose files are open, with all that its journal has, which is settled from so many bytes of units on. A drive without
 /// a file is lost.
-pub(crate) fn open_array<N: Chronicle>(
+pub(crate) fn open_array<N: Chronicle, V: Vault + Drop>(
     rt: &HostRuntime,
     folder: Folder<'_>,
-    files: OpenFiles,
+    files: OpenFiles<V>,
     journal: u64,
     opened: Opened<Saved>,
-) -> Result<Disk<N>, Trouble>
+) -> Result<Disk<N, V>, Trouble>
     requires { opened ≡ N.chronicle }
 {
     let alloc = rt.alloc();
@@ -384,7 +384,7 @@ pub(crate) fn open_array<N: Chronicle>(
     let spelled = groups_in(alloc, &mut vault, &table)?;
     let count = spelled.drives;
     let units = units_in(journal, &plan);
-    let store = open_array_of::<N, DiskVault>(
+    let store = open_array_of::<N, V>(
         alloc,
         vault,
         opened,
@@ -413,10 +413,10 @@ pub(crate) fn open_disk<N: Chronicle>(
     usage: Use,
     journal: u64,
     opened: Opened<Saved>,
-) -> Result<Disk<N>, Trouble>
+) -> Result<Disk<N, DiskVault>, Trouble>
     requires { opened ≡ N.chronicle }
 {
     let (file, table) = open_table(rt, folder, usage)?;
     let files = open_vault(rt, folder, usage, file, table)?;
-    open_array::<N>(rt, folder, files, journal, opened)
+    open_array::<N, DiskVault>(rt, folder, files, journal, opened)
 }

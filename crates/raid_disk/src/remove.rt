@@ -2,7 +2,7 @@
 use crate::add::{is_made, settle_whole};
 use crate::any_vault::remove_from;
 use crate::folder::{Folder, Name};
-use crate::opened::{Use, groups_in, open_vault, trouble_of};
+use crate::opened::{OpenFiles, Use, groups_in, open_vault, trouble_of};
 use crate::progress;
 use crate::table::Table;
 use crate::texts::{write_places, write_table};
@@ -13,6 +13,7 @@ use std::fs::{self, File};
 use std::io;
 use std::marker::Brand;
 use step_core::Refusal;
+use vault::Vault;
 
 // Why a drive isn't removed.
 fn trouble_of_removal(number: u8, fault: RemovalFault) -> Trouble {
@@ -27,16 +28,15 @@ fn trouble_of_removal(number: u8, fault: RemovalFault) -> Trouble {
     }
 }
 
-// Takes the last drive out of the array, unless a removal that was stopped has done so. Keeps the disk locked.
-fn empty_last(
+// Takes the last drive out of the array of a disk that is open, unless a removal that was stopped has done so.
+fn empty_opened<V: Vault + Drop>(
     rt: &HostRuntime,
-    folder: Folder<'_>,
-    file: File,
-    table: Table,
+    files: OpenFiles<V>,
+    table: &Table,
     number: u8,
 ) -> Result<File, Trouble> {
-    let mut files = open_vault(rt, folder, Use::Serves, file, table)?;
-    let spelled = groups_in(rt.alloc(), &mut files.vault, &table)?;
+    let mut files = files;
+    let spelled = groups_in(rt.alloc(), &mut files.vault, table)?;
     if spelled.drives != table.drives {
         return Ok(files.file);
     }
@@ -44,6 +44,18 @@ fn empty_last(
         Ok(()) => Ok(files.file),
         Err(fault) => Err(trouble_of_removal(number, fault)),
     }
+}
+
+// Takes the last drive out of the array. Keeps the disk locked.
+fn empty_last(
+    rt: &HostRuntime,
+    folder: Folder<'_>,
+    file: File,
+    table: Table,
+    number: u8,
+) -> Result<File, Trouble> {
+    let files = open_vault(rt, folder, Use::Serves, file, table)?;
+    empty_opened(rt, files, &table, number)
 }
 
 // The drives' own places, without the last drive's.

@@ -7,7 +7,7 @@ use crate::disk_files::DiskFiles;
 use crate::drives::Drives;
 use crate::folder::{Folder, Name};
 use crate::opened::{
-    Disk, Use, file_bytes, groups_in, header_of, layout_of, open_disk, open_vault,
+    Disk, OpenFiles, Use, file_bytes, groups_in, header_of, layout_of, open_disk, open_vault,
 };
 use crate::places::places_with;
 use crate::progress;
@@ -23,6 +23,7 @@ use std::alloc::AllocError;
 use std::fs::{self, File, OpenOptions};
 use std::io;
 use std::marker::Brand;
+use vault::Vault;
 
 // Says on standard error how many tenths are written.
 #[derive(Drop)]
@@ -59,7 +60,7 @@ impl<'a> Watch for Progress<'a> {
 }
 
 // Tests that this drive is lost, and no other.
-fn test_lost<N: Chronicle>(disk: &Disk<N>, number: u8) -> Result<(), Trouble> {
+fn test_lost<N: Chronicle, V: Vault + Drop>(disk: &Disk<N, V>, number: u8) -> Result<(), Trouble> {
     let array = disk.store.world().array();
     if number >= array.drive_count() {
         return Err(Trouble::NoDrive(number));
@@ -77,7 +78,10 @@ fn test_lost<N: Chronicle>(disk: &Disk<N>, number: u8) -> Result<(), Trouble> {
 
 // What is at the own place of a lost drive, where the new file may be put in its stead. That another drive's file isn't there, and none
 // of this drive elsewhere, is tested.
-fn own_place<N: Chronicle>(disk: &Disk<N>, number: u8) -> Result<Sight, Trouble> {
+fn own_place<N: Chronicle, V: Vault + Drop>(
+    disk: &Disk<N, V>,
+    number: u8,
+) -> Result<Sight, Trouble> {
     let drives = &disk.drives;
     if drives.verdict(number) == Verdict::Doubled {
         return Err(Trouble::Doubled(number));
@@ -93,6 +97,22 @@ fn own_place<N: Chronicle>(disk: &Disk<N>, number: u8) -> Result<Sight, Trouble>
     }
 }
 
+// Settles a disk that is open, of which this drive alone is lost. Says what is at its place.
+fn mark_opened<N: Chronicle, V: Vault + Drop>(
+    disk: Disk<N, V>,
+    number: u8,
+) -> Result<(File, Table, Sight), Trouble> {
+    let mut disk = disk;
+    test_lost(&disk, number)?;
+    let sight = own_place(&disk, number)?;
+    if settle_store(&mut disk.store).is_err() {
+        return Err(Trouble::Sync);
+    }
+    // A drive that failed in this run is lost since.
+    test_lost(&disk, number)?;
+    Ok((disk.file, disk.table, sight))
+}
+
 // Settles a disk of which this drive alone is lost: the table marks it then. Says what is at its place. Keeps the disk locked.
 fn mark_lost<N: Chronicle>(
     rt: &HostRuntime,
@@ -102,15 +122,8 @@ fn mark_lost<N: Chronicle>(
 ) -> Result<(File, Table, Sight), Trouble>
     requires { opened ≡ N.chronicle }
 {
-    let mut disk = open_disk::<N>(rt, folder, Use::Serves, 0, opened)?;
-    test_lost(&disk, number)?;
-    let sight = own_place(&disk, number)?;
-    if settle_store(&mut disk.store).is_err() {
-        return Err(Trouble::Sync);
-    }
-    // A drive that failed in this run is lost since.
-    test_lost(&disk, number)?;
-    Ok((disk.file, disk.table, sight))
+    let disk = open_disk::<N>(rt, folder, Use::Serves, 0, opened)?;
+    mark_opened(disk, number)
 }
 
 /// Makes a file of zeros with a drive's header, which isn't the drive's yet.
@@ -256,17 +269,17 @@ fn trouble_of(fault: RebuildFault, number: u8) -> Trouble {
     trouble
 }
 
-// Replaces a drive that is marked and has a file.
-fn rebuild(
+// Replaces a drive that is marked and has a file, of a disk that is open.
+fn rebuild_opened<V: Vault + Drop>(
     rt: &HostRuntime,
     folder: Folder<'_>,
-    file: File,
-    table: Table,
+    files: OpenFiles<V>,
+    table: &Table,
     number: u8,
 ) -> Result<(), Trouble> {
+    let mut files = files;
     let plan = table.plan;
-    let mut files = open_vault(rt, folder, Use::Serves, file, table)?;
-    let spelled = groups_in(rt.alloc(), &mut files.vault, &table)?;
+    let spelled = groups_in(rt.alloc(), &mut files.vault, table)?;
     test_files(&files.drives, spelled.drives, number)?;
     let mut progress = Progress {
         rt,
@@ -285,6 +298,18 @@ fn rebuild(
         Ok(()) => Ok(()),
         Err(fault) => Err(trouble_of(fault, number)),
     }
+}
+
+// Replaces a drive that is marked and has a file.
+fn rebuild(
+    rt: &HostRuntime,
+    folder: Folder<'_>,
+    file: File,
+    table: Table,
+    number: u8,
+) -> Result<(), Trouble> {
+    let files = open_vault(rt, folder, Use::Serves, file, table)?;
+    rebuild_opened(rt, folder, files, &table, number)
 }
 
 fn print_replaced(rt: &HostRuntime, number: u8) -> io::Result<()> {

@@ -11,6 +11,7 @@ use extents::{DRIVES, HotSwap, MemDrive};
 use std::alloc::Global;
 use std::io;
 use unit_store::Parts;
+use vault::Vault;
 
 // What a disk has, as far as it can be tested.
 #[derive(Drop)]
@@ -77,9 +78,9 @@ fn make_array(alloc: Global, parts: Parts<MemDrive>) -> Result<bool, Trouble> {
 }
 
 // What a disk has, in memory, which of its drives are lost, and how many it has.
-fn load(
+fn load<V: Vault + Drop>(
     rt: &HostRuntime,
-    files: &mut OpenFiles,
+    files: &mut OpenFiles<V>,
 ) -> Result<(Parts<MemDrive>, [bool; DRIVES], u8), Trouble> {
     let table = files.table;
     let spelled = groups_in(rt.alloc(), &mut files.vault, &table)?;
@@ -106,10 +107,9 @@ fn load(
     }
 }
 
-// Tests the slots of a disk, and then the headers: whether they make an array.
-fn test_once(rt: &HostRuntime, folder: Folder<'_>) -> Result<Report, Trouble> {
-    let (file, table) = open_table(rt, folder, Use::Looks)?;
-    let mut files = open_vault(rt, folder, Use::Looks, file, table)?;
+// Tests the slots of a disk that is open, and then the headers: whether they make an array.
+fn test_opened<V: Vault + Drop>(rt: &HostRuntime, files: OpenFiles<V>) -> Result<Report, Trouble> {
+    let mut files = files;
     let (mut parts, lost, drives) = load(rt, &mut files)?;
     let findings = match scrub_parts(rt.alloc(), &mut parts) {
         Ok(findings) => findings,
@@ -123,6 +123,13 @@ fn test_once(rt: &HostRuntime, folder: Folder<'_>) -> Result<Report, Trouble> {
         mended: 0,
         accepted: 0,
     })
+}
+
+// Tests a disk.
+fn test_once(rt: &HostRuntime, folder: Folder<'_>) -> Result<Report, Trouble> {
+    let (file, table) = open_table(rt, folder, Use::Looks)?;
+    let files = open_vault(rt, folder, Use::Looks, file, table)?;
+    test_opened(rt, files)
 }
 
 fn print(rt: &HostRuntime, report: &Report) -> io::Result<()> {

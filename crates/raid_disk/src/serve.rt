@@ -24,6 +24,7 @@ use nbd_serve::End;
 use std::io;
 use std::io::BufReader;
 use std::marker::Brand;
+use vault::Vault;
 use watched_store::Sees;
 
 /// After so many units that were compared it is written down where the next one is.
@@ -33,10 +34,10 @@ const SAVE_EVERY: u64 = 4096;
 const READ_AHEAD: usize = 65_536;
 
 // Names the drives whose files are there and that are lost, on standard error.
-fn name_lost<N: Chronicle>(
+fn name_lost<N: Chronicle, V: Vault + Drop>(
     rt: &HostRuntime,
     folder: Folder<'_>,
-    store: &JournaledStore<N, DiskVault>,
+    store: &JournaledStore<N, V>,
     drives: &Drives,
 ) -> io::Result<()> {
     let array = store.world().array();
@@ -64,7 +65,7 @@ struct LossWatch<'a> {
 
 impl<'a> LossWatch<'a> {
     // Writes down where units are compared next, and warns of units that were written again.
-    fn note_scrub<N: Chronicle>(&mut self, store: &JournaledStore<N, DiskVault>) {
+    fn note_scrub<N: Chronicle, V: Vault + Drop>(&mut self, store: &JournaledStore<N, V>) {
         if store.repaired() > self.warned {
             self.warned = store.repaired();
             // Nothing is left to do where standard error can't be written.
@@ -78,8 +79,8 @@ impl<'a> LossWatch<'a> {
     }
 }
 
-impl<'a, N: Chronicle> Sees<JournaledStore<N, DiskVault>> for LossWatch<'a> {
-    fn sees(&mut self, store: &JournaledStore<N, DiskVault>) {
+impl<'a, N: Chronicle, V: Vault + Drop> Sees<JournaledStore<N, V>> for LossWatch<'a> {
+    fn sees(&mut self, store: &JournaledStore<N, V>) {
         let lost = lost_count(store);
         let more = match self.named {
             Some(named) => lost > named,
@@ -135,7 +136,7 @@ fn outcome_of(end: End) -> Result<u8, Trouble> {
 }
 
 // How many drives are lost.
-fn lost_count<N: Chronicle>(store: &JournaledStore<N, DiskVault>) -> u8 {
+fn lost_count<N: Chronicle, V: Vault + Drop>(store: &JournaledStore<N, V>) -> u8 {
     let array = store.world().array();
     let mut count = 0u8;
     for drive in 0..array.drive_count() {
@@ -156,10 +157,10 @@ fn test_flushed(flushed: Result<(), StoreFault>) -> Result<(), Trouble> {
 }
 
 // Writes for `status` what the disk is like.
-fn say_served<N: Chronicle>(
+fn say_served<N: Chronicle, V: Vault + Drop>(
     rt: &HostRuntime,
     folder: Folder<'_>,
-    store: &JournaledStore<N, DiskVault>,
+    store: &JournaledStore<N, V>,
     drives: &Drives,
 ) {
     if let Ok(text) = served_text(rt.alloc(), store, drives) {
@@ -169,10 +170,10 @@ fn say_served<N: Chronicle>(
 
 // Serves a disk whose files are open. What a server before has left in the journal is settled first, and at the end all is synced
 // and settled.
-fn serve_files<N: Chronicle>(
+fn serve_files<N: Chronicle, V: Vault + Drop>(
     rt: &HostRuntime,
     folder: Folder<'_>,
-    files: OpenFiles,
+    files: OpenFiles<V>,
     journal: u64,
     opened: Opened<Saved>,
 ) -> Result<u8, Trouble>
@@ -201,7 +202,7 @@ fn serve_files<N: Chronicle>(
         saved: 0,
         warned: 0,
     };
-    let served = serve_array::<N, DiskVault, _, _, _>(
+    let served = serve_array::<N, V, _, _, _>(
         rt.alloc(),
         vault,
         opened,
@@ -240,7 +241,7 @@ fn serve_opened<N: Chronicle>(
     // Nothing is left to do where standard error can't be written.
     let _ = name_pair(rt, folder, &files.pairs, Pair::State);
     let _ = name_pair(rt, folder, &files.pairs, Pair::Journal);
-    serve_files::<N>(rt, folder, files, journal, opened)
+    serve_files::<N, DiskVault>(rt, folder, files, journal, opened)
 }
 
 // Serves a disk, unless a unit isn't as its digest says.

@@ -3,7 +3,7 @@ ghost use Rattle.std.specs.Prelude.{◌≡◌};
 
 use crate::drives::{Drives, path_at};
 use crate::folder::Folder;
-use crate::opened::{Disk, DiskVault, Use, open_disk};
+use crate::opened::{Disk, Use, open_disk};
 use crate::pairs::Pair;
 use crate::progress;
 use crate::trouble::Trouble;
@@ -16,6 +16,7 @@ use std::alloc::{AllocError, Global};
 use std::io;
 use std::marker::Brand;
 use step_core::{Array, Plain};
+use vault::Vault;
 
 /// Slots of a level, and those that hold a block.
 #[derive(Clone, Copy, Debug, PartialEq, Eq)]
@@ -66,10 +67,10 @@ fn missing_in<N: Chronicle>(array: &Array<CachedDrive<N>, Plain>) -> u8 {
 }
 
 // Prints the word for a drive's state, and where its file is, if it isn't at its own place.
-fn print_drive<N: Chronicle>(
+fn print_drive<N: Chronicle, V: Vault + Drop>(
     rt: &HostRuntime,
     folder: Folder<'_>,
-    disk: &Disk<N>,
+    disk: &Disk<N, V>,
     drive: u8,
 ) -> io::Result<()> {
     let is_lost = disk.store.world().array().is_lost(drive);
@@ -83,7 +84,11 @@ fn print_drive<N: Chronicle>(
     }
 }
 
-fn print<N: Chronicle>(rt: &HostRuntime, folder: Folder<'_>, disk: &Disk<N>) -> io::Result<()> {
+fn print<N: Chronicle, V: Vault + Drop>(
+    rt: &HostRuntime,
+    folder: Folder<'_>,
+    disk: &Disk<N, V>,
+) -> io::Result<()> {
     let array = disk.store.world().array();
     let plan = &disk.table.plan;
     let size = plan.size;
@@ -128,9 +133,9 @@ fn word_of(drives: &Drives, drive: u8, is_lost: bool) -> &'static str {
 }
 
 /// What a server's disk is like, for those who can't open it meanwhile.
-pub(crate) fn served_text<N: Chronicle>(
+pub(crate) fn served_text<N: Chronicle, V: Vault + Drop>(
     alloc: Global,
-    store: &JournaledStore<N, DiskVault>,
+    store: &JournaledStore<N, V>,
     drives: &Drives,
 ) -> Result<String, AllocError> {
     let array = store.world().array();
@@ -154,7 +159,10 @@ pub(crate) fn served_text<N: Chronicle>(
     Ok(text)
 }
 
-fn print_json<N: Chronicle>(rt: &HostRuntime, disk: &Disk<N>) -> io::Result<()> {
+fn print_json<N: Chronicle, V: Vault + Drop>(
+    rt: &HostRuntime,
+    disk: &Disk<N, V>,
+) -> io::Result<()> {
     let array = disk.store.world().array();
     let plan = &disk.table.plan;
     let size = plan.size;
@@ -186,6 +194,28 @@ fn print_json<N: Chronicle>(rt: &HostRuntime, disk: &Disk<N>) -> io::Result<()> 
     println!(rt; ",\"missing\":{missing}}}")
 }
 
+// Prints what a disk has that is open.
+fn show_disk<N: Chronicle, V: Vault + Drop>(
+    rt: &HostRuntime,
+    folder: Folder<'_>,
+    json: bool,
+    disk: &Disk<N, V>,
+) -> Result<u8, Trouble> {
+    let printed = if json {
+        print_json(rt, disk)
+    } else {
+        print(rt, folder, disk)
+    };
+    match printed {
+        Ok(()) => {
+            let missing = missing_in(disk.store.world().array());
+            let whole = missing == 0 && disk.pairs.are_present();
+            Ok(if whole { 0 } else { 1 })
+        }
+        Err(error) => Err(Trouble::Output(error)),
+    }
+}
+
 // Prints what a disk has.
 fn show_opened<N: Chronicle>(
     rt: &HostRuntime,
@@ -196,19 +226,7 @@ fn show_opened<N: Chronicle>(
     requires { opened ≡ N.chronicle }
 {
     let disk = open_disk::<N>(rt, folder, Use::Looks, 0, opened)?;
-    let printed = if json {
-        print_json(rt, &disk)
-    } else {
-        print(rt, folder, &disk)
-    };
-    match printed {
-        Ok(()) => {
-            let missing = missing_in(disk.store.world().array());
-            let whole = missing == 0 && disk.pairs.are_present();
-            Ok(if whole { 0 } else { 1 })
-        }
-        Err(error) => Err(Trouble::Output(error)),
-    }
+    show_disk(rt, folder, json, &disk)
 }
 
 /// Prints a disk's sizes, drives and levels, or what another process does with it. The status is 1 where a drive is lost, or a file of
