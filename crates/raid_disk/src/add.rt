@@ -21,6 +21,7 @@ use extent_groups::Place;
 use extents::DRIVES;
 use file_vault::{RealFiles, read_header};
 use history::{Chronicle, Opened};
+use journaled_store::JournaledStore;
 use std::fs::File;
 use std::io;
 use std::marker::Brand;
@@ -28,10 +29,10 @@ use vault::Vault;
 
 // Tests that no drive of the array is lost, but for one that may be.
 fn test_whole<N: Chronicle, V: Vault + Drop>(
-    disk: &Disk<N, V>,
+    store: &JournaledStore<N, V>,
     spare: Option<u8>,
 ) -> Result<(), Trouble> {
-    let array = disk.store.world().array();
+    let array = store.world().array();
     for drive in 0..array.drive_count() {
         if array.is_lost(drive) && Some(drive) != spare {
             return Err(Trouble::LostBeside(drive));
@@ -40,20 +41,18 @@ fn test_whole<N: Chronicle, V: Vault + Drop>(
     Ok(())
 }
 
-// Settles a disk that is open.
+// Settles an array of which no drive is lost, but for one that may be. Says how many drives it has.
 fn settle_opened<N: Chronicle, V: Vault + Drop>(
-    disk: Disk<N, V>,
+    store: &mut JournaledStore<N, V>,
     spare: Option<u8>,
-) -> Result<(File, Table, u8), Trouble> {
-    let mut disk = disk;
-    test_whole(&disk, spare)?;
-    if settle_store(&mut disk.store).is_err() {
+) -> Result<u8, Trouble> {
+    test_whole(store, spare)?;
+    if settle_store(store).is_err() {
         return Err(Trouble::Sync);
     }
     // A drive that failed in this run is lost since.
-    test_whole(&disk, spare)?;
-    let drives = disk.store.world().array().drive_count();
-    Ok((disk.file, disk.table, drives))
+    test_whole(store, spare)?;
+    Ok(store.world().array().drive_count())
 }
 
 /// Settles a disk of which no drive is lost, but for one that may be. Says how many drives its array has. Keeps the disk locked.
@@ -65,8 +64,14 @@ pub(crate) fn settle_whole<N: Chronicle>(
 ) -> Result<(File, Table, u8), Trouble>
     requires { opened ≡ N.chronicle }
 {
-    let disk = open_disk::<N>(rt, folder, Use::Serves, 0, opened)?;
-    settle_opened(disk, spare)
+    let Disk {
+        table,
+        mut store,
+        file,
+        ..
+    } = open_disk::<N>(rt, folder, Use::Serves, 0, opened)?;
+    let drives = settle_opened(&mut store, spare)?;
+    Ok((file, table, drives))
 }
 
 /// Whether what is at a drive's place is a file of it, whole, as an addition that was stopped may have left it.

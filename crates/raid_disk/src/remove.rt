@@ -9,6 +9,7 @@ use crate::texts::{write_places, write_table};
 use crate::trouble::{Trouble, unwritten};
 use drive_removal::RemovalFault;
 use history::Opened;
+use std::alloc::Global;
 use std::fs::{self, File};
 use std::io;
 use std::marker::Brand;
@@ -28,20 +29,19 @@ fn trouble_of_removal(number: u8, fault: RemovalFault) -> Trouble {
     }
 }
 
-// Takes the last drive out of the array of a disk that is open, unless a removal that was stopped has done so.
-fn empty_opened<V: Vault + Drop>(
-    rt: &HostRuntime,
-    files: OpenFiles<V>,
+// Takes the last drive out of the array that a vault has, unless a removal that was stopped has done so.
+fn empty_opened<V: Vault>(
+    alloc: Global,
+    vault: &mut V,
     table: &Table,
     number: u8,
-) -> Result<File, Trouble> {
-    let mut files = files;
-    let spelled = groups_in(rt.alloc(), &mut files.vault, table)?;
+) -> Result<(), Trouble> {
+    let spelled = groups_in(alloc, vault, table)?;
     if spelled.drives != table.drives {
-        return Ok(files.file);
+        return Ok(());
     }
-    match remove_from(rt.alloc(), &mut files.vault, &table.plan.shape, spelled) {
-        Ok(()) => Ok(files.file),
+    match remove_from(alloc, vault, &table.plan.shape, spelled) {
+        Ok(()) => Ok(()),
         Err(fault) => Err(trouble_of_removal(number, fault)),
     }
 }
@@ -54,8 +54,13 @@ fn empty_last(
     table: Table,
     number: u8,
 ) -> Result<File, Trouble> {
-    let files = open_vault(rt, folder, Use::Serves, file, table)?;
-    empty_opened(rt, files, &table, number)
+    let OpenFiles {
+        mut vault,
+        file,
+        ..
+    } = open_vault(rt, folder, Use::Serves, file, table)?;
+    empty_opened(rt.alloc(), &mut vault, &table, number)?;
+    Ok(file)
 }
 
 // The drives' own places, without the last drive's.

@@ -19,6 +19,7 @@ use drive_places::{Sight, Verdict};
 use drive_rebuild::{RebuildFault, Watch};
 use file_vault::{Files, RealFiles, write_header};
 use history::{Chronicle, Opened};
+use journaled_store::JournaledStore;
 use std::alloc::AllocError;
 use std::fs::{self, File, OpenOptions};
 use std::io;
@@ -60,8 +61,11 @@ impl<'a> Watch for Progress<'a> {
 }
 
 // Tests that this drive is lost, and no other.
-fn test_lost<N: Chronicle, V: Vault + Drop>(disk: &Disk<N, V>, number: u8) -> Result<(), Trouble> {
-    let array = disk.store.world().array();
+fn test_lost<N: Chronicle, V: Vault + Drop>(
+    store: &JournaledStore<N, V>,
+    number: u8,
+) -> Result<(), Trouble> {
+    let array = store.world().array();
     if number >= array.drive_count() {
         return Err(Trouble::NoDrive(number));
     }
@@ -78,11 +82,7 @@ fn test_lost<N: Chronicle, V: Vault + Drop>(disk: &Disk<N, V>, number: u8) -> Re
 
 // What is at the own place of a lost drive, where the new file may be put in its stead. That another drive's file isn't there, and none
 // of this drive elsewhere, is tested.
-fn own_place<N: Chronicle, V: Vault + Drop>(
-    disk: &Disk<N, V>,
-    number: u8,
-) -> Result<Sight, Trouble> {
-    let drives = &disk.drives;
+fn own_place(drives: &Drives, number: u8) -> Result<Sight, Trouble> {
     if drives.verdict(number) == Verdict::Doubled {
         return Err(Trouble::Doubled(number));
     }
@@ -97,20 +97,20 @@ fn own_place<N: Chronicle, V: Vault + Drop>(
     }
 }
 
-// Settles a disk that is open, of which this drive alone is lost. Says what is at its place.
+// Settles an array of which this drive alone is lost. Says what is at its place.
 fn mark_opened<N: Chronicle, V: Vault + Drop>(
-    disk: Disk<N, V>,
+    store: &mut JournaledStore<N, V>,
+    drives: &Drives,
     number: u8,
-) -> Result<(File, Table, Sight), Trouble> {
-    let mut disk = disk;
-    test_lost(&disk, number)?;
-    let sight = own_place(&disk, number)?;
-    if settle_store(&mut disk.store).is_err() {
+) -> Result<Sight, Trouble> {
+    test_lost(store, number)?;
+    let sight = own_place(drives, number)?;
+    if settle_store(store).is_err() {
         return Err(Trouble::Sync);
     }
     // A drive that failed in this run is lost since.
-    test_lost(&disk, number)?;
-    Ok((disk.file, disk.table, sight))
+    test_lost(store, number)?;
+    Ok(sight)
 }
 
 // Settles a disk of which this drive alone is lost: the table marks it then. Says what is at its place. Keeps the disk locked.
@@ -122,8 +122,15 @@ fn mark_lost<N: Chronicle>(
 ) -> Result<(File, Table, Sight), Trouble>
     requires { opened ≡ N.chronicle }
 {
-    let disk = open_disk::<N>(rt, folder, Use::Serves, 0, opened)?;
-    mark_opened(disk, number)
+    let Disk {
+        table,
+        mut store,
+        drives,
+        file,
+        ..
+    } = open_disk::<N>(rt, folder, Use::Serves, 0, opened)?;
+    let sight = mark_opened(&mut store, &drives, number)?;
+    Ok((file, table, sight))
 }
 
 /// Makes a file of zeros with a drive's header, which isn't the drive's yet.
