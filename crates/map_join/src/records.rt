@@ -32,7 +32,7 @@ pub enum RecordFault {
 }
 
 impl RecordFault {
-    /// The fault's number, in the order above.
+    /// The fault's number: 1 for a length other than twelve bytes, 2 for version 0.
     pub fn number(&self) -> u8
         ensures { result ≡ fault_number self.now }
     {
