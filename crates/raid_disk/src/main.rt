@@ -5,6 +5,7 @@ mod add;
 mod any_vault;
 mod create;
 mod disk_files;
+mod disk_vault;
 mod drawing;
 mod drives;
 mod folder;
@@ -20,20 +21,17 @@ mod replace;
 mod resting;
 mod scrub;
 mod serve;
-mod size;
 mod status;
 mod table;
 mod texts;
 mod trouble;
-mod words;
 
 use clap::ArgMatches;
+use disk_commands::{matches_of, size_in};
 use folder::Folder;
-use size::size_in;
 use std::process::ExitCode;
 use std::{env, io};
 use trouble::Trouble;
-use words::matches_of;
 
 /// The status of a wrong command line.
 const WRONG_WORDS: u8 = 2;

@@ -2,8 +2,9 @@
 ghost use Rattle.std.specs.Prelude.{◌≡◌, ◌<◌};
 ghost use Rattle.extent_groups.specs.Groups.{Agree};
 
-use crate::any_vault::{VaultFault, find_drives, groups_of_vault, open_array_of, open_file_vault};
+use crate::any_vault::{find_drives, groups_of_vault, open_array_of};
 use crate::disk_files::DiskFiles;
+use crate::disk_vault::DiskVault;
 use crate::drives::{Drives, open_drives};
 use crate::folder::{Folder, Name};
 use crate::notes::{note_drives, note_marked};
@@ -16,10 +17,7 @@ use cached_drive::Saved;
 use disk_shape::{Plan, class_of, member_at};
 use extent_groups::{GroupRefusal, GroupTable, Member, Place, are_there};
 use extents::ExtentTable;
-use file_vault::{
-    FileVault, Files, Header, Layout, PairedFiles, RealFiles, StampedFiles, TABLE_SECOND, Verdict,
-    judge, read_generation,
-};
+use file_vault::{Files, Header, Layout, RealFiles, TABLE_SECOND, Verdict, judge, read_generation};
 use group_form::{FormFault, Spelled};
 use history::{Chronicle, Opened};
 use journaled_store::JournaledStore;
@@ -28,9 +26,6 @@ use std::fs::{File, OpenOptions, TryLockError};
 use std::io;
 use std::io::Read;
 use vault::{TABLE, Vault};
-
-/// The vault of a disk. What is done with it is written over any vault: see `any_vault`.
-pub(crate) type DiskVault = FileVault<StampedFiles<PairedFiles<DiskFiles>>>;
 
 /// What a command does with a disk.
 #[derive(Clone, Copy, Debug, PartialEq, Eq)]
@@ -300,11 +295,7 @@ pub(crate) fn open_vault(
     let _ = note_drives(rt, folder, &drives, table.drives);
     let (mut files, pairs) = open_pairs(rt, folder, files, &layout, &table, usage)?;
     note_old(&mut files, &layout, &table, &mut drives)?;
-    let vault = match open_file_vault(rt.alloc(), files, layout) {
-        Ok(vault) => vault,
-        Err(VaultFault::NoGeneration) => return Err(Trouble::NoState),
-        Err(VaultFault::Vault(error)) => return Err(Trouble::Vault(error)),
-    };
+    let vault = DiskVault::open(rt.alloc(), files, layout)?;
     Ok(OpenFiles {
         table,
         vault,

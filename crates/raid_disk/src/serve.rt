@@ -2,29 +2,32 @@
 ghost use Rattle.std.specs.Prelude.{◌≡◌};
 
 use crate::any_vault::serve_array;
+use crate::disk_vault::DiskVault;
 use crate::drives::Drives;
 use crate::folder::{Folder, Name};
 use crate::mending::mend_disk;
 use crate::notes::note_marked;
-use crate::opened::{
-    DiskVault, OpenFiles, Use, groups_in, open_table, open_vault, units_in, unopened,
-};
+use crate::opened::{OpenFiles, Use, groups_in, open_table, open_vault, units_in, unopened};
 use crate::pairs::{Condition, Pair, Pairs};
 use crate::progress;
 use crate::resting::{read_position, write_position};
 use crate::status::served_text;
 use crate::trouble::Trouble;
+use array_recovery::RecoveryFault;
 use byte_store::StoreFault;
 use cached_drive::Saved;
+use disk_shape::Plan;
 use drive_places::Verdict;
 use file_vault::Twin;
+use group_form::Spelled;
 use history::{Chronicle, Opened};
 use journaled_store::JournaledStore;
 use nbd_serve::End;
 use std::io;
-use std::io::BufReader;
+use std::io::{BufReader, Read};
 use std::marker::Brand;
 use vault::Vault;
+use vault_server::Served;
 use watched_store::Sees;
 
 /// After so many units that were compared it is written down where the next one is.
@@ -168,6 +171,59 @@ fn say_served<N: Chronicle, V: Vault + Drop>(
     }
 }
 
+// How a session went.
+struct Session {
+    end: End,
+    // Whether all bytes are durable.
+    flushed: Result<(), StoreFault>,
+}
+
+// Serves the array of a vault to the client that the reader reads from. Writes down where units are compared next.
+fn serve_spelled<N: Chronicle, V: Vault + Drop, R: Read>(
+    rt: &HostRuntime,
+    folder: Folder<'_>,
+    vault: V,
+    plan: &Plan,
+    spelled: Spelled,
+    drives: &Drives,
+    journal: u64,
+    opened: Opened<Saved>,
+    reader: &mut R,
+) -> Result<Session, (RecoveryFault, V)>
+    requires { opened ≡ N.chronicle }
+{
+    let watch = LossWatch {
+        rt,
+        folder,
+        drives,
+        named: None,
+        saved: 0,
+        warned: 0,
+    };
+    let served = serve_array::<N, V, _, _, _>(
+        rt.alloc(),
+        vault,
+        opened,
+        &plan.shape,
+        spelled,
+        plan.size,
+        &drives.absent(),
+        units_in(journal, plan),
+        read_position(rt, folder),
+        watch,
+        reader,
+        &mut rt.stdout(),
+    );
+    let Served {
+        store,
+        flushed,
+        end,
+        ..
+    } = served?;
+    write_position(rt, folder, store.scrub_position());
+    Ok(Session { end, flushed })
+}
+
 // Serves a disk whose files are open. What a server before has left in the journal is settled first, and at the end all is synced
 // and settled.
 fn serve_files<N: Chronicle, V: Vault + Drop>(
@@ -194,34 +250,22 @@ fn serve_files<N: Chronicle, V: Vault + Drop>(
     let Ok(mut reader) = BufReader::with_capacity(rt.alloc(), READ_AHEAD, rt.stdin()) else {
         return Err(Trouble::Memory);
     };
-    let watch = LossWatch {
+    let session = serve_spelled::<N, V, _>(
         rt,
         folder,
-        drives: &drives,
-        named: None,
-        saved: 0,
-        warned: 0,
-    };
-    let served = serve_array::<N, V, _, _, _>(
-        rt.alloc(),
         vault,
-        opened,
-        &plan.shape,
+        &plan,
         spelled,
-        plan.size,
-        &drives.absent(),
-        units_in(journal, &plan),
-        read_position(rt, folder),
-        watch,
+        &drives,
+        journal,
+        opened,
         &mut reader,
-        &mut rt.stdout(),
     );
     progress::end(rt, folder);
-    match served {
-        Ok(served) => {
-            write_position(rt, folder, served.store.scrub_position());
-            test_flushed(served.flushed)?;
-            outcome_of(served.end)
+    match session {
+        Ok(Session { end, flushed }) => {
+            test_flushed(flushed)?;
+            outcome_of(end)
         }
         Err((fault, vault)) => Err(unopened(rt, folder, fault, vault, &plan, count, &drives)),
     }

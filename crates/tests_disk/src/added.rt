@@ -1,6 +1,7 @@
 // A disk that gets one more drive.
 ghost use Rattle.std.specs.Prelude.{◌≡◌};
 
+use crate::calls::publish_call;
 use crate::model::{agree, write};
 use crate::recovered::{begin, formatted, groups_of, opened_in};
 use crate::rig::plan_of;
@@ -13,15 +14,14 @@ use extent_groups::{GROUPS, GroupTable, Place};
 use extents::DRIVES;
 use group_form::{FORM_BYTES, FORM_UNITS, find_groups, write_groups};
 use history::{Chronicle, Opened};
-use journaled_store::publish;
 use std::alloc::Global;
 use std::marker::Brand;
 use std::process::Abort;
 use unit_store::Parts;
-use vault::{Batch, MemVault, TABLE, Vault, keep};
+use vault::{Batch, TABLE, Vault, keep};
 
 // Puts the groups of a plan into the table.
-pub(crate) fn form(rt: &impl Abort, alloc: Global, plan: &Plan, vault: &mut MemVault) {
+pub(crate) fn form<V: Vault>(rt: &impl Abort, alloc: Global, plan: &Plan, vault: &mut V) {
     let mut written = true;
     for index in 0..u32::from(FORM_UNITS) {
         let place = Place {
@@ -38,7 +38,13 @@ pub(crate) fn form(rt: &impl Abort, alloc: Global, plan: &Plan, vault: &mut MemV
 }
 
 // Gives a drive units of any bytes.
-pub(crate) fn attach(rt: &impl Abort, alloc: Global, plan: &Plan, vault: &mut MemVault, drive: u8) {
+pub(crate) fn attach<V: Vault>(
+    rt: &impl Abort,
+    alloc: Global,
+    plan: &Plan,
+    vault: &mut V,
+    drive: u8,
+) {
     let Ok(rubbish) = vec![in alloc; 0xa5u8; plan.shape.unit_bytes()] else {
         panic!(rt; "no memory")
     };
@@ -61,11 +67,11 @@ pub(crate) fn load_of(groups: &GroupTable, drive: u8) -> usize {
     load
 }
 
-pub(crate) fn added(
+pub(crate) fn added<V: Vault>(
     rt: &impl Abort,
     alloc: Global,
     plan: &Plan,
-    vault: &mut MemVault,
+    vault: &mut V,
 ) -> Result<(), AdditionFault> {
     let Ok(found) = find_groups(alloc, vault, &plan.shape) else {
         panic!(rt; "no groups")
@@ -81,12 +87,12 @@ pub(crate) fn added(
 }
 
 // Opens the disk with the groups that the table has; its bytes are the model's. Writes, and publishes that.
-fn open_found<N: Chronicle>(
+fn open_found<N: Chronicle, V: Vault>(
     rt: &impl Abort,
     alloc: Global,
     plan: &Plan,
     opened: Opened<Saved>,
-    vault: &mut MemVault,
+    vault: &mut V,
     absent: &[bool; DRIVES],
     model: &mut [u8],
 ) -> Result<(), RecoveryFault>
@@ -95,7 +101,7 @@ fn open_found<N: Chronicle>(
     let Ok(form) = find_groups(alloc, vault, &plan.shape) else {
         panic!(rt; "no groups")
     };
-    let (mut store, mut changes) = recover::<N, MemVault>(
+    let (mut store, mut changes) = recover::<N, V>(
         alloc,
         vault,
         opened,
@@ -108,25 +114,24 @@ fn open_found<N: Chronicle>(
     )?;
     assert!(rt; agree(rt, &mut store, model));
     write(rt, alloc, &mut store, model, (300, 100, 9));
-    let kept = publish(&mut store, &mut changes, vault);
-    assert!(rt; kept.is_ok());
+    publish_call(rt, &mut store, &mut changes, vault);
     Ok(())
 }
 
-pub(crate) fn resume(
+pub(crate) fn resume<V: Vault>(
     rt: &impl Abort,
     alloc: Global,
     plan: &Plan,
-    vault: &mut MemVault,
+    vault: &mut V,
     absent: &[bool; DRIVES],
     model: &mut [u8],
 ) -> Result<(), RecoveryFault> {
     let opened = opened_in(rt, alloc);
-    open_found::<Brand>(rt, alloc, plan, opened, vault, absent, model)
+    open_found::<Brand, V>(rt, alloc, plan, opened, vault, absent, model)
 }
 
 // Tests that all slots are sound, and that the loads of no two drives are two apart.
-fn test_spread(rt: &impl Abort, alloc: Global, plan: &Plan, vault: &mut MemVault, drives: u8) {
+fn test_spread<V: Vault>(rt: &impl Abort, alloc: Global, plan: &Plan, vault: &mut V, drives: u8) {
     let Ok(form) = find_groups(alloc, vault, &plan.shape) else {
         panic!(rt; "no groups")
     };

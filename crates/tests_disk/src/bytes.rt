@@ -2,18 +2,16 @@
 use crate::model::{agree, write, zero};
 use crate::rig::{plan_of, store_of};
 use byte_store::ByteStore;
-use std::alloc::Alloc;
+use std::alloc::{Alloc, Global};
+use std::process::Abort;
 use std::sync::atomic::AtomicU64;
 
-#[test]
-fn bytes_are_read_as_they_were_written(rt: HostRuntime) {
-    let syncs = AtomicU64::new(0);
-    let plan = plan_of(&rt, 1000, 64);
-    let mut store = store_of(&rt, rt.alloc(), &plan, &syncs, [false; 6]);
+// Writes, zeros and reads a store of 1,000 bytes.
+fn test_bytes<S: ByteStore>(rt: &impl Abort, alloc: Global, store: &mut S) {
     assert!(rt; store.size() == 1000);
     assert!(rt; store.block_bytes() == 64);
     let mut model = [0u8; 1000];
-    assert!(rt; agree(&rt, &mut store, &model));
+    assert!(rt; agree(rt, store, &model));
     for piece in [
         (60usize, 9usize, 1u8),
         (0, 64, 20),
@@ -22,12 +20,20 @@ fn bytes_are_read_as_they_were_written(rt: HostRuntime) {
         (500, 0, 5),
         (128, 128, 60),
     ] {
-        write(&rt, rt.alloc(), &mut store, &mut model, piece);
-        store.rest(rt.alloc());
+        write(rt, alloc, store, &mut model, piece);
+        store.rest(alloc);
     }
-    assert!(rt; agree(&rt, &mut store, &model));
+    assert!(rt; agree(rt, store, &model));
     for range in [(64usize, 64usize), (1, 2), (100, 300), (998, 2)] {
-        zero(&rt, rt.alloc(), &mut store, &mut model, range);
+        zero(rt, alloc, store, &mut model, range);
     }
-    assert!(rt; agree(&rt, &mut store, &model));
+    assert!(rt; agree(rt, store, &model));
+}
+
+#[test]
+fn bytes_are_read_as_they_were_written(rt: HostRuntime) {
+    let syncs = AtomicU64::new(0);
+    let plan = plan_of(&rt, 1000, 64);
+    let mut store = store_of(&rt, rt.alloc(), &plan, &syncs, [false; 6]);
+    test_bytes(&rt, rt.alloc(), &mut store);
 }

@@ -1,4 +1,5 @@
 // A flush syncs each drive that isn't lost, and is refused while more than one is.
+use crate::calls::{flush, is_lost};
 use crate::rig::{plan_of, store_of};
 use byte_store::{ByteStore, StoreFault};
 use std::alloc::Alloc;
@@ -13,9 +14,9 @@ fn a_flush_syncs_each_of_six_drives(rt: HostRuntime) {
     assert!(rt; 5 <= store.size());
     assert!(rt; store.write(rt.alloc(), 3, &[1, 2]).is_ok());
     assert!(rt; syncs.load(SeqCst) == 0);
-    assert!(rt; store.flush().is_ok());
+    assert!(rt; flush(&mut store).is_ok());
     assert!(rt; syncs.load(SeqCst) == 6);
-    assert!(rt; store.flush().is_ok());
+    assert!(rt; flush(&mut store).is_ok());
     assert!(rt; syncs.load(SeqCst) == 12);
 }
 
@@ -30,8 +31,8 @@ fn one_drive_may_fail_to_sync_and_two_may_not(rt: HostRuntime) {
         &syncs,
         [false, true, false, false, false, false],
     );
-    assert!(rt; store.flush().is_ok());
-    assert!(rt; store.world().array().is_lost(1));
+    assert!(rt; flush(&mut store).is_ok());
+    assert!(rt; is_lost(&store, 1));
     assert!(rt; syncs.load(SeqCst) == 5);
     let mut store = store_of(
         &rt,
@@ -40,6 +41,6 @@ fn one_drive_may_fail_to_sync_and_two_may_not(rt: HostRuntime) {
         &syncs,
         [true, true, false, false, false, false],
     );
-    assert!(rt; store.flush() == Err(StoreFault::Sync));
+    assert!(rt; flush(&mut store) == Err(StoreFault::Sync));
     assert!(rt; syncs.load(SeqCst) == 9);
 }

@@ -2,6 +2,7 @@
 ghost use Rattle.std.specs.Prelude.{◌≡◌, []};
 ghost use Rattle.extents.specs.declared.mem_drive.Condition.TheVariants.{Present};
 
+use crate::calls::publish_call;
 use crate::model::{agree, write, zero};
 use crate::rig::{plan_of, store_over};
 use array_store::ArrayStore;
@@ -11,7 +12,7 @@ use disk_shape::Plan;
 use extents::{DRIVES, Drive, MemDrive};
 use file_vault::{FileVault, Layout, MemFiles};
 use history::{Chronicle, Hand, History, Keeper, Opened};
-use journaled_store::{Changes, JournaledStore, publish, sync};
+use journaled_store::{Changes, JournaledStore, sync};
 use std::alloc::{Alloc, Global};
 use std::marker::Brand;
 use std::process::Abort;
@@ -67,14 +68,18 @@ pub(crate) fn disk_of<N: Chronicle>(
 }
 
 // A batch for the groups that were made, and one for each call that wrote.
-fn write_all<N: Chronicle>(rt: &impl Abort, alloc: Global, plan: &Plan, opened: Opened<Saved>)
+fn write_all<N: Chronicle, V: Vault>(
+    rt: &impl Abort,
+    alloc: Global,
+    plan: &Plan,
+    opened: Opened<Saved>,
+    vault: &mut V,
+)
     requires { opened ≡ N.chronicle }
 {
     let (mut store, mut changes) = disk_of::<N>(rt, alloc, plan, opened);
-    let mut vault = MemVault::new(alloc);
     let mut model = [0u8; 1000];
-    let kept = publish(&mut store, &mut changes, &mut vault);
-    assert!(rt; kept.is_ok());
+    publish_call(rt, &mut store, &mut changes, vault);
     for piece in [
         (60usize, 9usize, 1u8),
         (0, 64, 20),
@@ -82,13 +87,11 @@ fn write_all<N: Chronicle>(rt: &impl Abort, alloc: Global, plan: &Plan, opened: 
         (999, 1, 40),
     ] {
         write(rt, alloc, &mut store, &mut model, piece);
-        let kept = publish(&mut store, &mut changes, &mut vault);
-        assert!(rt; kept.is_ok());
+        publish_call(rt, &mut store, &mut changes, vault);
     }
     assert!(rt; agree(rt, &mut store, &model));
-    let kept = publish(&mut store, &mut changes, &mut vault);
-    assert!(rt; kept.is_ok());
-    let synced = sync(&mut vault);
+    publish_call(rt, &mut store, &mut changes, vault);
+    let synced = sync(vault);
     assert!(rt; synced.is_ok());
     assert!(rt; vault.batches() == Ok(5));
     // The first write lies in two blocks of the mirrored level, so in four units.
@@ -103,15 +106,22 @@ fn each_call_is_one_batch(rt: HostRuntime) {
         panic!(rt; "no memory")
     };
     let plan = plan_of(&rt, 1000, 64);
-    write_all::<Brand>(&rt, rt.alloc(), &plan, opened);
+    let mut vault = MemVault::new(rt.alloc());
+    write_all::<Brand, MemVault>(&rt, rt.alloc(), &plan, opened, &mut vault);
 }
 
 // Writes, flushes, settles and rests, and reads it all back.
-fn keep_all<N: Chronicle>(rt: &impl Abort, alloc: Global, plan: &Plan, opened: Opened<Saved>)
+fn keep_all<N: Chronicle, V: Vault + Drop>(
+    rt: &impl Abort,
+    alloc: Global,
+    plan: &Plan,
+    opened: Opened<Saved>,
+    vault: V,
+)
     requires { opened ≡ N.chronicle }
 {
     let (store, changes) = disk_of::<N>(rt, alloc, plan, opened);
-    let mut disk = JournaledStore::new(alloc, store, changes, MemVault::new(alloc), 4);
+    let mut disk = JournaledStore::new(alloc, store, changes, vault, 4);
     let mut model = [0u8; 1000];
     for piece in [
         (60usize, 9usize, 1u8),
@@ -140,7 +150,8 @@ fn bytes_are_read_as_they_were_kept(rt: HostRuntime) {
         panic!(rt; "no memory")
     };
     let plan = plan_of(&rt, 1000, 64);
-    keep_all::<Brand>(&rt, rt.alloc(), &plan, opened);
+    let vault = MemVault::new(rt.alloc());
+    keep_all::<Brand, MemVault>(&rt, rt.alloc(), &plan, opened, vault);
 }
 
 // A vault over files in memory, where the file of drive 1 fails its first write.
@@ -172,11 +183,16 @@ fn failing_vault(rt: &impl Abort, alloc: Global, plan: &Plan) -> FileVault<MemFi
 }
 
 // A drive that fails the vault is lost, and the journal is settled without it.
-fn lose_one<N: Chronicle>(rt: &impl Abort, alloc: Global, plan: &Plan, opened: Opened<Saved>)
+fn lose_one<N: Chronicle, V: Vault + Drop>(
+    rt: &impl Abort,
+    alloc: Global,
+    plan: &Plan,
+    opened: Opened<Saved>,
+    vault: V,
+)
     requires { opened ≡ N.chronicle }
 {
     let (store, changes) = disk_of::<N>(rt, alloc, plan, opened);
-    let vault = failing_vault(rt, alloc, plan);
     let mut disk = JournaledStore::new(alloc, store, changes, vault, 4);
     let mut model = [0u8; 1000];
     write(rt, alloc, &mut disk, &mut model, (60, 130, 1));
@@ -199,7 +215,8 @@ fn a_drive_that_fails_the_vault_is_lost(rt: HostRuntime) {
         panic!(rt; "no memory")
     };
     let plan = plan_of(&rt, 1000, 64);
-    lose_one::<Brand>(&rt, rt.alloc(), &plan, opened);
+    let vault = failing_vault(&rt, rt.alloc(), &plan);
+    lose_one::<Brand, FileVault<MemFiles>>(&rt, rt.alloc(), &plan, opened, vault);
 }
 
 // A doomed drive is lost by a sync, and by a read.

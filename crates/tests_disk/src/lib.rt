@@ -6,6 +6,8 @@ mod added;
 #[cfg(test)]
 mod bytes;
 #[cfg(test)]
+mod calls;
+#[cfg(test)]
 mod flushes;
 #[cfg(test)]
 mod groups;
@@ -23,6 +25,5 @@ mod replaced;
 mod rig;
 #[cfg(test)]
 mod room;
-#[cfg(test)]
 #[cfg(test)]
 mod stopped;

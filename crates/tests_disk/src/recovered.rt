@@ -2,6 +2,7 @@
 ghost use Rattle.std.specs.Prelude.{◌≡◌, ◌<◌};
 ghost use Rattle.extent_groups.specs.Groups.{Agree};
 
+use crate::calls::publish_call;
 use crate::journaled::disk_of;
 use crate::model::{agree, write};
 use crate::rig::plan_of;
@@ -11,7 +12,6 @@ use disk_shape::{Plan, class_of, member_at};
 use extent_groups::{GroupTable, Place, are_there};
 use extents::{DRIVES, ExtentTable};
 use history::{Chronicle, Opened};
-use journaled_store::publish;
 use std::alloc::Global;
 use std::marker::Brand;
 use std::process::Abort;
@@ -38,19 +38,18 @@ pub(crate) fn formatted(rt: &impl Abort, alloc: Global, plan: &Plan) -> MemVault
 }
 
 // Writes, and publishes each write.
-fn run_once<N: Chronicle>(
+fn run_once<N: Chronicle, V: Vault>(
     rt: &impl Abort,
     alloc: Global,
     plan: &Plan,
     opened: Opened<Saved>,
-    vault: &mut MemVault,
+    vault: &mut V,
     model: &mut [u8],
 )
     requires { opened ≡ N.chronicle }
 {
     let (mut store, mut changes) = disk_of::<N>(rt, alloc, plan, opened);
-    let kept = publish(&mut store, &mut changes, vault);
-    assert!(rt; kept.is_ok());
+    publish_call(rt, &mut store, &mut changes, vault);
     for piece in [
         (60usize, 9usize, 1u8),
         (0, 64, 20),
@@ -58,8 +57,7 @@ fn run_once<N: Chronicle>(
         (999, 1, 40),
     ] {
         write(rt, alloc, &mut store, model, piece);
-        let kept = publish(&mut store, &mut changes, vault);
-        assert!(rt; kept.is_ok());
+        publish_call(rt, &mut store, &mut changes, vault);
     }
 }
 
@@ -102,19 +100,19 @@ fn enter(
 }
 
 // Opens the disk without the drives that are named; its bytes are the model's.
-fn open_again<N: Chronicle>(
+fn open_again<N: Chronicle, V: Vault>(
     rt: &impl Abort,
     alloc: Global,
     plan: &Plan,
     opened: Opened<Saved>,
-    vault: &mut MemVault,
+    vault: &mut V,
     absent: &[bool; DRIVES],
     model: &mut [u8],
 ) -> Result<(), RecoveryFault>
     requires { opened ≡ N.chronicle }
 {
     let (groups, extents) = groups_of(rt, alloc, plan);
-    let (mut store, mut changes) = recover::<N, MemVault>(
+    let (mut store, mut changes) = recover::<N, V>(
         alloc,
         vault,
         opened,
@@ -127,8 +125,7 @@ fn open_again<N: Chronicle>(
     )?;
     assert!(rt; agree(rt, &mut store, model));
     write(rt, alloc, &mut store, model, (500, 100, 7));
-    let kept = publish(&mut store, &mut changes, vault);
-    assert!(rt; kept.is_ok());
+    publish_call(rt, &mut store, &mut changes, vault);
     Ok(())
 }
 
@@ -141,28 +138,28 @@ pub(crate) fn opened_in(rt: &impl Abort, alloc: Global) -> Opened<Saved> {
 }
 
 /// The first run of a disk.
-pub(crate) fn begin(
+pub(crate) fn begin<V: Vault>(
     rt: &impl Abort,
     alloc: Global,
     plan: &Plan,
-    vault: &mut MemVault,
+    vault: &mut V,
     model: &mut [u8],
 ) {
     let opened = opened_in(rt, alloc);
-    run_once::<Brand>(rt, alloc, plan, opened, vault, model);
+    run_once::<Brand, V>(rt, alloc, plan, opened, vault, model);
 }
 
 /// Each later run, without the drives that are named.
-pub(crate) fn go_on(
+pub(crate) fn go_on<V: Vault>(
     rt: &impl Abort,
     alloc: Global,
     plan: &Plan,
-    vault: &mut MemVault,
+    vault: &mut V,
     absent: &[bool; DRIVES],
     model: &mut [u8],
 ) -> Result<(), RecoveryFault> {
     let opened = opened_in(rt, alloc);
-    open_again::<Brand>(rt, alloc, plan, opened, vault, absent, model)
+    open_again::<Brand, V>(rt, alloc, plan, opened, vault, absent, model)
 }
 
 #[test]

@@ -11,13 +11,13 @@ use group_form::find_groups;
 use std::alloc::Global;
 use std::process::Abort;
 use unit_store::Parts;
-use vault::MemVault;
+use vault::Vault;
 
-fn removed(
+fn removed<V: Vault>(
     rt: &impl Abort,
     alloc: Global,
     plan: &Plan,
-    vault: &mut MemVault,
+    vault: &mut V,
 ) -> Result<(), RemovalFault> {
     let Ok(found) = find_groups(alloc, vault, &plan.shape) else {
         panic!(rt; "no groups")
@@ -33,7 +33,7 @@ fn removed(
 }
 
 // Tests that the disk has so many drives, that no group has a member past them, and that all slots are sound.
-fn test_drives(rt: &impl Abort, alloc: Global, plan: &Plan, vault: &mut MemVault, drives: u8) {
+fn test_drives<V: Vault>(rt: &impl Abort, alloc: Global, plan: &Plan, vault: &mut V, drives: u8) {
     let Ok(form) = find_groups(alloc, vault, &plan.shape) else {
         panic!(rt; "no groups")
     };

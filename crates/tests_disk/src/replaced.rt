@@ -9,7 +9,7 @@ use extents::DRIVES;
 use std::alloc::Global;
 use std::process::Abort;
 use unit_store::Parts;
-use vault::{MemVault, Vault};
+use vault::Vault;
 
 // Keeps the last counts.
 struct Counted {
@@ -24,11 +24,11 @@ impl Watch for Counted {
     }
 }
 
-fn replaced(
+fn replaced<V: Vault>(
     rt: &impl Abort,
     alloc: Global,
     plan: &Plan,
-    vault: &mut MemVault,
+    vault: &mut V,
     number: u8,
 ) -> Result<(), RebuildFault> {
     let (groups, extents) = groups_of(rt, alloc, plan);
@@ -51,7 +51,7 @@ fn replaced(
 }
 
 // How many slots of the disk that a vault has aren't sound.
-fn unsound(rt: &impl Abort, alloc: Global, plan: &Plan, vault: &mut MemVault) -> u32 {
+fn unsound<V: Vault>(rt: &impl Abort, alloc: Global, plan: &Plan, vault: &mut V) -> u32 {
     let Ok(found) = find(alloc, vault, &plan.shape, plan.drives, &[false; DRIVES]) else {
         panic!(rt; "nothing is found")
     };

@@ -98,12 +98,7 @@ fn bytes_after(rt: &impl Abort, count: usize) -> [u8; 1000] {
 }
 
 // Makes the requests until one is refused. Each third one is flushed, and after each the store rests.
-fn request_all<N: Chronicle>(
-    rt: &impl Abort,
-    alloc: Global,
-    store: &mut Store<N>,
-    reached: &mut Reached,
-) {
+fn request_all<S: ByteStore>(rt: &impl Abort, alloc: Global, store: &mut S, reached: &mut Reached) {
     for (offset, length, first) in REQUESTS {
         reached.begun = reached.begun.saturating_add(1);
         assert!(rt; length <= PIECE && is_within(offset, length, store.size()));
@@ -124,7 +119,36 @@ fn request_all<N: Chronicle>(
     }
 }
 
-// Opens a store.
+// Opens the store that a vault has.
+fn open_over<N: Chronicle, V: Vault + Drop>(
+    rt: &impl Abort,
+    alloc: Global,
+    plan: &Plan,
+    opened: Opened<Saved>,
+    vault: V,
+    absent: &[bool; DRIVES],
+) -> Result<JournaledStore<N, V>, V>
+    requires { opened ≡ N.chronicle }
+{
+    let (groups, extents) = groups_of(rt, alloc, plan);
+    match open_store::<N, V>(
+        alloc,
+        vault,
+        opened,
+        &plan.shape,
+        groups,
+        extents,
+        plan.drives,
+        plan.size,
+        absent,
+        6,
+    ) {
+        Ok(store) => Ok(store),
+        Err((_, vault)) => Err(vault),
+    }
+}
+
+// Opens the store that files have.
 fn store_of<N: Chronicle>(
     rt: &impl Abort,
     alloc: Global,
@@ -139,21 +163,9 @@ fn store_of<N: Chronicle>(
         Ok(vault) => vault,
         Err((_, files)) => return Err(files),
     };
-    let (groups, extents) = groups_of(rt, alloc, plan);
-    match open_store::<N, FileVault<MemFiles>>(
-        alloc,
-        vault,
-        opened,
-        &plan.shape,
-        groups,
-        extents,
-        plan.drives,
-        plan.size,
-        absent,
-        6,
-    ) {
+    match open_over::<N, FileVault<MemFiles>>(rt, alloc, plan, opened, vault, absent) {
         Ok(store) => Ok(store),
-        Err((_, vault)) => Err(vault.into_files()),
+        Err(vault) => Err(vault.into_files()),
     }
 }
 
@@ -190,6 +202,15 @@ fn run_stopped(
     run::<Brand>(rt, alloc, plan, opened, calls, reached)
 }
 
+// The bytes of a store.
+fn read_all<S: ByteStore>(rt: &impl Abort, store: &mut S) -> [u8; 1000] {
+    let mut out = [7u8; 1000];
+    assert!(rt; is_within(0, out.len(), store.size()));
+    let read = store.read(0, &mut out);
+    assert!(rt; read.is_ok());
+    out
+}
+
 // The bytes of a disk that is opened again.
 fn read_again<N: Chronicle>(
     rt: &impl Abort,
@@ -204,10 +225,7 @@ fn read_again<N: Chronicle>(
     let Ok(mut store) = store_of::<N>(rt, alloc, plan, opened, files, absent) else {
         panic!(rt; "not opened")
     };
-    let mut out = [7u8; 1000];
-    assert!(rt; is_within(0, out.len(), store.size()));
-    let read = store.read(0, &mut out);
-    assert!(rt; read.is_ok());
+    let out = read_all(rt, &mut store);
     (out, store.into_vault())
 }
 
@@ -223,7 +241,7 @@ fn bytes_again(
 }
 
 // The drive that a vault says is lost.
-fn lost_in(rt: &impl Abort, alloc: Global, vault: FileVault<MemFiles>) -> Option<usize> {
+fn lost_in<V: Vault + Drop>(rt: &impl Abort, alloc: Global, vault: V) -> Option<usize> {
     let mut vault = vault;
     let mut room = Batch::new(alloc);
     let settled = settle(&mut vault, &mut room, &[false; DRIVES]).is_ok();

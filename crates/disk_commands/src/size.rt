@@ -15,7 +15,7 @@ fn cut_unit(word: &str) -> (&str, u64) {
 }
 
 /// The bytes that a word names: digits, and K, M or G. None where it is no such word, or 2^64 bytes or more.
-pub(crate) fn size_in(word: &str) -> Option<u64> {
+pub fn size_in(word: &str) -> Option<u64> {
     let (number, unit) = cut_unit(word);
     if !number.bytes().all(|byte| byte.is_ascii_digit()) {
         return None;

@@ -189,8 +189,9 @@ fn with_looks<'a>(alloc: Global, program: Command<'a>) -> Result<Command<'a>, Al
         .subcommand(picture(alloc)?)
 }
 
-/// What the words ask for, as clap reads them.
-pub(crate) fn matches_of<'a>(alloc: Global, words: &'a [String]) -> Result<ArgMatches<'a>, Error> {
+/// What the words ask for, as clap reads them. Words that are no command line, and those that ask for help, are an error, which
+/// has the text to print.
+pub fn matches_of<'a>(alloc: Global, words: &'a [String]) -> Result<ArgMatches<'a>, Error> {
     let program = Command::new(alloc, "raid_disk")
         .about("A disk on files, which reads as before when one of them is lost.")
         .no_binary_name(true)
