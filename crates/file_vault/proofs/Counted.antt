@@ -66,7 +66,7 @@ count_made file count f g next is wrote =
 pub number_made : (file count : ℕ) (f g : Folder) (next : Bool) → count < 2 ^ 64 → Wrote file (count_offset next) (to_le_bytes w64 count) f g → number (part (g file) (count_offset next) 8) ≡ count
 number_made file count f g next small wrote = ap number (part_wrote file (count_offset next) 8 (to_le_bytes w64 count) f g wrote refl) ∙ word_count count small
 
-following_both : (file : ℕ) (f g h : Folder) → SameAfterHeader file f g → SameAfterHeader file g h → SameAfterHeader file f h
+pub following_both : (file : ℕ) (f g h : Folder) → SameAfterHeader file f g → SameAfterHeader file g h → SameAfterHeader file f h
 following_both file f g h one two = record { following = λ k past. two.following k past ∙ one.following k past; others = λ d ne. two.others d ne ∙ one.others d ne }
 
 -- what a stop leaves: before, while the number is written, and while the byte is

@@ -4,8 +4,8 @@ ghost use Rattle.std.specs.Prelude.{◌≡◌, ◌≢◌, ◌<◌, ◌^◌, leng
 ghost use Rattle.std.specs.Int.{w32, to_le_bytes};
 ghost use Rattle.vault.specs.Moments.{Elapses};
 ghost use Rattle.vault.specs.declared.store.Stop.{Stop};
-ghost use Rattle.file_vault.specs.Folders.{HasFault, HasFile, Wrote, part};
-ghost use Rattle.file_vault.specs.Headers.{HasFileHeader, mark as the_mark, number_at};
+ghost use Rattle.file_vault.specs.Folders.{HasFault, HasFile, Mixed, Wrote, part};
+ghost use Rattle.file_vault.specs.Headers.{HasFileHeader, SameAfterHeader, mark as the_mark, number_at};
 
 use crate::files::{FileFault, Files};
 
@@ -28,6 +28,7 @@ pub struct Header {
 /// Writes what a file is, and makes it durable. The mark is written last.
 pub fn write_header<F: Files>(files: &mut F, header: &Header) -> Result<(), FileFault>
     ensures stays { F.known files.old → F.known files.new }
+    ensures following { F.known files.old → SameAfterHeader header.now.number (F.seen files.old) (F.seen files.new) }
     ensures header { F.known files.old → OnOk result (HasFileHeader (F.seen files.new header.now.number) header.now) }
     ensures durable { F.known files.old → OnOk result ((stop : Stop) → HasFile header.now.number (F.seen files.new) (F.may_leave files.new stop)) }
 {
@@ -45,6 +46,7 @@ pub fn write_header<F: Files>(files: &mut F, header: &Header) -> Result<(), File
 fn write_identity<F: Files>(files: &mut F, number: u8, identity: &[u8; 16]) -> Result<(), FileFault>
     ensures stays { F.known files.old → F.known files.new }
     ensures wrote { F.known files.old → OnOk result (Wrote number 8 identity.now (F.seen files.old) (F.seen files.new)) }
+    ensures mixed { F.known files.old → Mixed number 8 identity.now (F.seen files.old) (F.seen files.new) }
     ensures long { length identity.now ≡ 16 }
 {
     files.write_at(number, 8, identity)
@@ -54,6 +56,7 @@ fn write_identity<F: Files>(files: &mut F, number: u8, identity: &[u8; 16]) -> R
 fn write_number<F: Files>(files: &mut F, number: u8, at: u64, value: u32) -> Result<(), FileFault>
     ensures stays { F.known files.old → F.known files.new }
     ensures wrote { F.known files.old → OnOk result (Wrote number at (to_le_bytes w32 value) (F.seen files.old) (F.seen files.new)) }
+    ensures mixed { F.known files.old → Mixed number at (to_le_bytes w32 value) (F.seen files.old) (F.seen files.new) }
     ensures small { value < 2 ^ 32 }
 {
     files.write_at(number, at, &value.to_le_bytes())
