@@ -3,10 +3,11 @@ ghost use Rattle.std.specs.Prelude.{◌≡◌};
 
 use crate::any_vault::{add_to, settle_store};
 use crate::create::is_there;
+use crate::disk_vault::DiskVault;
 use crate::folder::{Folder, Name};
 use crate::opened::{
-    Disk, OpenFiles, Use, groups_in, header_of, layout_of, open_disk, open_file, open_vault,
-    trouble_of,
+    Disk, OpenFiles, Use, groups_in, header_of, layout_of, open_array, open_disk_files, open_file,
+    open_vault, trouble_of,
 };
 use crate::places::places_with;
 use crate::progress;
@@ -55,10 +56,11 @@ fn settle_opened<N: Chronicle, V: Vault + Drop>(
     Ok(store.world().array().drive_count())
 }
 
-/// Settles a disk of which no drive is lost, but for one that may be. Says how many drives its array has. Keeps the disk locked.
-pub(crate) fn settle_whole<N: Chronicle>(
+// Settles a disk whose files are open.
+fn settle_files<N: Chronicle, V: Vault + Drop>(
     rt: &HostRuntime,
     folder: Folder<'_>,
+    files: OpenFiles<V>,
     spare: Option<u8>,
     opened: Opened<Saved>,
 ) -> Result<(File, Table, u8), Trouble>
@@ -69,9 +71,22 @@ pub(crate) fn settle_whole<N: Chronicle>(
         mut store,
         file,
         ..
-    } = open_disk::<N>(rt, folder, Use::Serves, 0, opened)?;
+    } = open_array::<N, V>(rt, folder, files, 0, opened)?;
     let drives = settle_opened(&mut store, spare)?;
     Ok((file, table, drives))
+}
+
+/// Settles a disk of which no drive is lost, but for one that may be. Says how many drives its array has. Keeps the disk locked.
+pub(crate) fn settle_whole<N: Chronicle>(
+    rt: &HostRuntime,
+    folder: Folder<'_>,
+    spare: Option<u8>,
+    opened: Opened<Saved>,
+) -> Result<(File, Table, u8), Trouble>
+    requires { opened ≡ N.chronicle }
+{
+    let files = open_disk_files(rt, folder, Use::Serves)?;
+    settle_files::<N, DiskVault>(rt, folder, files, spare, opened)
 }
 
 /// Whether what is at a drive's place is a file of it, whole, as an addition that was stopped may have left it.

@@ -188,10 +188,8 @@ pub(crate) fn create_disk(
     let layout = layout_of(&plan, plan.drives);
     make_folder(rt, folder)?;
     look(rt, folder, drives)?;
-    let mut files = DiskFiles {
-        files: make_files(rt, folder, &layout, &plan)?,
-        looks: false,
-    };
+    let files = make_files(rt, folder, &layout, &plan)?;
+    let mut files = DiskFiles::over(rt.alloc(), files, false);
     mark_files(&mut files, &layout, identity, drives)?;
     let mut pairs = Pairs::new();
     let files = join_pairs(files, &mut pairs)?;

@@ -1,12 +1,96 @@
 //! The files of a disk, by the numbers that a vault gives them.
+ghost use Rattle.std.specs.Prelude.{◌≡◌, IfSome, length as the_length};
+
+use extents::DRIVES;
 use file_vault::{FileFault, Files, RealFiles};
+use std::alloc::{AllocError, Global};
+use std::fs::File;
+
+/// Bytes that are read at once while nothing is written.
+const READ_AHEAD: usize = 65_536;
+
+/// Bytes of a file from an offset on.
+#[derive(Drop)]
+struct Piece {
+    file: u8,
+    at: u64,
+    bytes: Vec<u8>,
+}
+
+impl Piece {
+    // Bytes of a file, if the piece has them.
+    fn part(&self, file: u8, at: u64, length: usize) -> Option<&[u8]>
+        ensures { IfSome result (λ part. the_length part.now ≡ length) }
+    {
+        if self.file != file || at < self.at {
+            return None;
+        }
+        let from = (at - self.at) as usize;
+        if from > self.bytes.len() || length > self.bytes.len() - from {
+            return None;
+        }
+        Some(&self.bytes[from..from + length])
+    }
+
+    // Reads the piece that begins at an offset; zeros past the end of the file. False if it can't be read: then it has no bytes.
+    fn read(&mut self, files: &mut RealFiles, file: u8, at: u64) -> bool {
+        if self.bytes.resize(READ_AHEAD, 0).is_err() {
+            self.bytes.clear();
+            return false;
+        }
+        self.file = file;
+        self.at = at;
+        if files.read_at(file, at, &mut self.bytes).is_err() {
+            self.bytes.clear();
+            return false;
+        }
+        true
+    }
+}
 
 /// Files that are read and written; or only read, and then all that would be written is dropped.
 #[derive(Drop)]
 pub(crate) struct DiskFiles {
-    pub(crate) files: RealFiles,
+    files: RealFiles,
     /// Nothing is written.
-    pub(crate) looks: bool,
+    looks: bool,
+    /// What was read of a drive's file, of which more may be asked next. Only where nothing is written: a server that compares its
+    /// units reads each one anew.
+    ahead: Piece,
+}
+
+impl DiskFiles {
+    /// These files. If it looks, nothing is written.
+    pub(crate) fn over(alloc: Global, files: RealFiles, looks: bool) -> DiskFiles {
+        let ahead = Piece {
+            file: 0,
+            at: 0,
+            bytes: Vec::new(alloc),
+        };
+        DiskFiles {
+            files,
+            looks,
+            ahead,
+        }
+    }
+
+    /// Whether nothing is written.
+    pub(crate) fn looks(&self) -> bool {
+        self.looks
+    }
+
+    /// Adds the file of a number. Refused if out of memory.
+    pub(crate) fn put(&mut self, number: u8, file: File) -> Result<(), AllocError> {
+        // Another file may have had the number.
+        self.ahead.bytes.clear();
+        self.files.put(number, file)
+    }
+
+    /// Leaves out the file of a number: calls of it fail.
+    pub(crate) fn leave_out(&mut self, number: u8) {
+        self.ahead.bytes.clear();
+        self.files.leave_out(number);
+    }
 }
 
 impl Files for DiskFiles {
@@ -48,6 +132,19 @@ impl Files for DiskFiles {
     }
 
     fn read_at(&mut self, file: u8, at: u64, out: &mut [u8]) -> Result<(), FileFault> {
+        if self.looks && usize::from(file) < DRIVES && out.len() <= READ_AHEAD {
+            if let Some(part) = self.ahead.part(file, at, out.len()) {
+                out.copy_from_slice(part);
+                return Ok(());
+            }
+            if self.ahead.read(&mut self.files, file, at) {
+                if let Some(part) = self.ahead.part(file, at, out.len()) {
+                    out.copy_from_slice(part);
+                    return Ok(());
+                }
+            }
+        }
+        // Also where the piece can't be read: these bytes of it may be.
         self.files.read_at(file, at, out)
     }
 

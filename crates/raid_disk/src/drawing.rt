@@ -1,8 +1,9 @@
 //! A disk is drawn: what each unit of each drive is.
 ghost use Rattle.std.specs.Prelude.{◌≡◌};
 
+use crate::disk_vault::DiskVault;
 use crate::folder::Folder;
-use crate::opened::{Disk, Use, open_disk};
+use crate::opened::{Disk, OpenFiles, Use, open_array, open_disk_files};
 use crate::trouble::Trouble;
 use cached_drive::Saved;
 use history::{Chronicle, Opened};
@@ -35,6 +36,19 @@ fn draw_disk<N: Chronicle, V: Vault + Drop>(
     }
 }
 
+// Draws a disk whose files are open.
+fn draw_files<N: Chronicle, V: Vault + Drop>(
+    rt: &HostRuntime,
+    folder: Folder<'_>,
+    files: OpenFiles<V>,
+    opened: Opened<Saved>,
+) -> Result<u8, Trouble>
+    requires { opened ≡ N.chronicle }
+{
+    let disk = open_array::<N, V>(rt, folder, files, 0, opened)?;
+    draw_disk(rt, &disk)
+}
+
 // Draws a disk.
 fn draw_opened<N: Chronicle>(
     rt: &HostRuntime,
@@ -43,8 +57,8 @@ fn draw_opened<N: Chronicle>(
 ) -> Result<u8, Trouble>
     requires { opened ≡ N.chronicle }
 {
-    let disk = open_disk::<N>(rt, folder, Use::Looks, 0, opened)?;
-    draw_disk(rt, &disk)
+    let files = open_disk_files(rt, folder, Use::Looks)?;
+    draw_files::<N, DiskVault>(rt, folder, files, opened)
 }
 
 /// Prints a picture of a disk, in SVG.

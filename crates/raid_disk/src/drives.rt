@@ -208,7 +208,7 @@ fn open_path(rt: &HostRuntime, path: &str, usage: Use) -> Result<Result<File, Si
 // Whether an open file is the drive's, and as long as it has to be.
 fn is_drive(files: &mut DiskFiles, layout: &Layout, drive: u8, table: &Table) -> bool {
     let expected = header_of(layout, drive, table.identity);
-    match (read_header(files, drive), files.files.length(drive)) {
+    match (read_header(files, drive), files.length(drive)) {
         (Ok(Some(header)), Ok(length)) => {
             header == expected && length == file_bytes(layout, drive)
         }
@@ -225,17 +225,21 @@ fn open_drive(
     drive: u8,
     table: &Table,
 ) -> Result<Sight, Trouble> {
-    let usage = if files.looks { Use::Looks } else { Use::Serves };
+    let usage = if files.looks() {
+        Use::Looks
+    } else {
+        Use::Serves
+    };
     let file = match open_path(rt, path, usage)? {
         Ok(file) => file,
         Err(sight) => return Ok(sight),
     };
-    files.files.put(drive, file)?;
+    files.put(drive, file)?;
     if is_drive(files, layout, drive, table) {
         return Ok(Sight::Drive(drive));
     }
     // It was another one a moment ago.
-    files.files.leave_out(drive);
+    files.leave_out(drive);
     Ok(Sight::Foreign)
 }
 

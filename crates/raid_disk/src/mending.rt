@@ -1,7 +1,7 @@
 //! Units that aren't as their digests say are computed from the others, and written again.
 use crate::any_vault::mend_in;
 use crate::folder::{Folder, Name};
-use crate::opened::{OpenFiles, Use, groups_in, open_table, open_vault, trouble_of};
+use crate::opened::{OpenFiles, Use, groups_in, open_disk_files, trouble_of};
 use crate::trouble::Trouble;
 use array_recovery::{lost_drives, read_marks};
 use extent_groups::Place;
@@ -87,8 +87,7 @@ fn mend_opened<V: Vault + Drop>(
 
 /// Mends the units of a disk of which no drive is lost. Returns how many.
 pub(crate) fn mend_disk(rt: &HostRuntime, folder: Folder<'_>) -> Result<u32, Trouble> {
-    let (file, table) = open_table(rt, folder, Use::Serves)?;
-    let files = open_vault(rt, folder, Use::Serves, file, table)?;
+    let files = open_disk_files(rt, folder, Use::Serves)?;
     mend_opened(rt, folder, files)
 }
 
@@ -149,7 +148,6 @@ fn accept_opened<V: Vault + Drop>(alloc: Global, files: OpenFiles<V>) -> Result<
 
 /// Takes units that aren't as their digests say, and can't be computed, as they are. Returns how many.
 pub(crate) fn accept_disk(rt: &HostRuntime, folder: Folder<'_>) -> Result<u32, Trouble> {
-    let (file, table) = open_table(rt, folder, Use::Serves)?;
-    let files = open_vault(rt, folder, Use::Serves, file, table)?;
+    let files = open_disk_files(rt, folder, Use::Serves)?;
     accept_opened(rt.alloc(), files)
 }

@@ -136,10 +136,7 @@ fn open_files(
     usage: Use,
 ) -> Result<(DiskFiles, Drives), Trouble> {
     let looks = usage == Use::Looks;
-    let mut files = DiskFiles {
-        files: RealFiles::new(rt.alloc()),
-        looks,
-    };
+    let mut files = DiskFiles::over(rt.alloc(), RealFiles::new(rt.alloc()), looks);
     let drives = open_drives(rt, folder, &mut files, layout, table)?;
     Ok((files, drives))
 }
@@ -270,12 +267,8 @@ pub(crate) struct OpenFiles<V: Vault + Drop> {
     pub(crate) file: File,
 }
 
-/// Locks a disk, and reads its table.
-pub(crate) fn open_table(
-    rt: &HostRuntime,
-    folder: Folder<'_>,
-    usage: Use,
-) -> Result<(File, Table), Trouble> {
+// Locks a disk, and reads its table.
+fn open_table(rt: &HostRuntime, folder: Folder<'_>, usage: Use) -> Result<(File, Table), Trouble> {
     let file = lock_folder(rt, folder, usage)?;
     let table = read_table(rt, folder)?;
     Ok((file, table))
@@ -397,17 +390,12 @@ pub(crate) fn open_array<N: Chronicle, V: Vault + Drop>(
     }
 }
 
-/// Opens a disk.
-pub(crate) fn open_disk<N: Chronicle>(
+/// Opens the files of a disk.
+pub(crate) fn open_disk_files(
     rt: &HostRuntime,
     folder: Folder<'_>,
     usage: Use,
-    journal: u64,
-    opened: Opened<Saved>,
-) -> Result<Disk<N, DiskVault>, Trouble>
-    requires { opened ≡ N.chronicle }
-{
+) -> Result<OpenFiles<DiskVault>, Trouble> {
     let (file, table) = open_table(rt, folder, usage)?;
-    let files = open_vault(rt, folder, usage, file, table)?;
-    open_array::<N, DiskVault>(rt, folder, files, journal, opened)
+    open_vault(rt, folder, usage, file, table)
 }

@@ -165,7 +165,7 @@ fn put_there(
     };
     match file.metadata() {
         Ok(data) => {
-            files.files.put(pair.number(twin), file)?;
+            files.put(pair.number(twin), file)?;
             Ok(Ok(data.len()))
         }
         Err(error) => Ok(Err(error)),
@@ -227,9 +227,9 @@ fn make_again(
     length: u64,
 ) -> Result<(), Trouble> {
     if let Ok(file) = make_blank(rt, folder, name, length) {
-        files.files.put(header.number, file)?;
+        files.put(header.number, file)?;
         if write_header(files, header).is_err() {
-            files.files.leave_out(header.number);
+            files.leave_out(header.number);
         }
     }
     Ok(())
@@ -258,7 +258,7 @@ fn compare(files: &mut DiskFiles, pair: Pair, found: &mut Conditions, usage: Use
     }
     // A disk that is only looked at has no file made equal: the newer one is read alone.
     if usage == Use::Looks && first != second {
-        files.files.leave_out(pair.number(lower));
+        files.leave_out(pair.number(lower));
     }
 }
 
@@ -331,7 +331,7 @@ fn find_pair(
     for twin in [Twin::First, Twin::Second] {
         let number = pair.number(twin);
         if found.of(twin) != Condition::Present {
-            files.files.leave_out(number);
+            files.leave_out(number);
         }
         if found.of(twin) == Condition::Missing && usage == Use::Serves {
             let header = header_of(layout, number, table.identity);

@@ -4,10 +4,12 @@ ghost use Rattle.std.specs.Prelude.{◌≡◌};
 use crate::any_vault::{replace_in, settle_store};
 use crate::create::write_zeros;
 use crate::disk_files::DiskFiles;
+use crate::disk_vault::DiskVault;
 use crate::drives::Drives;
 use crate::folder::{Folder, Name};
 use crate::opened::{
-    Disk, OpenFiles, Use, file_bytes, groups_in, header_of, layout_of, open_disk, open_vault,
+    Disk, OpenFiles, Use, file_bytes, groups_in, header_of, layout_of, open_array, open_disk_files,
+    open_vault,
 };
 use crate::places::places_with;
 use crate::progress;
@@ -113,10 +115,11 @@ fn mark_opened<N: Chronicle, V: Vault + Drop>(
     Ok(sight)
 }
 
-// Settles a disk of which this drive alone is lost: the table marks it then. Says what is at its place. Keeps the disk locked.
-fn mark_lost<N: Chronicle>(
+// Settles a disk whose files are open.
+fn mark_files<N: Chronicle, V: Vault + Drop>(
     rt: &HostRuntime,
     folder: Folder<'_>,
+    files: OpenFiles<V>,
     number: u8,
     opened: Opened<Saved>,
 ) -> Result<(File, Table, Sight), Trouble>
@@ -128,9 +131,22 @@ fn mark_lost<N: Chronicle>(
         drives,
         file,
         ..
-    } = open_disk::<N>(rt, folder, Use::Serves, 0, opened)?;
+    } = open_array::<N, V>(rt, folder, files, 0, opened)?;
     let sight = mark_opened(&mut store, &drives, number)?;
     Ok((file, table, sight))
+}
+
+// Settles a disk of which this drive alone is lost: the table marks it then. Says what is at its place. Keeps the disk locked.
+fn mark_lost<N: Chronicle>(
+    rt: &HostRuntime,
+    folder: Folder<'_>,
+    number: u8,
+    opened: Opened<Saved>,
+) -> Result<(File, Table, Sight), Trouble>
+    requires { opened ≡ N.chronicle }
+{
+    let files = open_disk_files(rt, folder, Use::Serves)?;
+    mark_files::<N, DiskVault>(rt, folder, files, number, opened)
 }
 
 /// Makes a file of zeros with a drive's header, which isn't the drive's yet.
@@ -156,11 +172,8 @@ pub(crate) fn make_fresh(
     if let Err(error) = write_zeros(&mut file, file_bytes(&layout, number)) {
         return Err(unwritten(error, name));
     }
-    let mut files = DiskFiles {
-        files: RealFiles::new(rt.alloc()),
-        looks: false,
-    };
-    files.files.put(number, file)?;
+    let mut files = DiskFiles::over(rt.alloc(), RealFiles::new(rt.alloc()), false);
+    files.put(number, file)?;
     let header = header_of(&layout, number, table.identity);
     if write_header(&mut files, &header).is_err() || files.sync(number).is_err() {
         return Err(Trouble::Unwritten(number));

@@ -2,7 +2,7 @@
 use crate::any_vault::find_drives;
 use crate::folder::Folder;
 use crate::mending::{accept_disk, mend_disk};
-use crate::opened::{OpenFiles, Use, groups_in, open_table, open_vault, trouble_of};
+use crate::opened::{OpenFiles, Use, groups_in, open_disk_files, trouble_of};
 use crate::trouble::Trouble;
 use array_recovery::{Found, RecoveryFault, tiers_of};
 use drive_rebuild::{Findings, scrub_parts};
@@ -127,8 +127,7 @@ fn test_opened<V: Vault + Drop>(rt: &HostRuntime, files: OpenFiles<V>) -> Result
 
 // Tests a disk.
 fn test_once(rt: &HostRuntime, folder: Folder<'_>) -> Result<Report, Trouble> {
-    let (file, table) = open_table(rt, folder, Use::Looks)?;
-    let files = open_vault(rt, folder, Use::Looks, file, table)?;
+    let files = open_disk_files(rt, folder, Use::Looks)?;
     test_opened(rt, files)
 }
 

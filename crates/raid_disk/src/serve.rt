@@ -7,7 +7,7 @@ use crate::drives::Drives;
 use crate::folder::{Folder, Name};
 use crate::mending::mend_disk;
 use crate::notes::note_marked;
-use crate::opened::{OpenFiles, Use, groups_in, open_table, open_vault, units_in, unopened};
+use crate::opened::{OpenFiles, Use, groups_in, open_disk_files, units_in, unopened};
 use crate::pairs::{Condition, Pair, Pairs};
 use crate::progress;
 use crate::resting::{read_position, write_position};
@@ -280,8 +280,7 @@ fn serve_opened<N: Chronicle>(
 ) -> Result<u8, Trouble>
     requires { opened ≡ N.chronicle }
 {
-    let (file, table) = open_table(rt, folder, Use::Serves)?;
-    let files = open_vault(rt, folder, Use::Serves, file, table)?;
+    let files = open_disk_files(rt, folder, Use::Serves)?;
     // Nothing is left to do where standard error can't be written.
     let _ = name_pair(rt, folder, &files.pairs, Pair::State);
     let _ = name_pair(rt, folder, &files.pairs, Pair::Journal);

@@ -1,9 +1,10 @@
 //! What a disk has, and how full it is.
 ghost use Rattle.std.specs.Prelude.{◌≡◌};
 
+use crate::disk_vault::DiskVault;
 use crate::drives::{Drives, path_at};
 use crate::folder::Folder;
-use crate::opened::{Disk, Use, open_disk};
+use crate::opened::{Disk, OpenFiles, Use, open_array, open_disk_files};
 use crate::pairs::Pair;
 use crate::progress;
 use crate::trouble::Trouble;
@@ -216,6 +217,20 @@ fn show_disk<N: Chronicle, V: Vault + Drop>(
     }
 }
 
+// Prints what a disk has whose files are open.
+fn show_files<N: Chronicle, V: Vault + Drop>(
+    rt: &HostRuntime,
+    folder: Folder<'_>,
+    files: OpenFiles<V>,
+    json: bool,
+    opened: Opened<Saved>,
+) -> Result<u8, Trouble>
+    requires { opened ≡ N.chronicle }
+{
+    let disk = open_array::<N, V>(rt, folder, files, 0, opened)?;
+    show_disk(rt, folder, json, &disk)
+}
+
 // Prints what a disk has.
 fn show_opened<N: Chronicle>(
     rt: &HostRuntime,
@@ -225,8 +240,8 @@ fn show_opened<N: Chronicle>(
 ) -> Result<u8, Trouble>
     requires { opened ≡ N.chronicle }
 {
-    let disk = open_disk::<N>(rt, folder, Use::Looks, 0, opened)?;
-    show_disk(rt, folder, json, &disk)
+    let files = open_disk_files(rt, folder, Use::Looks)?;
+    show_files::<N, DiskVault>(rt, folder, files, json, opened)
 }
 
 /// Prints a disk's sizes, drives and levels, or what another process does with it. The status is 1 where a drive is lost, or a file of
