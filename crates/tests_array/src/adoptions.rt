@@ -7,6 +7,7 @@ ghost use Rattle.unit_store.specs.Memory.{held_units};
 ghost use Rattle.slot_tables.specs.Adopted.{IsKeptByMap};
 ghost use Rattle.slot_tables.specs.Views.{kept_at};
 
+use crate::asserts::check;
 use crate::restarts::{is_as_written, written};
 use crate::rig::{Memory, Rig};
 use header_scan::scan;
@@ -26,10 +27,10 @@ fn taken_apart(
     ensures places { HasDistinctSlots result.0.groups (at result.1) }
 {
     let Ok((mut parts, claims)) = array.into_parts(alloc) else {
-        panic!(rt; "not taken apart")
+        rt.panic("not taken apart")
     };
     let Ok(map) = scan(alloc, &mut parts) else {
-        panic!(rt; "no map")
+        rt.panic("no map")
     };
     (parts, map, claims)
 }
@@ -47,11 +48,11 @@ fn put_together(
     ensures places { HasDistinctSlots result.parts.groups (at map) }
     ensures kept { (s : ℕ) → IsKeptByMap (at map) s (kept_at result s) }
 {
-    assert!(rt; parts.note.is_none());
+    check!(rt; parts.note.is_none());
     let Ok((array, others)) = Array::adopt_among(alloc, parts, map, claims) else {
-        panic!(rt; "not put together")
+        rt.panic("not put together")
     };
-    assert!(rt; others.is_empty());
+    check!(rt; others.is_empty());
     array
 }
 
@@ -62,7 +63,7 @@ fn adopted(rt: &impl Abort, alloc: Global, array: Memory) -> (Memory, BlockMap)
 {
     let (parts, map, claims) = taken_apart(rt, alloc, array);
     let Ok(copy) = map.copied(alloc) else {
-        panic!(rt; "no second map")
+        rt.panic("no second map")
     };
     (put_together(rt, alloc, parts, map, claims), copy)
 }
@@ -73,10 +74,10 @@ fn adopted_again(rt: &impl Abort, alloc: Global, array: Memory, map: BlockMap) -
     requires kept { (s : ℕ) → IsKeptByMap (at map) s (kept_at array s) }
 {
     let Ok((parts, claims)) = array.into_parts(alloc) else {
-        panic!(rt; "not taken apart")
+        rt.panic("not taken apart")
     };
     let Ok(array) = Array::adopt(alloc, parts, map, claims) else {
-        panic!(rt; "not put together")
+        rt.panic("not put together")
     };
     array
 }
@@ -85,7 +86,7 @@ fn adopted_again(rt: &impl Abort, alloc: Global, array: Memory, map: BlockMap) -
 fn parts_with_their_map_are_adopted(rt: HostRuntime) {
     let alloc = rt.alloc();
     let (array, _map) = adopted(&rt, alloc, written(&rt, alloc).array);
-    assert!(rt; is_as_written(&rt, &mut Rig { array, alloc }));
+    check!(rt; is_as_written(&rt, &mut Rig { array, alloc }));
 }
 
 #[test]
@@ -93,7 +94,7 @@ fn an_array_at_rest_that_is_taken_apart_is_adopted(rt: HostRuntime) {
     let alloc = rt.alloc();
     let (array, map) = adopted(&rt, alloc, written(&rt, alloc).array);
     let array = adopted_again(&rt, alloc, array, map);
-    assert!(rt; is_as_written(&rt, &mut Rig { array, alloc }));
+    check!(rt; is_as_written(&rt, &mut Rig { array, alloc }));
 }
 
 // Parts aren't put together without their last claim, which is of their lowest slot, and come back with it.
@@ -110,15 +111,15 @@ fn refused_without_last(
 {
     let (parts, map, mut claims) = whole;
     let Some(last) = claims.pop() else {
-        panic!(rt; "no claim")
+        rt.panic("no claim")
     };
-    assert!(rt; parts.note.is_none());
+    check!(rt; parts.note.is_none());
     let Err((why, parts, map, mut claims)) = Array::adopt_among(alloc, parts, map, claims) else {
-        panic!(rt; "put together without a claim")
+        rt.panic("put together without a claim")
     };
-    assert!(rt; why == NotAdopted::NoClaim(lowest));
-    assert!(rt; claims.as_slice() == [Plain { slot: 130 }, Plain { slot: 4 }].as_slice());
-    assert!(rt; claims.push(last).is_ok());
+    check!(rt; why == NotAdopted::NoClaim(lowest));
+    check!(rt; claims.as_slice() == [Plain { slot: 130 }, Plain { slot: 4 }].as_slice());
+    check!(rt; claims.push(last).is_ok());
     (parts, map, claims)
 }
 
@@ -133,5 +134,5 @@ fn adopted_at_last(rt: &impl Abort, alloc: Global, array: Memory, lowest: u16) -
 fn one_claim_too_few_hands_parts_map_and_claims_back(rt: HostRuntime) {
     let alloc = rt.alloc();
     let array = adopted_at_last(&rt, alloc, written(&rt, alloc).array, 2);
-    assert!(rt; is_as_written(&rt, &mut Rig { array, alloc }));
+    check!(rt; is_as_written(&rt, &mut Rig { array, alloc }));
 }

@@ -1,6 +1,7 @@
 // The counts of live slots by group, compared with plain counts of where a walk of writes and copies left each block.
 ghost use Rattle.std.specs.Prelude.{◌≤◌};
 
+use crate::asserts::check;
 use crate::rig::Rig;
 use header_scan::restart;
 use std::alloc::Global;
@@ -20,9 +21,9 @@ const PARITY: [u16; 16] = [
 // Groups 0 and 1 are mirrored, 2 and 3 have parity.
 fn four_groups(rt: &impl Abort, alloc: Global) -> Rig {
     let mut rig = Rig::new(rt, alloc, 4);
-    assert!(rt; rig.make(rt, Class::Mirrored, [0, 1, 2], 1) == 1);
-    assert!(rt; rig.make(rt, Class::Parity, [1, 2, 3], 2) == 2);
-    assert!(rt; rig.make(rt, Class::Parity, [0, 1, 3], 3) == 3);
+    check!(rt; rig.make(rt, Class::Mirrored, [0, 1, 2], 1) == 1);
+    check!(rt; rig.make(rt, Class::Parity, [1, 2, 3], 2) == 2);
+    check!(rt; rig.make(rt, Class::Parity, [0, 1, 3], 3) == 3);
     rig
 }
 
@@ -73,10 +74,10 @@ fn step(rt: &impl Abort, rig: &mut Rig, places: &mut [Option<u16>; 16], turn: u3
 fn made_afresh(rt: &impl Abort, rig: Rig) -> Rig {
     let Rig { array, alloc } = rig;
     let Ok((parts, claims)) = array.into_parts(alloc) else {
-        panic!(rt; "not taken apart")
+        rt.panic("not taken apart")
     };
     let Ok((array, _others)) = restart(alloc, parts, claims) else {
-        panic!(rt; "not made anew")
+        rt.panic("not made anew")
     };
     Rig { array, alloc }
 }
@@ -85,16 +86,16 @@ fn made_afresh(rt: &impl Abort, rig: Rig) -> Rig {
 fn each_group_counts_the_blocks_that_lie_there(rt: HostRuntime) {
     let mut rig = four_groups(&rt, rt.alloc());
     let mut places = [None; 16];
-    assert!(rt; counts_all(&rig, &places));
+    check!(rt; counts_all(&rig, &places));
     for turn in 0..STEPS {
         step(&rt, &mut rig, &mut places, turn);
-        assert!(rt; counts_all(&rig, &places));
+        check!(rt; counts_all(&rig, &places));
     }
-    assert!(rt; rig.array.record_count() > 200);
+    check!(rt; rig.array.record_count() > 200);
     let mut afresh = made_afresh(&rt, rig);
-    assert!(rt; counts_all(&afresh, &places));
+    check!(rt; counts_all(&afresh, &places));
     step(&rt, &mut afresh, &mut places, STEPS);
-    assert!(rt; counts_all(&afresh, &places));
+    check!(rt; counts_all(&afresh, &places));
 }
 
 // Whether the array counts `first` live slots in group 0, and `third` in group 2.
@@ -104,20 +105,20 @@ fn counts(rig: &Rig, first: u16, third: u16) -> bool {
 
 // Fills a slot, and copies block 3, which is the only one, to a slot that is given up.
 fn give_up(rt: &impl Abort, rig: &mut Rig) {
-    assert!(rt; rig.fill(rt, 1, 0x22).is_ok());
+    check!(rt; rig.fill(rt, 1, 0x22).is_ok());
     let Ok(ticket) = rig.copy(rt, 256, 3) else {
-        panic!(rt; "not copied")
+        rt.panic("not copied")
     };
-    assert!(rt; counts(rig, 1, 0));
-    assert!(rt; rig.array.discard(ticket).is_ok());
+    check!(rt; counts(rig, 1, 0));
+    check!(rt; rig.array.discard(ticket).is_ok());
 }
 
 #[test]
 fn what_waits_and_is_given_up_counts_nowhere(rt: HostRuntime) {
     let mut rig = four_groups(&rt, rt.alloc());
-    assert!(rt; rig.write(&rt, 0, 3, 0x11).place == 0);
+    check!(rt; rig.write(&rt, 0, 3, 0x11).place == 0);
     give_up(&rt, &mut rig);
-    assert!(rt; counts(&rig, 1, 0));
-    assert!(rt; rig.carry(&rt, 257, 3).place == 257);
-    assert!(rt; counts(&rig, 0, 1));
+    check!(rt; counts(&rig, 1, 0));
+    check!(rt; rig.carry(&rt, 257, 3).place == 257);
+    check!(rt; counts(&rig, 0, 1));
 }

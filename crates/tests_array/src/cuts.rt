@@ -1,4 +1,5 @@
 // A stop after n entries of a step's list, told apart by the calls of the two drives that the step writes.
+use crate::asserts::check;
 use crate::rig::{Rig, record};
 use crash_points::{Intent, stop_after};
 use std::alloc::Global;
@@ -17,9 +18,9 @@ const CALLS: u64 = 40;
 // to slot 128.
 fn copied(rt: &impl Abort, alloc: Global) -> Rig {
     let mut rig = Rig::new(rt, alloc, 4);
-    assert!(rt; rig.make(rt, Class::Parity, [1, 2, 3], 1) == 1);
-    assert!(rt; rig.write(rt, 0, 3, 0x11) == record(3, 1, 0, 0));
-    assert!(rt; rig.copy(rt, 128, 3).is_ok());
+    check!(rt; rig.make(rt, Class::Parity, [1, 2, 3], 1) == 1);
+    check!(rt; rig.write(rt, 0, 3, 0x11) == record(3, 1, 0, 0));
+    check!(rt; rig.copy(rt, 128, 3).is_ok());
     rig
 }
 
@@ -27,13 +28,13 @@ fn copied(rt: &impl Abort, alloc: Global) -> Rig {
 fn burns(rt: &impl Abort, alloc: Global, n: usize, drive: u8, call: u64) -> bool {
     let mut rig = copied(rt, alloc);
     rig.fuse(rt, drive, call);
-    assert!(rt; 3 < rig.array.shape().blocks);
+    check!(rt; 3 < rig.array.shape().blocks);
     let commit = Intent::Commit {
         slot: 128,
         block: 3,
     };
     let Ok((array, _others)) = stop_after(alloc, rig.array, &commit, n) else {
-        panic!(rt; "not restarted")
+        rt.panic("not restarted")
     };
     array.is_lost(drive)
 }
@@ -45,7 +46,7 @@ fn calls(rt: &impl Abort, alloc: Global, n: usize, drive: u8) -> u64 {
             return call - 1;
         }
     }
-    panic!(rt; "more calls")
+    rt.panic("more calls")
 }
 
 // Whether stops after 1, 2, 3, 4 and 9 entries make these many calls more of a drive than a stop before the first entry.
@@ -62,6 +63,6 @@ fn makes_more(rt: &impl Abort, alloc: Global, drive: u8, more: [u64; 5]) -> bool
 #[test]
 fn a_stop_carries_out_as_many_entries_as_it_is_given(rt: HostRuntime) {
     // The entries are the note, the unit, the parity and the end of the note. A restart over a note writes both units again.
-    assert!(rt; makes_more(&rt, rt.alloc(), DATA, [1, 2, 2, 1, 1]));
-    assert!(rt; makes_more(&rt, rt.alloc(), PARITY, [1, 1, 2, 1, 1]));
+    check!(rt; makes_more(&rt, rt.alloc(), DATA, [1, 2, 2, 1, 1]));
+    check!(rt; makes_more(&rt, rt.alloc(), PARITY, [1, 1, 2, 1, 1]));
 }

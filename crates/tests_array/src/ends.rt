@@ -1,4 +1,5 @@
 // The claims that an array returns at its end.
+use crate::asserts::check;
 use crate::rig::Rig;
 use std::alloc::Global;
 use std::process::Abort;
@@ -24,7 +25,7 @@ impl TakeBack<Plain> for Returned {
 fn claims_of(rt: &impl Abort, alloc: Global, slots: &[u16]) -> Vec<Plain> {
     let mut claims = Vec::new(alloc);
     for slot in slots {
-        assert!(rt; claims.push(Plain { slot: *slot }).is_ok());
+        check!(rt; claims.push(Plain { slot: *slot }).is_ok());
     }
     claims
 }
@@ -33,15 +34,15 @@ fn claims_of(rt: &impl Abort, alloc: Global, slots: &[u16]) -> Vec<Plain> {
 // dissolved: its slots are 256 to 261.
 fn kept(rt: &impl Abort, alloc: Global) -> Rig {
     let mut rig = Rig::new(rt, alloc, 4);
-    assert!(rt; rig.make(rt, Class::Parity, [1, 2, 3], 1) == 1);
-    assert!(rt; rig.make(rt, Class::Mirrored, [0, 1, 3], 2) == 2);
+    check!(rt; rig.make(rt, Class::Parity, [1, 2, 3], 1) == 1);
+    check!(rt; rig.make(rt, Class::Mirrored, [0, 1, 3], 2) == 2);
     let _first = rig.write(rt, 0, 3, 0x11);
     let _newest = rig.write(rt, 2, 3, 0x22);
-    assert!(rt;
+    check!(rt;
         rig.fill(rt, 4, 0x33).is_ok() && rig.trim(1).is_ok() && rig.copy(rt, 128, 3).is_ok()
     );
     let claims = claims_of(rt, alloc, &[256, 257, 258, 259, 260, 261]);
-    assert!(rt; rig.array.unmake_group(2, claims).is_ok());
+    check!(rt; rig.array.unmake_group(2, claims).is_ok());
     rig
 }
 
@@ -53,10 +54,10 @@ fn each_claim_of_an_array_comes_back_once_at_its_end(rt: HostRuntime) {
         others: 0,
     };
     let parts = rig.array.end(&mut returned);
-    assert!(rt; parts.drives.len() == 4);
+    check!(rt; parts.drives.len() == 4);
     for (slot, count) in returned.slots.iter().enumerate() {
         let expected = slot == 1 || slot == 2 || slot == 4 || slot == 128;
-        assert!(rt; *count == u8::from(expected));
+        check!(rt; *count == u8::from(expected));
     }
-    assert!(rt; returned.others == 6);
+    check!(rt; returned.others == 6);
 }

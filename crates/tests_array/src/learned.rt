@@ -1,4 +1,5 @@
 // What is learned of a record whose place was overwritten. A drive that is lost elsewhere changes nothing.
+use crate::asserts::check;
 use crate::rig::{Rig, record};
 use map_join::Record;
 use std::alloc::Global;
@@ -22,16 +23,16 @@ const SECOND: Record = Record {
 // Block 3 is written at slot 0 of four drives and again at slot 2, and then block 4 at slot 0.
 fn written_over(rt: &impl Abort, alloc: Global) -> Rig {
     let mut rig = Rig::new(rt, alloc, 4);
-    assert!(rt; rig.write(rt, 0, 3, 0x11) == FIRST);
-    assert!(rt; rig.write(rt, 2, 3, 0x22) == SECOND);
-    assert!(rt; rig.write(rt, 0, 4, 0x33) == record(4, 1, 0, 0));
+    check!(rt; rig.write(rt, 0, 3, 0x11) == FIRST);
+    check!(rt; rig.write(rt, 2, 3, 0x22) == SECOND);
+    check!(rt; rig.write(rt, 0, 4, 0x33) == record(4, 1, 0, 0));
     rig
 }
 
 #[test]
 fn the_newest_record_is_learned_where_another_lies(rt: HostRuntime) {
     let mut rig = written_over(&rt, rt.alloc());
-    assert!(rt; rig.learns(&rt, FIRST, SECOND, 0x22));
+    check!(rt; rig.learns(&rt, FIRST, SECOND, 0x22));
 }
 
 #[test]
@@ -39,17 +40,17 @@ fn the_newest_place_is_reported_gone_where_another_record_lies(rt: HostRuntime) 
     let mut rig = written_over(&rt, rt.alloc());
     rig.lose(&rt, 0);
     rig.lose(&rt, 2);
-    assert!(rt; rig.learn(&rt, FIRST).err() == Some(Refusal::Gone(2)));
+    check!(rt; rig.learn(&rt, FIRST).err() == Some(Refusal::Gone(2)));
     rig.lose(&rt, 1);
-    assert!(rt; rig.learn(&rt, FIRST).err() == Some(Refusal::Gone(0)));
+    check!(rt; rig.learn(&rt, FIRST).err() == Some(Refusal::Gone(0)));
 }
 
 #[test]
 fn a_drive_that_is_lost_elsewhere_hinders_nothing(rt: HostRuntime) {
     let mut rig = written_over(&rt, rt.alloc());
     rig.lose(&rt, 3);
-    assert!(rt; rig.make(&rt, Class::Parity, [0, 1, 2], 1) == 1);
-    assert!(rt; rig.finds(&rt, SECOND, 0x22));
+    check!(rt; rig.make(&rt, Class::Parity, [0, 1, 2], 1) == 1);
+    check!(rt; rig.finds(&rt, SECOND, 0x22));
 }
 
 #[test]
@@ -58,8 +59,8 @@ fn a_fuse_burns_at_its_call(rt: HostRuntime) {
     rig.lose(&rt, 0);
     rig.fuse(&rt, 2, 3);
     for _call in 1..3u8 {
-        assert!(rt; rig.read_at(&rt, SECOND).is_ok() && !rig.array.is_lost(2));
+        check!(rt; rig.read_at(&rt, SECOND).is_ok() && !rig.array.is_lost(2));
     }
-    assert!(rt; rig.read_at(&rt, SECOND).err() == Some(Refusal::Gone(2)));
-    assert!(rt; rig.array.is_lost(2));
+    check!(rt; rig.read_at(&rt, SECOND).err() == Some(Refusal::Gone(2)));
+    check!(rt; rig.array.is_lost(2));
 }

@@ -4,6 +4,8 @@
 #[cfg(test)]
 mod adoptions;
 #[cfg(test)]
+mod asserts;
+#[cfg(test)]
 mod counts;
 #[cfg(test)]
 mod cuts;

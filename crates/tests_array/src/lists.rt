@@ -7,6 +7,7 @@ ghost use Rattle.unit_store.specs.Memory.{held_units};
 ghost use Rattle.unit_store.specs.Micros.{AreWrites};
 ghost use Rattle.unit_store.specs.declared.micro.Micro.{Micro};
 
+use crate::asserts::check;
 use crate::rig::{Rig, payload_of, record};
 use crate::units::{UNIT, header_of, is_slot, unit_with};
 use extent_groups::{GroupTable, Planned, SLOTS};
@@ -50,7 +51,7 @@ pub(crate) fn blank_of(byte: u8) -> [u8; UNIT] {
 /// A vector of these bytes.
 pub(crate) fn bytes_of(rt: &impl Abort, alloc: Global, bytes: &[u8]) -> Vec<u8> {
     let Ok(bytes) = bytes.to_vec(alloc) else {
-        panic!(rt; "no bytes")
+        rt.panic("no bytes")
     };
     bytes
 }
@@ -59,7 +60,7 @@ pub(crate) fn bytes_of(rt: &impl Abort, alloc: Global, bytes: &[u8]) -> Vec<u8> 
 fn claims_of(rt: &impl Abort, alloc: Global, slots: &[u16]) -> Vec<Plain> {
     let mut claims = Vec::new(alloc);
     for slot in slots {
-        assert!(rt; claims.push(Plain { slot: *slot }).is_ok());
+        check!(rt; claims.push(Plain { slot: *slot }).is_ok());
     }
     claims
 }
@@ -110,14 +111,14 @@ fn list_of(rt: &impl Abort, alloc: Global, slot: u16, unit: &[u8], planned: Plan
     let Planned { writes, parity } = planned;
     let unit = bytes_of(rt, alloc, unit);
     let mut list = Vec::new(alloc);
-    assert!(rt;
+    check!(rt;
         list.push(Micro::NoteSet(Note { slot, unit, parity }))
             .is_ok()
     );
     for (drive, at, unit) in writes {
-        assert!(rt; list.push(Micro::Write { drive, at, unit }).is_ok());
+        check!(rt; list.push(Micro::Write { drive, at, unit }).is_ok());
     }
-    assert!(rt; list.push(Micro::NoteClear).is_ok());
+    check!(rt; list.push(Micro::NoteClear).is_ok());
     list
 }
 
@@ -126,7 +127,7 @@ impl Stop {
     pub(crate) fn of(rt: &impl Abort, rig: Rig) -> Stop {
         let Rig { array, alloc } = rig;
         let Ok((parts, _claims)) = array.into_parts(alloc) else {
-            panic!(rt; "not taken apart")
+            rt.panic("not taken apart")
         };
         Stop { parts, alloc }
     }
@@ -135,11 +136,11 @@ impl Stop {
     /// at slot 130, and was at slot 1. Block 3 is copied to slot 128, and not committed there.
     pub(crate) fn written(rt: &impl Abort, alloc: Global) -> Stop {
         let mut rig = Rig::new(rt, alloc, 4);
-        assert!(rt; rig.make(rt, Class::Parity, [1, 2, 3], 1) == 1);
-        assert!(rt; rig.write(rt, 0, 3, 0x11) == record(3, 1, 0, 0));
-        assert!(rt; rig.write(rt, 1, 4, 0x44) == record(4, 1, 0, 1));
-        assert!(rt; rig.carry(rt, 130, 4) == record(4, 1, 1, 130));
-        assert!(rt; rig.copy(rt, 128, 3).is_ok());
+        check!(rt; rig.make(rt, Class::Parity, [1, 2, 3], 1) == 1);
+        check!(rt; rig.write(rt, 0, 3, 0x11) == record(3, 1, 0, 0));
+        check!(rt; rig.write(rt, 1, 4, 0x44) == record(4, 1, 0, 1));
+        check!(rt; rig.carry(rt, 130, 4) == record(4, 1, 1, 130));
+        check!(rt; rig.copy(rt, 128, 3).is_ok());
         Stop::of(rt, rig)
     }
 
@@ -153,8 +154,8 @@ impl Stop {
     /// Loses these drives.
     pub(crate) fn lose(&mut self, rt: &impl Abort, drives: &[u8]) {
         for drive in drives {
-            assert!(rt; self.is_ready());
-            assert!(rt; (*drive as usize) < self.parts.drives.len());
+            check!(rt; self.is_ready());
+            check!(rt; (*drive as usize) < self.parts.drives.len());
             self.parts.lose(*drive);
         }
     }
@@ -162,10 +163,10 @@ impl Stop {
     /// The unit at an address of a drive, none where the drive is lost.
     pub(crate) fn peek(&mut self, rt: &impl Abort, drive: usize, at: u32) -> Option<[u8; UNIT]> {
         let Some(drive) = self.parts.drives.get_mut(drive) else {
-            panic!(rt; "no drive")
+            rt.panic("no drive")
         };
-        assert!(rt; drive.unit_bytes() == UNIT);
-        assert!(rt; at < drive.units());
+        check!(rt; drive.unit_bytes() == UNIT);
+        check!(rt; at < drive.units());
         let mut unit = [0; UNIT];
         match drive.read_unit(at, &mut unit) {
             Ok(()) => Some(unit),
@@ -187,11 +188,11 @@ impl Stop {
     /// Writes the unit at an address of a drive.
     pub(crate) fn put(&mut self, rt: &impl Abort, drive: usize, at: u32, unit: &[u8; UNIT]) {
         let Some(drive) = self.parts.drives.get_mut(drive) else {
-            panic!(rt; "no drive")
+            rt.panic("no drive")
         };
-        assert!(rt; drive.unit_bytes() == UNIT);
-        assert!(rt; at < drive.units());
-        assert!(rt; drive.write_unit(at, unit).is_ok());
+        check!(rt; drive.unit_bytes() == UNIT);
+        check!(rt; at < drive.units());
+        check!(rt; drive.write_unit(at, unit).is_ok());
     }
 
     /// All units of the drives that are present, one after the other.
@@ -200,7 +201,7 @@ impl Stop {
         for drive in 0..4 {
             for at in 0..DRIVE_UNITS {
                 if let Some(unit) = self.peek(rt, drive, at) {
-                    assert!(rt; units.extend_from_slice(&unit).is_ok());
+                    check!(rt; units.extend_from_slice(&unit).is_ok());
                 }
             }
         }
@@ -209,18 +210,18 @@ impl Stop {
 
     // Plans the writes that give a slot the unit.
     fn planned(&mut self, rt: &impl Abort, slot: u16, unit: &[u8; UNIT]) -> Planned {
-        assert!(rt; self.is_ready());
-        assert!(rt; self.parts.groups.shape().unit_bytes() == UNIT);
+        check!(rt; self.is_ready());
+        check!(rt; self.parts.groups.shape().unit_bytes() == UNIT);
         let groups = &self.parts.groups;
         let drives: &mut [MemDrive] = &mut self.parts.drives;
         let planned = if is_mirrored(groups, slot) {
             mirrored_store::plan(self.alloc, groups, drives, slot, unit)
         } else {
-            assert!(rt; has_parity(groups, slot));
+            check!(rt; has_parity(groups, slot));
             parity_store::plan(self.alloc, groups, drives, slot, unit)
         };
         let Ok(planned) = planned else {
-            panic!(rt; "not planned")
+            rt.panic("not planned")
         };
         planned
     }
@@ -233,8 +234,8 @@ impl Stop {
 
     /// Carries out the first `n` entries of a list.
     pub(crate) fn run(&mut self, rt: &impl Abort, list: Vec<Micro>, n: usize) {
-        assert!(rt; self.is_ready());
-        assert!(rt; are_writes(&self.parts, &list));
+        check!(rt; self.is_ready());
+        check!(rt; are_writes(&self.parts, &list));
         run_micro(&mut self.parts, list, n);
     }
 
@@ -253,7 +254,7 @@ impl Stop {
 
     /// The slot of the note, if it can't be finished.
     pub(crate) fn bad_note(&self, rt: &impl Abort) -> Option<u16> {
-        assert!(rt; self.is_ready());
+        check!(rt; self.is_ready());
         self.parts.bad_note()
     }
 
@@ -268,22 +269,22 @@ impl Stop {
 
     /// The array that a restart makes of this, with the claims of these slots.
     pub(crate) fn restarted_with(self, rt: &impl Abort, slots: &[u16]) -> Rig {
-        assert!(rt; self.is_ready());
+        check!(rt; self.is_ready());
         let Stop { parts, alloc } = self;
         let Ok((array, _others)) = restart(alloc, parts, claims_of(rt, alloc, slots)) else {
-            panic!(rt; "not restarted")
+            rt.panic("not restarted")
         };
         Rig { array, alloc }
     }
 
     /// The fault of a restart with a claim of slot 5 alone, and what it leaves.
     pub(crate) fn refused(self, rt: &impl Abort) -> (ScanFault, Stop) {
-        assert!(rt; self.is_ready());
+        check!(rt; self.is_ready());
         let Stop { parts, alloc } = self;
         let Err((fault, parts, claims)) = restart(alloc, parts, claims_of(rt, alloc, &[5])) else {
-            panic!(rt; "restarted")
+            rt.panic("restarted")
         };
-        assert!(rt; claims.as_slice() == [Plain { slot: 5 }].as_slice());
+        check!(rt; claims.as_slice() == [Plain { slot: 5 }].as_slice());
         (fault, Stop { parts, alloc })
     }
 }

@@ -1,4 +1,5 @@
 // Lists of single writes that were made manually, carried out in part or as a whole.
+use crate::asserts::check;
 use crate::lists::{Stop, blank_of, bytes_of, unit_of};
 use crate::rig::record;
 use std::alloc::Global;
@@ -8,7 +9,7 @@ use unit_store::{Micro, Note};
 /// The list with one entry more.
 fn with(rt: &impl Abort, list: Vec<Micro>, entry: Micro) -> Vec<Micro> {
     let mut longer = list;
-    assert!(rt; longer.push(entry).is_ok());
+    check!(rt; longer.push(entry).is_ok());
     longer
 }
 
@@ -47,9 +48,9 @@ fn each_entry_is_carried_out_in_turn(rt: HostRuntime) {
         let list = four(&rt, rt.alloc());
         stop.run(&rt, list, n);
         let noted = stop.notes(1, &new, None);
-        assert!(rt; noted == (n > 0 && n < 4) && noted == stop.parts.note.is_some());
-        assert!(rt; stop.holds(&rt, 0, 1, if n > 1 { new } else { old }));
-        assert!(rt; stop.holds(&rt, 1, 1, if n > 2 { new } else { old }));
+        check!(rt; noted == (n > 0 && n < 4) && noted == stop.parts.note.is_some());
+        check!(rt; stop.holds(&rt, 0, 1, if n > 1 { new } else { old }));
+        check!(rt; stop.holds(&rt, 1, 1, if n > 2 { new } else { old }));
     }
 }
 
@@ -60,14 +61,14 @@ fn no_entries_change_nothing(rt: HostRuntime) {
     let units = stop.all_units(&rt);
     for n in [0, 1, 9] {
         stop.run(&rt, Vec::new(alloc), n);
-        assert!(rt; stop.parts.note.is_none());
+        check!(rt; stop.parts.note.is_none());
     }
     stop.run(&rt, with(&rt, Vec::new(alloc), set(&rt, alloc, 5, 0x55)), 9);
-    assert!(rt; stop.notes(5, &blank_of(0x55), None));
+    check!(rt; stop.notes(5, &blank_of(0x55), None));
     stop.run(&rt, four(&rt, alloc), 0);
     stop.run(&rt, Vec::new(alloc), 9);
-    assert!(rt; stop.notes(5, &blank_of(0x55), None));
-    assert!(rt; stop.all_units(&rt) == units);
+    check!(rt; stop.notes(5, &blank_of(0x55), None));
+    check!(rt; stop.all_units(&rt) == units);
 }
 
 #[test]
@@ -81,10 +82,10 @@ fn a_note_is_replaced_by_the_next_and_cleared_once(rt: HostRuntime) {
         set(&rt, alloc, 1, 0x99),
     );
     stop.run(&rt, with(&rt, first, set(&rt, alloc, 5, 0x55)), 3);
-    assert!(rt; stop.notes(5, &blank_of(0x55), None));
+    check!(rt; stop.notes(5, &blank_of(0x55), None));
     for _time in 0..2 {
         stop.run(&rt, with(&rt, Vec::new(alloc), Micro::NoteClear), 1);
-        assert!(rt; stop.parts.note.is_none());
+        check!(rt; stop.parts.note.is_none());
     }
-    assert!(rt; stop.all_units(&rt) == units);
+    check!(rt; stop.all_units(&rt) == units);
 }

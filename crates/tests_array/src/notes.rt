@@ -1,4 +1,5 @@
 // Restarts over a note that was made manually: one that can be finished, and one that can't.
+use crate::asserts::check;
 use crate::lists::{Stop, blank_of, both_of, bytes_of, unit_of};
 use crate::rig::{Rig, record};
 use crate::units::UNIT;
@@ -83,7 +84,7 @@ fn parity_for() -> [u8; UNIT] {
 /// The first `size` bytes of a unit, with zeros after its end.
 fn cut(rt: &impl Abort, alloc: Global, unit: [u8; UNIT], size: usize) -> Vec<u8> {
     let mut bytes = bytes_of(rt, alloc, &unit);
-    assert!(rt; bytes.resize(size, 0).is_ok());
+    check!(rt; bytes.resize(size, 0).is_ok());
     bytes
 }
 
@@ -168,7 +169,7 @@ fn a_bad_note_is_refused_and_changes_nothing(rt: HostRuntime) {
 
 #[test]
 fn a_good_note_is_finished_by_a_restart(rt: HostRuntime) {
-    assert!(rt; Stop::written(&rt, rt.alloc()).bad_note(&rt).is_none());
+    check!(rt; Stop::written(&rt, rt.alloc()).bad_note(&rt).is_none());
     for row in &GOOD {
         is_good(&rt, rt.alloc(), row);
     }

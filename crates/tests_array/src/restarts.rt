@@ -1,4 +1,5 @@
 // An array taken apart and rebuilt: its map, its log, its claims, and what each block reads.
+use crate::asserts::check;
 use crate::rig::{Memory, Rig, record};
 use header_scan::restart;
 use std::alloc::Global;
@@ -12,12 +13,12 @@ const CALLS: u64 = 30;
 /// and again at slot 2, block 5 at slot 1 and copied to slot 130, block 0 at slot 4.
 pub(crate) fn written(rt: &impl Abort, alloc: Global) -> Rig {
     let mut rig = Rig::new(rt, alloc, 4);
-    assert!(rt; rig.make(rt, Class::Parity, [1, 2, 3], 1) == 1);
-    assert!(rt; rig.write(rt, 0, 3, 0x11) == record(3, 1, 0, 0));
-    assert!(rt; rig.write(rt, 1, 5, 0x22) == record(5, 1, 0, 1));
-    assert!(rt; rig.write(rt, 2, 3, 0x33) == record(3, 2, 0, 2));
-    assert!(rt; rig.carry(rt, 130, 5) == record(5, 1, 1, 130));
-    assert!(rt; rig.write(rt, 4, 0, 0x44) == record(0, 1, 0, 4));
+    check!(rt; rig.make(rt, Class::Parity, [1, 2, 3], 1) == 1);
+    check!(rt; rig.write(rt, 0, 3, 0x11) == record(3, 1, 0, 0));
+    check!(rt; rig.write(rt, 1, 5, 0x22) == record(5, 1, 0, 1));
+    check!(rt; rig.write(rt, 2, 3, 0x33) == record(3, 2, 0, 2));
+    check!(rt; rig.carry(rt, 130, 5) == record(5, 1, 1, 130));
+    check!(rt; rig.write(rt, 4, 0, 0x44) == record(0, 1, 0, 4));
     rig
 }
 
@@ -65,14 +66,14 @@ fn are_of(claims: &[Plain], slots: &[u16]) -> bool {
 fn restarted(rt: &impl Abort, rig: Rig, held: &[u16], nearby: &[u16]) -> (Rig, Vec<Plain>) {
     let Rig { array, alloc } = rig;
     let Ok((parts, mut claims)) = array.into_parts(alloc) else {
-        panic!(rt; "not taken apart")
+        rt.panic("not taken apart")
     };
-    assert!(rt; are_of(&claims, held));
+    check!(rt; are_of(&claims, held));
     for slot in nearby {
-        assert!(rt; claims.push(Plain { slot: *slot }).is_ok());
+        check!(rt; claims.push(Plain { slot: *slot }).is_ok());
     }
     let Ok((array, others)) = restart(alloc, parts, claims) else {
-        panic!(rt; "not made anew")
+        rt.panic("not made anew")
     };
     (Rig { array, alloc }, others)
 }
@@ -80,29 +81,29 @@ fn restarted(rt: &impl Abort, rig: Rig, held: &[u16], nearby: &[u16]) -> (Rig, V
 #[test]
 fn a_restart_forgets_tickets_and_old_places(rt: HostRuntime) {
     let mut rig = written(&rt, rt.alloc());
-    assert!(rt; rig.fill(&rt, 3, 0x55).is_ok());
-    assert!(rt; rig.array.is_held(3));
+    check!(rt; rig.fill(&rt, 3, 0x55).is_ok());
+    check!(rt; rig.array.is_held(3));
     rig.lose(&rt, 1);
     let (mut afresh, others) = restarted(&rt, rig, &[2, 3, 4, 130], &[0, 129]);
-    assert!(rt; are_of(&others, &[0, 3, 129]));
-    assert!(rt; afresh.array.is_lost(1) && !afresh.array.is_lost(0));
-    assert!(rt; afresh.array.record_count() == 3 && is_as_written(&rt, &mut afresh));
+    check!(rt; are_of(&others, &[0, 3, 129]));
+    check!(rt; afresh.array.is_lost(1) && !afresh.array.is_lost(0));
+    check!(rt; afresh.array.record_count() == 3 && is_as_written(&rt, &mut afresh));
 }
 
 #[test]
 fn writes_go_on_after_a_restart(rt: HostRuntime) {
     let (mut afresh, others) = restarted(&rt, written(&rt, rt.alloc()), &[2, 4, 130], &[]);
-    assert!(rt; others.is_empty());
-    assert!(rt; afresh.write(&rt, 0, 3, 0x66) == record(3, 3, 0, 0));
-    assert!(rt; afresh.carry(&rt, 1, 5) == record(5, 1, 2, 1));
-    assert!(rt; afresh.write(&rt, 2, 7, 0x77) == record(7, 1, 0, 2));
-    assert!(rt; afresh.array.record_count() == 6);
+    check!(rt; others.is_empty());
+    check!(rt; afresh.write(&rt, 0, 3, 0x66) == record(3, 3, 0, 0));
+    check!(rt; afresh.carry(&rt, 1, 5) == record(5, 1, 2, 1));
+    check!(rt; afresh.write(&rt, 2, 7, 0x77) == record(7, 1, 0, 2));
+    check!(rt; afresh.array.record_count() == 6);
 }
 
 // A world of an array, whose workers' hands are empty.
 fn world_of(rt: &impl Abort, alloc: Global, array: Memory) -> World {
     let Ok(world) = World::of(alloc, array) else {
-        panic!(rt; "no world")
+        rt.panic("no world")
     };
     world
 }
@@ -110,7 +111,7 @@ fn world_of(rt: &impl Abort, alloc: Global, array: Memory) -> World {
 // The array as `written` left it, with a drive fused as a world fuses it.
 fn fused(rt: &impl Abort, alloc: Global, drive: u8, call: u64) -> Rig {
     let mut world = world_of(rt, alloc, written(rt, alloc).array);
-    assert!(rt; drive < world.array().drive_count() && call > 0);
+    check!(rt; drive < world.array().drive_count() && call > 0);
     world.fuse(drive, call);
     Rig {
         array: world.into_array(),
@@ -123,14 +124,14 @@ fn burns(rt: &impl Abort, alloc: Global, drive: u8, call: u64) -> bool {
     let rig = fused(rt, alloc, drive, call);
     let (mut afresh, others) = restarted(rt, rig, &[2, 4, 130], &[]);
     let burnt = afresh.array.is_lost(drive);
-    assert!(rt; others.is_empty() && is_as_written(rt, &mut afresh));
+    check!(rt; others.is_empty() && is_as_written(rt, &mut afresh));
     burnt
 }
 
 // Loses the drive at its first call, at each of the next ones, and at one that never comes.
 fn burns_until_its_last(rt: &impl Abort, alloc: Global, drive: u8) -> bool {
     let mut burnt = burns(rt, alloc, drive, 1);
-    assert!(rt; burnt);
+    check!(rt; burnt);
     for call in 2..CALLS {
         burnt = burns(rt, alloc, drive, call);
     }
@@ -140,6 +141,6 @@ fn burns_until_its_last(rt: &impl Abort, alloc: Global, drive: u8) -> bool {
 #[test]
 fn a_restart_reports_the_same_whichever_drive_is_lost_at_whichever_call(rt: HostRuntime) {
     for drive in 0..4u8 {
-        assert!(rt; burns_until_its_last(&rt, rt.alloc(), drive));
+        check!(rt; burns_until_its_last(&rt, rt.alloc(), drive));
     }
 }

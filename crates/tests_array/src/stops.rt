@@ -1,5 +1,6 @@
 // Stops inside a step: after any number of its single writes, and with drives lost, a restart finds the state of before the
 // step or of after it.
+use crate::asserts::check;
 use crate::lists::{Stop, blank_of, both_of, unit_of};
 use crate::rig::{Rig, payload_of, record};
 use crate::units::UNIT;
@@ -79,15 +80,15 @@ fn are_copies(rt: &impl Abort, stop: &mut Stop, one: (usize, u32), other: (usize
 /// Whether a restart without the claim that it needs first leaves no note, and copies and parities that agree.
 fn is_settled(rt: &impl Abort, stop: Stop, lowest: u16) -> Stop {
     let (fault, mut left) = stop.refused(rt);
-    assert!(rt; fault == ScanFault::NoClaim(lowest));
-    assert!(rt; left.parts.note.is_none());
+    check!(rt; fault == ScanFault::NoClaim(lowest));
+    check!(rt; left.parts.note.is_none());
     for at in 4..8 {
-        assert!(rt; adds_up(rt, &mut left, at));
+        check!(rt; adds_up(rt, &mut left, at));
     }
     for at in 0..2 {
-        assert!(rt; are_copies(rt, &mut left, (0, at), (1, at)));
-        assert!(rt; are_copies(rt, &mut left, (2, at), (0, at + 2)));
-        assert!(rt; are_copies(rt, &mut left, (1, at + 2), (2, at + 2)));
+        check!(rt; are_copies(rt, &mut left, (0, at), (1, at)));
+        check!(rt; are_copies(rt, &mut left, (2, at), (0, at + 2)));
+        check!(rt; are_copies(rt, &mut left, (1, at + 2), (2, at + 2)));
     }
     left
 }
@@ -103,13 +104,13 @@ fn lists(rig: &Rig, expected: [Record; 2]) -> bool {
 /// Restarts what was stopped in the commit of block 3, whose newest record then is this one: blocks 3 and 4 have their payloads.
 fn commit_matches(rt: &impl Abort, stop: Stop, newest: Record) {
     let mut rig = is_settled(rt, stop, newest.place).restarted(rt);
-    assert!(rt; lists(&rig, [newest, OTHER]));
-    assert!(rt; rig.reads(rt, 3, 1, 0x11) && rig.reads(rt, 4, 1, 0x44));
-    assert!(rt; rig.finds(rt, BEFORE, 0x11) && rig.finds(rt, OTHER, 0x44));
+    check!(rt; lists(&rig, [newest, OTHER]));
+    check!(rt; rig.reads(rt, 3, 1, 0x11) && rig.reads(rt, 4, 1, 0x44));
+    check!(rt; rig.finds(rt, BEFORE, 0x11) && rig.finds(rt, OTHER, 0x44));
     if newest == AFTER {
-        assert!(rt; rig.finds(rt, AFTER, 0x11));
+        check!(rt; rig.finds(rt, AFTER, 0x11));
     } else {
-        assert!(rt; matches!(rig.read_at(rt, AFTER), Err(Refusal::Ahead(Some(BEFORE)))));
+        check!(rt; matches!(rig.read_at(rt, AFTER), Err(Refusal::Ahead(Some(BEFORE)))));
     }
 }
 
@@ -119,7 +120,7 @@ fn stops_in_commit(rt: &impl Abort, alloc: Global, between: &[u8], n: usize, los
     let list = commit_list(rt, &mut stop);
     stop.lose(rt, between);
     stop.run(rt, list, n);
-    assert!(rt; stop.parts.note.is_some() == (n > 0 && n < 4));
+    check!(rt; stop.parts.note.is_some() == (n > 0 && n < 4));
     stop.lose(rt, lost);
     commit_matches(rt, stop, if n == 0 { BEFORE } else { AFTER });
 }
@@ -131,16 +132,16 @@ fn the_list_of_a_commit_in_parity_is_a_note_and_two_writes(rt: HostRuntime) {
     let unit = unit_of(AFTER, 0x11);
     // The other unit of the row is block 4's.
     let parity = both_of(unit, unit_of(OTHER, 0x44));
-    assert!(rt; parity[..16] == [0, 0, 0, 0, 0, 0, 0, 7, 0, 0, 0, 0, 0, 0, 0, 2]);
-    assert!(rt; list.len() == 4);
-    assert!(rt;
+    check!(rt; parity[..16] == [0, 0, 0, 0, 0, 0, 0, 7, 0, 0, 0, 0, 0, 0, 0, 2]);
+    check!(rt; list.len() == 4);
+    check!(rt;
         matches!(&list[0], Micro::NoteSet(note) if note.slot == 128
         && note.unit.as_slice() == unit.as_slice() && note.parity.is_some())
     );
-    assert!(rt; writes(&list[1], 1, 4, unit) && writes(&list[2], 3, 4, parity));
-    assert!(rt; matches!(&list[3], Micro::NoteClear));
+    check!(rt; writes(&list[1], 1, 4, unit) && writes(&list[2], 3, 4, parity));
+    check!(rt; matches!(&list[3], Micro::NoteClear));
     stop.run(&rt, list, 1);
-    assert!(rt; stop.notes(128, &unit, Some(&parity)));
+    check!(rt; stop.notes(128, &unit, Some(&parity)));
 }
 
 #[test]
@@ -173,7 +174,7 @@ fn without_its_note_a_commit_breaks_the_header_of_another_block(rt: HostRuntime)
     let list = commit_list(&rt, &mut stop);
     without_a_note(&rt, &mut stop, list);
     let (fault, _left) = stop.refused(&rt);
-    assert!(rt; fault == ScanFault::BadHeader(130));
+    check!(rt; fault == ScanFault::BadHeader(130));
 }
 
 #[test]
@@ -182,15 +183,15 @@ fn without_its_note_a_copy_breaks_the_payload_of_another_block(rt: HostRuntime) 
     let list = stop.plan(&rt, 128, blank_of(0x99));
     without_a_note(&rt, &mut stop, list);
     let mut rig = stop.restarted(&rt);
-    assert!(rt; rig.array.shape().blocks == 16);
-    assert!(rt; rig.array.newest(4) == Some(OTHER));
+    check!(rt; rig.array.shape().blocks == 16);
+    check!(rt; rig.array.newest(4) == Some(OTHER));
     let Ok(Some((version, payload))) = rig.read(&rt, 4) else {
-        panic!(rt; "not read")
+        rt.panic("not read")
     };
-    assert!(rt; version == 1 && payload.as_slice() != payload_of(0x44).as_slice());
+    check!(rt; version == 1 && payload.as_slice() != payload_of(0x44).as_slice());
     // What the parity has of slot 128 is block 3's payload, which was there before.
     let broken = both_of(both_of(blank_of(0x11), blank_of(0x99)), blank_of(0x44));
-    assert!(rt; payload.as_slice() == &broken[32..]);
+    check!(rt; payload.as_slice() == &broken[32..]);
 }
 
 #[test]
@@ -213,7 +214,7 @@ fn stops_in_fill(rt: &impl Abort, alloc: Global, lost: [&[u8]; 3], n: usize, ent
     let mut stop = Stop::written(rt, alloc);
     stop.lose(rt, before);
     let list = stop.plan(rt, 1, blank_of(0xF6));
-    assert!(rt; list.len() == entries);
+    check!(rt; list.len() == entries);
     stop.lose(rt, between);
     stop.run(rt, list, n);
     stop.lose(rt, then);
@@ -231,15 +232,15 @@ fn fill_matches(rt: &impl Abort, stop: Stop, filled: bool) {
     };
     for drive in 0..2 {
         let is_lost = left.peek(rt, drive, 0).is_none();
-        assert!(rt; is_lost || left.holds(rt, drive, 1, expected));
+        check!(rt; is_lost || left.holds(rt, drive, 1, expected));
     }
     let mut rig = left.restarted(rt);
-    assert!(rt; lists(&rig, [BEFORE, OTHER]));
-    assert!(rt; rig.reads(rt, 3, 1, 0x11) && rig.reads(rt, 4, 1, 0x44));
+    check!(rt; lists(&rig, [BEFORE, OTHER]));
+    check!(rt; rig.reads(rt, 3, 1, 0x11) && rig.reads(rt, 4, 1, 0x44));
     if filled {
-        assert!(rt; matches!(rig.read_at(rt, old), Ok(At::Stale(_))));
+        check!(rt; matches!(rig.read_at(rt, old), Ok(At::Stale(_))));
     } else {
-        assert!(rt; rig.finds(rt, old, 0x44));
+        check!(rt; rig.finds(rt, old, 0x44));
     }
 }
 
@@ -264,8 +265,8 @@ fn a_write_to_a_lost_copy_is_skipped_and_counted(rt: HostRuntime) {
         stop.lose(&rt, &[0]);
         stop.run(&rt, list, n);
         let old = unit_of(record(4, 1, 0, 1), 0x44);
-        assert!(rt; stop.holds(&rt, 1, 1, if written { blank_of(0xF6) } else { old }));
-        assert!(rt; stop.peek(&rt, 0, 1).is_none());
-        assert!(rt; stop.parts.note.is_some() == (n < 4));
+        check!(rt; stop.holds(&rt, 1, 1, if written { blank_of(0xF6) } else { old }));
+        check!(rt; stop.peek(&rt, 0, 1).is_none());
+        check!(rt; stop.parts.note.is_some() == (n < 4));
     }
 }

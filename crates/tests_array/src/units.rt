@@ -2,6 +2,7 @@
 ghost use Rattle.std.specs.Prelude.{IsTrue};
 ghost use Rattle.unit_store.specs.Slots.{IsSlot};
 
+use crate::asserts::check;
 use crate::rig::{Rig, payload_of, record};
 use extent_groups::{GroupTable, SLOTS};
 use map_join::Record;
@@ -28,8 +29,8 @@ fn unit_of<U: Units>(rt: &impl Abort, units: &mut U, slot: u16) -> Result<[u8; U
     requires { U.fits units.old }
     ensures { U.fits units.new }
 {
-    assert!(rt; is_slot(units.groups(), slot));
-    assert!(rt; units.groups().shape().unit_bytes() == UNIT);
+    check!(rt; is_slot(units.groups(), slot));
+    check!(rt; units.groups().shape().unit_bytes() == UNIT);
     let mut unit = [9; UNIT];
     units.unit(slot, &mut unit, &mut [7; TWO_UNITS])?;
     Ok(unit)
@@ -59,14 +60,14 @@ pub(crate) fn unit_with(header: [u8; 32], payload: [u8; 24]) -> [u8; UNIT] {
 // 0; block 5 is at slot 130, and was at slot 1; block 6 was trimmed at slot 4; a payload waits at slot 3, and one at slot 128.
 fn written(rt: &impl Abort, alloc: Global) -> Rig {
     let mut rig = Rig::new(rt, alloc, 4);
-    assert!(rt; rig.make(rt, Class::Parity, [1, 2, 3], 1) == 1);
-    assert!(rt; rig.write(rt, 0, 3, 0x11) == record(3, 1, 0, 0));
-    assert!(rt; rig.write(rt, 1, 5, 0x22) == record(5, 1, 0, 1));
-    assert!(rt; rig.write(rt, 2, 3, 0x33) == record(3, 2, 0, 2));
-    assert!(rt; rig.carry(rt, 130, 5) == record(5, 1, 1, 130));
-    assert!(rt; rig.drop_block(rt, 4, 6) == record(6, 1, 0, 4));
-    assert!(rt; rig.fill(rt, 3, 0x44).is_ok());
-    assert!(rt; rig.copy(rt, 128, 3).is_ok());
+    check!(rt; rig.make(rt, Class::Parity, [1, 2, 3], 1) == 1);
+    check!(rt; rig.write(rt, 0, 3, 0x11) == record(3, 1, 0, 0));
+    check!(rt; rig.write(rt, 1, 5, 0x22) == record(5, 1, 0, 1));
+    check!(rt; rig.write(rt, 2, 3, 0x33) == record(3, 2, 0, 2));
+    check!(rt; rig.carry(rt, 130, 5) == record(5, 1, 1, 130));
+    check!(rt; rig.drop_block(rt, 4, 6) == record(6, 1, 0, 4));
+    check!(rt; rig.fill(rt, 3, 0x44).is_ok());
+    check!(rt; rig.copy(rt, 128, 3).is_ok());
     rig
 }
 
@@ -105,23 +106,23 @@ fn are_as_written<U: Units>(rt: &impl Abort, units: &mut U, gone: &[u16]) -> boo
 #[test]
 fn an_array_reads_a_unit_as_the_drives_hold_it(rt: HostRuntime) {
     let mut rig = written(&rt, rt.alloc());
-    assert!(rt; are_as_written(&rt, &mut rig.array, &[]));
+    check!(rt; are_as_written(&rt, &mut rig.array, &[]));
     rig.lose(&rt, 1);
-    assert!(rt; are_as_written(&rt, &mut rig.array, &[]));
+    check!(rt; are_as_written(&rt, &mut rig.array, &[]));
     rig.fuse(&rt, 0, 1);
-    assert!(rt; are_as_written(&rt, &mut rig.array, &[0, 1]));
+    check!(rt; are_as_written(&rt, &mut rig.array, &[0, 1]));
 }
 
 #[test]
 fn a_world_reads_a_unit_as_the_drives_hold_it(rt: HostRuntime) {
     let rig = written(&rt, rt.alloc());
     let Ok(mut world) = World::of(rt.alloc(), rig.array) else {
-        panic!(rt; "no world")
+        rt.panic("no world")
     };
-    assert!(rt; are_as_written(&rt, &mut world, &[]));
-    assert!(rt; 3 < world.array().drive_count());
+    check!(rt; are_as_written(&rt, &mut world, &[]));
+    check!(rt; 3 < world.array().drive_count());
     world.lose(2);
-    assert!(rt; are_as_written(&rt, &mut world, &[]));
+    check!(rt; are_as_written(&rt, &mut world, &[]));
     world.lose(3);
-    assert!(rt; are_as_written(&rt, &mut world, &[130, 131, 134, 135]));
+    check!(rt; are_as_written(&rt, &mut world, &[130, 131, 134, 135]));
 }

@@ -1,4 +1,5 @@
 // Groups that are dissolved and made again: whose claims are needed, in which order refusals come, and what comes back.
+use crate::asserts::check;
 use crate::rig::Rig;
 use std::alloc::Global;
 use std::process::Abort;
@@ -8,7 +9,7 @@ use step_core::{Class, Plain, Refusal};
 fn claims_of(rt: &impl Abort, alloc: Global, slots: &[u16]) -> Vec<Plain> {
     let mut claims = Vec::new(alloc);
     for slot in slots {
-        assert!(rt; claims.push(Plain { slot: *slot }).is_ok());
+        check!(rt; claims.push(Plain { slot: *slot }).is_ok());
     }
     claims
 }
@@ -39,7 +40,7 @@ fn is_refused(
 // Dissolves group 0 with its claims, the last slot's first.
 fn unmake(rt: &impl Abort, rig: &mut Rig) {
     let claims = claims_of(rt, rig.alloc, &[5, 0, 4, 1, 3, 2]);
-    assert!(rt; rig.array.unmake_group(0, claims).is_ok());
+    check!(rt; rig.array.unmake_group(0, claims).is_ok());
 }
 
 // Makes group 0 again on other extents: whether the claims of these slots come back.
@@ -54,24 +55,24 @@ fn gives_back(rt: &impl Abort, rig: &mut Rig, extent: u16, slots: &[u16]) -> boo
 #[test]
 fn a_group_is_unmade_with_just_its_claims(rt: HostRuntime) {
     let mut rig = Rig::new(&rt, rt.alloc(), 4);
-    assert!(rt; is_refused(&rt, &mut rig, 1, &[], Refusal::NoGroup));
-    assert!(rt; is_refused(&rt, &mut rig, 512, &[0], Refusal::NoGroup));
-    assert!(rt; is_refused(&rt, &mut rig, 0, &[0, 6], Refusal::NoGroup));
-    assert!(rt; is_refused(&rt, &mut rig, 0, &[0, 128], Refusal::NoGroup));
-    assert!(rt; is_refused(&rt, &mut rig, 0, &[1, 0, 1], Refusal::NoGroup));
-    assert!(rt; is_refused(&rt, &mut rig, 0, &[5, 4, 2, 1, 0], Refusal::SlotsHeld(3)));
-    assert!(rt; is_refused(&rt, &mut rig, 0, &[], Refusal::SlotsHeld(0)));
+    check!(rt; is_refused(&rt, &mut rig, 1, &[], Refusal::NoGroup));
+    check!(rt; is_refused(&rt, &mut rig, 512, &[0], Refusal::NoGroup));
+    check!(rt; is_refused(&rt, &mut rig, 0, &[0, 6], Refusal::NoGroup));
+    check!(rt; is_refused(&rt, &mut rig, 0, &[0, 128], Refusal::NoGroup));
+    check!(rt; is_refused(&rt, &mut rig, 0, &[1, 0, 1], Refusal::NoGroup));
+    check!(rt; is_refused(&rt, &mut rig, 0, &[5, 4, 2, 1, 0], Refusal::SlotsHeld(3)));
+    check!(rt; is_refused(&rt, &mut rig, 0, &[], Refusal::SlotsHeld(0)));
     let _record = rig.write(&rt, 1, 3, 0x11);
-    assert!(rt; is_refused(&rt, &mut rig, 0, &[0, 1, 2, 3, 4, 5], Refusal::SlotsHeld(1)));
+    check!(rt; is_refused(&rt, &mut rig, 0, &[0, 1, 2, 3, 4, 5], Refusal::SlotsHeld(1)));
 }
 
 #[test]
 fn its_claims_come_back_once(rt: HostRuntime) {
     let mut rig = Rig::new(&rt, rt.alloc(), 4);
     unmake(&rt, &mut rig);
-    assert!(rt; rig.array.is_held(0) && rig.array.is_held(5) && !rig.array.is_held(6));
-    assert!(rt; is_refused(&rt, &mut rig, 0, &[0, 1, 2, 3, 4, 5], Refusal::NoGroup));
-    assert!(rt; gives_back(&rt, &mut rig, 0, &[0, 1, 2, 3, 4, 5]));
-    assert!(rt; !rig.array.is_held(0));
-    assert!(rt; is_refused(&rt, &mut rig, 0, &[0, 1, 2, 3, 4, 5], Refusal::SlotsHeld(6)));
+    check!(rt; rig.array.is_held(0) && rig.array.is_held(5) && !rig.array.is_held(6));
+    check!(rt; is_refused(&rt, &mut rig, 0, &[0, 1, 2, 3, 4, 5], Refusal::NoGroup));
+    check!(rt; gives_back(&rt, &mut rig, 0, &[0, 1, 2, 3, 4, 5]));
+    check!(rt; !rig.array.is_held(0));
+    check!(rt; is_refused(&rt, &mut rig, 0, &[0, 1, 2, 3, 4, 5], Refusal::SlotsHeld(6)));
 }

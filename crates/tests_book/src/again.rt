@@ -1,4 +1,5 @@
 // A Book around an array that another Book has left: its order of last writes and its write log start over.
+use crate::asserts::check;
 use crate::books::one_after_other;
 use crate::calls::{moved, reads, record, write};
 use crate::rig::Story;
@@ -18,8 +19,8 @@ impl Story for WritesBoth {
         B: map_words::Naming,
         R: Abort + Wait,
     >(&self, rt: &R, alloc: Global, worker: &mut Worker<'_, MemDrive, N, A, B>) {
-        assert!(rt; write(rt, alloc, worker, 9, 7) == Ok(record(9, 1, 0, 0)));
-        assert!(rt; write(rt, alloc, worker, 5, 8) == Ok(record(5, 1, 0, 1)));
+        check!(rt; write(rt, alloc, worker, 9, 7) == Ok(record(9, 1, 0, 0)));
+        check!(rt; write(rt, alloc, worker, 5, 8) == Ok(record(5, 1, 0, 1)));
     }
 }
 
@@ -34,15 +35,15 @@ impl Story for MovesBoth {
         R: Abort + Wait,
     >(&self, rt: &R, alloc: Global, worker: &mut Worker<'_, MemDrive, N, A, B>) {
         let first = moved(worker.migrate(rt, alloc, 48, &NoGate));
-        assert!(rt; first == Some(record(5, 1, 1, 256)));
+        check!(rt; first == Some(record(5, 1, 1, 256)));
         let second = moved(worker.migrate(rt, alloc, 48, &NoGate));
-        assert!(rt; second == Some(record(9, 1, 1, 257)));
-        assert!(rt; matches!(worker.migrate(rt, alloc, 48, &NoGate), Ok(Migration::Idle)));
-        assert!(rt; reads(rt, alloc, worker, Controller::Even, record(9, 1, 1, 257), 7));
+        check!(rt; second == Some(record(9, 1, 1, 257)));
+        check!(rt; matches!(worker.migrate(rt, alloc, 48, &NoGate), Ok(Migration::Idle)));
+        check!(rt; reads(rt, alloc, worker, Controller::Even, record(9, 1, 1, 257), 7));
     }
 }
 
 #[test]
 fn another_book_around_an_array_starts_over(rt: HostRuntime) {
-    assert!(rt; one_after_other(&rt, rt.alloc(), 0, &WritesBoth, &MovesBoth) == 2);
+    check!(rt; one_after_other(&rt, rt.alloc(), 0, &WritesBoth, &MovesBoth) == 2);
 }

@@ -3,6 +3,7 @@ ghost use Rattle.std.specs.Prelude.{◌≡◌, ◌≤◌};
 ghost use Rattle.map_words.specs.Places.{blocks_of};
 ghost use Rattle.slot_words.specs.Places.{table_slots};
 
+use crate::asserts::check;
 use crate::rig::{
     Layout, Story, Tables, hired, laid_out, named, new_history, new_map, new_tables, play,
     released, renewed,
@@ -34,7 +35,7 @@ fn claimed<N: slot_words::Naming, R: Abort>(
             panic!(rt; "slot {slot} is free")
         };
         if let Err(_kept) = claims.push(claim) {
-            panic!(rt; "no memory")
+            rt.panic("no memory")
         }
     }
     claims
@@ -108,7 +109,7 @@ fn both<
     let later = hired(rt, &history, &mut keeper);
     let begun = (array, history, keeper, hand);
     let (settled, left) = play(rt, alloc, begun, bench, &[4], stories.0);
-    assert!(rt; settled == Ok(()));
+    check!(rt; settled == Ok(()));
     let Settled {
         array,
         words,
@@ -118,17 +119,17 @@ fn both<
         missing,
     } = left;
     // The second Book's hand waits.
-    assert!(rt; missing == Some(1));
+    check!(rt; missing == Some(1));
     let Some(pass) = pass else {
-        panic!(rt; "no Pass came back")
+        rt.panic("no Pass came back")
     };
     release_last(&words, &mut spare, &mut claims);
     let shape = array.shape();
-    assert!(rt; shape.blocks == 16 && shape.payload == 40);
+    check!(rt; shape.blocks == 16 && shape.payload == 40);
     let bench = renewed::<N, C, D>(words, pass, maps.0, maps.1);
     let begun = (array, history, keeper, later);
     let (settled, left) = play(rt, alloc, begun, bench, &[4], stories.1);
-    assert!(rt; settled == Ok(()));
+    check!(rt; settled == Ok(()));
     let Settled {
         array,
         words,
@@ -138,7 +139,7 @@ fn both<
         missing,
     } = left;
     // The first Book's hand ended with it.
-    assert!(rt; missing == Some(0));
+    check!(rt; missing == Some(0));
     while let Some(claim) = claims.pop() {
         words.release(&mut spare, claim);
     }

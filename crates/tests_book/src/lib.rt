@@ -4,6 +4,8 @@
 #[cfg(test)]
 mod again;
 #[cfg(test)]
+mod asserts;
+#[cfg(test)]
 mod books;
 #[cfg(test)]
 mod calls;

@@ -1,4 +1,5 @@
 // One worker alone: what it moves, and where it finds no slot or nothing to move.
+use crate::asserts::check;
 use crate::calls::{moved, reads, record, write};
 use crate::rig::{Layout, Story, lived};
 use array_book::{Controller, Migration, NoGate, Sizes, Worker};
@@ -19,14 +20,14 @@ impl Story for MovesOne {
     >(&self, rt: &R, alloc: Global, worker: &mut Worker<'_, MemDrive, N, A, B>) {
         for block in 0..5u8 {
             let written = write(rt, alloc, worker, u32::from(block), block);
-            assert!(rt; written == Ok(record(u32::from(block), 1, 0, u16::from(block))));
+            check!(rt; written == Ok(record(u32::from(block), 1, 0, u16::from(block))));
         }
-        assert!(rt; matches!(worker.migrate(rt, alloc, 43, &NoGate), Ok(Migration::Idle)));
+        check!(rt; matches!(worker.migrate(rt, alloc, 43, &NoGate), Ok(Migration::Idle)));
         let demoted = moved(worker.migrate(rt, alloc, 44, &NoGate));
-        assert!(rt; demoted == Some(record(0, 1, 1, 256)));
-        assert!(rt; matches!(worker.migrate(rt, alloc, 44, &NoGate), Ok(Migration::Idle)));
-        assert!(rt; reads(rt, alloc, worker, Controller::Even, record(0, 1, 1, 256), 0));
-        assert!(rt; reads(rt, alloc, worker, Controller::Even, record(4, 1, 0, 4), 4));
+        check!(rt; demoted == Some(record(0, 1, 1, 256)));
+        check!(rt; matches!(worker.migrate(rt, alloc, 44, &NoGate), Ok(Migration::Idle)));
+        check!(rt; reads(rt, alloc, worker, Controller::Even, record(0, 1, 1, 256), 0));
+        check!(rt; reads(rt, alloc, worker, Controller::Even, record(4, 1, 0, 4), 4));
     }
 }
 
@@ -46,24 +47,24 @@ impl Story for GathersThem {
         R: Abort + Wait,
     >(&self, rt: &R, alloc: Global, worker: &mut Worker<'_, MemDrive, N, A, B>) {
         for (block, place) in [(0, 256), (1, 257), (2, 258), (3, 259), (4, 384)] {
-            assert!(rt; write(rt, alloc, worker, block, 7) == Ok(record(block, 1, 0, 0)));
+            check!(rt; write(rt, alloc, worker, block, 7) == Ok(record(block, 1, 0, 0)));
             let demoted = moved(worker.migrate(rt, alloc, 4, &NoGate));
-            assert!(rt; demoted == Some(record(block, 1, 1, place)));
+            check!(rt; demoted == Some(record(block, 1, 1, place)));
         }
-        assert!(rt; write(rt, alloc, worker, 1, 8) == Ok(record(1, 2, 0, 0)));
+        check!(rt; write(rt, alloc, worker, 1, 8) == Ok(record(1, 2, 0, 0)));
         let plugged = moved(worker.migrate(rt, alloc, 0, &NoGate));
-        assert!(rt; plugged == Some(record(4, 1, 2, 257)));
+        check!(rt; plugged == Some(record(4, 1, 2, 257)));
         let demoted = moved(worker.migrate(rt, alloc, 4, &NoGate));
-        assert!(rt; demoted == Some(record(1, 2, 1, 385)));
-        assert!(rt; matches!(worker.migrate(rt, alloc, 0, &NoGate), Ok(Migration::Idle)));
-        assert!(rt; write(rt, alloc, worker, 0, 9) == Ok(record(0, 2, 0, 0)));
-        assert!(rt; write(rt, alloc, worker, 1, 9) == Ok(record(1, 3, 0, 1)));
+        check!(rt; demoted == Some(record(1, 2, 1, 385)));
+        check!(rt; matches!(worker.migrate(rt, alloc, 0, &NoGate), Ok(Migration::Idle)));
+        check!(rt; write(rt, alloc, worker, 0, 9) == Ok(record(0, 2, 0, 0)));
+        check!(rt; write(rt, alloc, worker, 1, 9) == Ok(record(1, 3, 0, 1)));
         let cleaned = moved(worker.migrate(rt, alloc, 0, &NoGate));
-        assert!(rt; cleaned == Some(record(4, 1, 3, 386)));
-        assert!(rt; write(rt, alloc, worker, 4, 9) == Ok(record(4, 2, 0, 128)));
+        check!(rt; cleaned == Some(record(4, 1, 3, 386)));
+        check!(rt; write(rt, alloc, worker, 4, 9) == Ok(record(4, 2, 0, 128)));
         let demoted = moved(worker.migrate(rt, alloc, 4, &NoGate));
-        assert!(rt; demoted == Some(record(0, 2, 1, 387)));
-        assert!(rt; reads(rt, alloc, worker, Controller::Even, record(2, 1, 1, 258), 7));
+        check!(rt; demoted == Some(record(0, 2, 1, 387)));
+        check!(rt; reads(rt, alloc, worker, Controller::Even, record(2, 1, 1, 258), 7));
     }
 }
 
@@ -85,16 +86,16 @@ impl Story for RunsOut {
         for index in 0..8u8 {
             let block = u32::from(index) + 6;
             let place = 256 + 128 * u16::from(index / 4) + u16::from(index % 4);
-            assert!(rt; write(rt, alloc, worker, block, index) == Ok(record(block, 1, 0, 0)));
+            check!(rt; write(rt, alloc, worker, block, index) == Ok(record(block, 1, 0, 0)));
             let demoted = moved(worker.migrate(rt, alloc, 4, &NoGate));
-            assert!(rt; demoted == Some(record(block, 1, 1, place)));
+            check!(rt; demoted == Some(record(block, 1, 1, place)));
         }
-        assert!(rt; write(rt, alloc, worker, 7, 21) == Ok(record(7, 2, 0, 0)));
-        assert!(rt; write(rt, alloc, worker, 12, 22) == Ok(record(12, 2, 0, 1)));
-        assert!(rt; matches!(worker.migrate(rt, alloc, 3, &NoGate), Ok(Migration::NoRoom)));
+        check!(rt; write(rt, alloc, worker, 7, 21) == Ok(record(7, 2, 0, 0)));
+        check!(rt; write(rt, alloc, worker, 12, 22) == Ok(record(12, 2, 0, 1)));
+        check!(rt; matches!(worker.migrate(rt, alloc, 3, &NoGate), Ok(Migration::NoRoom)));
         let plugged = moved(worker.migrate(rt, alloc, 2, &NoGate));
-        assert!(rt; plugged == Some(record(10, 1, 2, 257)));
-        assert!(rt;
+        check!(rt; plugged == Some(record(10, 1, 2, 257)));
+        check!(rt;
             reads(
                 rt,
                 alloc,
@@ -110,17 +111,17 @@ impl Story for RunsOut {
 #[test]
 fn the_block_written_longest_ago_is_moved_where_slots_are_few(rt: HostRuntime) {
     let settled = lived(&rt, rt.alloc(), &[4], &MovesOne);
-    assert!(rt; settled == (Ok(()), 5));
+    check!(rt; settled == (Ok(()), 5));
 }
 
 #[test]
 fn holes_are_plugged_and_groups_cleaned(rt: HostRuntime) {
     let settled = lived(&rt, rt.alloc(), &[4], &GathersThem);
-    assert!(rt; settled == (Ok(()), 5));
+    check!(rt; settled == (Ok(()), 5));
 }
 
 #[test]
 fn a_demotion_without_a_slot_goes_on_to_no_plug(rt: HostRuntime) {
     let settled = lived(&rt, rt.alloc(), &[4], &RunsOut);
-    assert!(rt; settled == (Ok(()), 8));
+    check!(rt; settled == (Ok(()), 8));
 }

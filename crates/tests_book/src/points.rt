@@ -1,4 +1,5 @@
 // The points of a write: their order, what is done at each, and that no lock is held there.
+use crate::asserts::check;
 use crate::calls::{comes_to, moved, read, record, trim_by, write, write_by};
 use crate::rig::{Story, lived};
 use array_book::{Controller, Gate, Point, Sizes, WorkFault, Worker};
@@ -54,14 +55,14 @@ impl Story for WritesAndMoves {
     >(&self, rt: &R, alloc: Global, worker: &mut Worker<'_, MemDrive, N, A, B>) {
         let gate = Reached::new(self.0);
         let written = write_by(rt, alloc, worker, 3, 7, &gate);
-        assert!(rt; written == Ok(record(3, 1, 0, 0)));
-        assert!(rt; gate.digits() == 1234);
+        check!(rt; written == Ok(record(3, 1, 0, 0)));
+        check!(rt; gate.digits() == 1234);
         let trimmed = trim_by(rt, alloc, worker, 3, &gate);
-        assert!(rt; trimmed == Ok(record(3, 2, 0, 1)));
-        assert!(rt; gate.digits() == 12_341_234);
+        check!(rt; trimmed == Ok(record(3, 2, 0, 1)));
+        check!(rt; gate.digits() == 12_341_234);
         let demoted = moved(worker.migrate(rt, alloc, 48, &gate));
-        assert!(rt; demoted == Some(record(3, 2, 1, 256)));
-        assert!(rt; gate.digits() == 123_412_341_234);
+        check!(rt; demoted == Some(record(3, 2, 1, 256)));
+        check!(rt; gate.digits() == 123_412_341_234);
     }
 }
 
@@ -175,14 +176,14 @@ impl Story for Watched {
         B: map_words::Naming,
         R: Abort + Wait,
     >(&self, rt: &R, _alloc: Global, _worker: &mut Worker<'_, MemDrive, N, A, B>) {
-        assert!(rt; self.late.load(SeqCst) == 0);
-        assert!(rt; self.seen.load(SeqCst) == 101_202_204_235);
-        assert!(rt; self.written.load(SeqCst) == record(9, 3, 0, 0).key());
+        check!(rt; self.late.load(SeqCst) == 0);
+        check!(rt; self.seen.load(SeqCst) == 101_202_204_235);
+        check!(rt; self.written.load(SeqCst) == record(9, 3, 0, 0).key());
     }
 }
 
 #[test]
 fn each_point_of_a_write_comes_after_what_it_says(rt: HostRuntime) {
     let settled = lived(&rt, rt.alloc(), &[5, 2], &Watched::new());
-    assert!(rt; settled == (Ok(()), 2));
+    check!(rt; settled == (Ok(()), 2));
 }

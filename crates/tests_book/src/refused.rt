@@ -7,6 +7,7 @@ ghost use Rattle.flat_machine.specs.Flat.{Flat};
 ghost use Rattle.header_scan.specs.Restarts.{AreAllSound};
 ghost use Rattle.slot_words.specs.Places.{table_slots};
 
+use crate::asserts::check;
 use crate::calls::{payload, trim, write};
 use crate::rig::{Story, Tables, grouped, named, new_history, new_tables, play, released};
 use array_book::{Claim, Deed, NoGate, SettleFault, Settled, Sizes, WorkFault, Worker, begin};
@@ -108,10 +109,10 @@ fn written_parts<R: Abort>(rt: &R, alloc: Global, case: &Refused) -> Parts<MemDr
 {
     let array: Array<MemDrive, Plain> = grouped(rt, alloc, 2, &GROUPS);
     let Ok((mut parts, _claims)) = array.into_parts(alloc) else {
-        panic!(rt; "not taken apart")
+        rt.panic("not taken apart")
     };
-    assert!(rt; parts.groups.shape().payload == 40 && 0 < parts.groups.slots_of(0));
-    assert!(rt; parts.write(0, &case.unit(), &mut [0; 144]) == Ok(()));
+    check!(rt; parts.groups.shape().payload == 40 && 0 < parts.groups.slots_of(0));
+    check!(rt; parts.write(0, &case.unit(), &mut [0; 144]) == Ok(()));
     parts
 }
 
@@ -119,7 +120,7 @@ fn written_parts<R: Abort>(rt: &R, alloc: Global, case: &Refused) -> Parts<MemDr
 fn fail_both<N: slot_words::Naming, R: Abort>(rt: &R, array: &mut Array<MemDrive, Claim<N>>)
     ensures { (F : Flat) → ShowsArray array.old F → (G : Flat) × ShowsArray array.new G }
 {
-    assert!(rt; array.drive_count() > 1);
+    check!(rt; array.drive_count() > 1);
     array.fuse(0, 1);
     array.fuse(1, 1);
 }
@@ -137,20 +138,20 @@ fn remade<N: slot_words::Naming, R: Abort>(
     ensures sizes { (result.parts.groups.blocks ≡ 16) × (result.parts.groups.payload ≡ 40) }
 {
     let Ok(claim) = words.claim(pass, 0) else {
-        panic!(rt; "slot 0 is free")
+        rt.panic("slot 0 is free")
     };
     let mut claims = Vec::new(alloc);
     if let Err(_kept) = claims.push(Claim::of(claim)) {
-        panic!(rt; "no memory")
+        rt.panic("no memory")
     }
     let (array, others) = match restart(alloc, written_parts(rt, alloc, case), claims) {
         Ok(made) => made,
-        Err(_back) => panic!(rt; "not restarted"),
+        Err(_back) => rt.panic("not restarted"),
     };
-    assert!(rt; others.is_empty());
+    check!(rt; others.is_empty());
     others.destroy_empty();
     let shape = array.shape();
-    assert!(rt; shape.blocks == 16 && shape.payload == 40);
+    check!(rt; shape.blocks == 16 && shape.payload == 40);
     array
 }
 
@@ -169,7 +170,7 @@ fn failing<N: slot_words::Naming, R: Abort>(
     let mut array = remade(rt, alloc, words, pass, case);
     fail_both(rt, &mut array);
     let shape = array.shape();
-    assert!(rt; shape.blocks == 16 && shape.payload == 40);
+    check!(rt; shape.blocks == 16 && shape.payload == 40);
     array
 }
 
@@ -207,7 +208,7 @@ fn refuses<
     let (history, keeper, hand) = begin(opened, &array);
     let begun = (array, history, keeper, hand);
     let (settled, left) = play(rt, alloc, begun, bench, &[4], case);
-    assert!(rt; settled == Err(SettleFault::Differs(3)));
+    check!(rt; settled == Err(SettleFault::Differs(3)));
     let Settled {
         array,
         words,
@@ -217,7 +218,7 @@ fn refuses<
         missing: _,
     } = left;
     let Some(mut pass) = pass else {
-        panic!(rt; "no Pass came back")
+        rt.panic("no Pass came back")
     };
     let slot = case.slot;
     let Ok(claim) = words.claim(&mut pass, slot) else {
@@ -225,7 +226,7 @@ fn refuses<
     };
     assert!(rt; claim.generation() == 2, "slot {slot}");
     words.release(&mut pass, claim);
-    assert!(rt; released(rt, &words, &mut pass, array) == 1);
+    check!(rt; released(rt, &words, &mut pass, array) == 1);
 }
 
 #[test]

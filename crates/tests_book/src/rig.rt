@@ -7,6 +7,7 @@ ghost use Rattle.map_words.specs.Places.{blocks_of};
 ghost use Rattle.slot_words.specs.Places.{table_slots};
 ghost use Rattle.array_book.specs.Acts.{IsEndOf};
 
+use crate::asserts::check;
 use array_book::{
     Book, Claim, Deed, Ended, Job, RunFault, SettleFault, Settled, Sizes, WorkFault, Worker, begin,
     run_workers, settle,
@@ -170,7 +171,7 @@ pub(crate) fn new_map(rt: &impl Abort, alloc: Global) -> map_words::Unnamed
     ensures { blocks_of result ≡ 16 }
 {
     let Ok(map) = MapWords::new(alloc, 16) else {
-        panic!(rt; "no map words")
+        rt.panic("no map words")
     };
     map
 }
@@ -178,7 +179,7 @@ pub(crate) fn new_map(rt: &impl Abort, alloc: Global) -> map_words::Unnamed
 /// New tables.
 pub(crate) fn new_tables(rt: &impl Abort, alloc: Global) -> Tables {
     let Ok(slots) = SlotWords::new(alloc, 65_536) else {
-        panic!(rt; "no slot words")
+        rt.panic("no slot words")
     };
     Tables {
         slots,
@@ -223,10 +224,10 @@ pub(crate) fn grouped<C: Hold, R: Abort>(
     ensures sizes { (result.parts.groups.blocks ≡ 16) × (result.parts.groups.payload ≡ 40) }
 {
     let Ok(shape) = Shape::new(8, segments, 40, 16) else {
-        panic!(rt; "no shape")
+        rt.panic("no shape")
     };
     let Ok(mut array) = Array::in_memory(alloc, shape, 4) else {
-        panic!(rt; "no array")
+        rt.panic("no array")
     };
     for (class, extent, drives) in groups {
         make_group(rt, alloc, &mut array, *class, *extent, *drives);
@@ -248,9 +249,9 @@ fn make_group<C: Hold, R: Abort>(
 {
     let members = drives.map(|drive| Member { drive, extent });
     let Ok((_group, claims)) = array.make_group(alloc, class, &members) else {
-        panic!(rt; "no group")
+        rt.panic("no group")
     };
-    assert!(rt; claims.is_empty());
+    check!(rt; claims.is_empty());
     claims.destroy_empty();
 }
 
@@ -287,7 +288,7 @@ pub(crate) fn laid_out<C: Hold, R: Abort>(
 /// A history without a name.
 pub(crate) fn new_history(rt: &impl Abort, alloc: Global) -> Opened<Deed> {
     let Ok(opened) = Opened::new(alloc) else {
-        panic!(rt; "no history")
+        rt.panic("no history")
     };
     opened
 }
@@ -302,7 +303,7 @@ pub(crate) fn hired<N: Sizes, R: Abort>(
     ensures hired { keeper.new.hired ≡ keeper.old.hired + 1 }
 {
     let Some(hand) = keeper.hire(history) else {
-        panic!(rt; "no hand")
+        rt.panic("no hand")
     };
     hand
 }
@@ -325,7 +326,7 @@ fn parted<N: slot_words::Naming + Sizes, A: map_words::Naming, B: map_words::Nam
     let mut all = Vec::new(alloc);
     for _ in 1..count {
         let (Ok(one), Ok(other)) = (even.split(&mut shares.even), odd.split(&mut shares.odd)) else {
-            panic!(rt; "no share is left")
+            rt.panic("no share is left")
         };
         let part = Ended {
             pass: words.split(&mut shares.pass),
@@ -333,7 +334,7 @@ fn parted<N: slot_words::Naming + Sizes, A: map_words::Naming, B: map_words::Nam
             odd: other,
             hand: hired(rt, history, keeper),
         };
-        assert!(rt; all.push(part).is_ok());
+        check!(rt; all.push(part).is_ok());
     }
     let Shares { pass, even, odd } = shares;
     let last = Ended {
@@ -342,7 +343,7 @@ fn parted<N: slot_words::Naming + Sizes, A: map_words::Naming, B: map_words::Nam
         odd,
         hand,
     };
-    assert!(rt; all.push(last).is_ok());
+    check!(rt; all.push(last).is_ok());
     all
 }
 
@@ -373,17 +374,17 @@ fn played<
             },
         ) = hands.pop()
         else {
-            panic!(rt; "too few hands")
+            rt.panic("too few hands")
         };
         let worker = Worker::new(book, *number, pass, (even, odd), hand);
-        assert!(rt; workers.push(worker).is_ok());
+        check!(rt; workers.push(worker).is_ok());
     }
     let works = Works { story };
-    assert!(rt; run_workers(rt, alloc, &mut workers, &works) == story.ran());
+    check!(rt; run_workers(rt, alloc, &mut workers, &works) == story.ran());
     story.report_all(rt, alloc, &mut workers);
     let mut ended = Vec::new(alloc);
     for worker in workers {
-        assert!(rt; ended.push(worker.end()).is_ok());
+        check!(rt; ended.push(worker.end()).is_ok());
     }
     ended
 }
@@ -438,7 +439,7 @@ pub(crate) fn play<
     );
     let book = match Book::new(alloc, array, words, (even, odd), (history, keeper)) {
         Ok(book) => book,
-        Err(_back) => panic!(rt; "no book"),
+        Err(_back) => rt.panic("no book"),
     };
     let ended = played(rt, alloc, &book, hands, numbers, story);
     match settle(alloc, book, ended) {
@@ -517,7 +518,7 @@ fn live<
     let mut bench = named::<N, A, B>(tables);
     let mut spare = bench.words.split(&mut bench.shares.pass);
     if let Some(record) = taken {
-        assert!(rt; record.block < 16 && record.version > 0);
+        check!(rt; record.block < 16 && record.version > 0);
         bench.even.take(&mut bench.shares.even, record);
     }
     let array = laid_out(rt, alloc, story.layout());
@@ -532,6 +533,6 @@ fn live<
         keeper: _,
         missing,
     } = left;
-    assert!(rt; missing.is_none() != numbers.is_empty());
+    check!(rt; missing.is_none() != numbers.is_empty());
     (settled, released(rt, &words, &mut spare, array))
 }

@@ -1,4 +1,5 @@
 // Mirrored slots that are all claimed, and what a write and a trim find when one is released.
+use crate::asserts::check;
 use crate::books::one_after_other;
 use crate::calls::{moved, reads, record, trim, write};
 use crate::rig::Story;
@@ -18,8 +19,8 @@ impl Story for FindsNone {
         B: map_words::Naming,
         R: Abort + Wait,
     >(&self, rt: &R, alloc: Global, worker: &mut Worker<'_, MemDrive, N, A, B>) {
-        assert!(rt; write(rt, alloc, worker, 3, 7) == Err(WorkFault::NoRoom));
-        assert!(rt; trim(rt, alloc, worker, 3) == Err(WorkFault::NoRoom));
+        check!(rt; write(rt, alloc, worker, 3, 7) == Err(WorkFault::NoRoom));
+        check!(rt; trim(rt, alloc, worker, 3) == Err(WorkFault::NoRoom));
     }
 }
 
@@ -33,17 +34,17 @@ impl Story for FindsOne {
         B: map_words::Naming,
         R: Abort + Wait,
     >(&self, rt: &R, alloc: Global, worker: &mut Worker<'_, MemDrive, N, A, B>) {
-        assert!(rt; write(rt, alloc, worker, 3, 7) == Ok(record(3, 1, 0, 151)));
-        assert!(rt; write(rt, alloc, worker, 3, 8) == Err(WorkFault::NoRoom));
-        assert!(rt; trim(rt, alloc, worker, 3) == Err(WorkFault::NoRoom));
+        check!(rt; write(rt, alloc, worker, 3, 7) == Ok(record(3, 1, 0, 151)));
+        check!(rt; write(rt, alloc, worker, 3, 8) == Err(WorkFault::NoRoom));
+        check!(rt; trim(rt, alloc, worker, 3) == Err(WorkFault::NoRoom));
         let demoted = moved(worker.migrate(rt, alloc, 48, &NoGate));
-        assert!(rt; demoted == Some(record(3, 1, 1, 256)));
-        assert!(rt; write(rt, alloc, worker, 3, 8) == Ok(record(3, 2, 0, 151)));
-        assert!(rt; reads(rt, alloc, worker, Controller::Even, record(3, 2, 0, 151), 8));
+        check!(rt; demoted == Some(record(3, 1, 1, 256)));
+        check!(rt; write(rt, alloc, worker, 3, 8) == Ok(record(3, 2, 0, 151)));
+        check!(rt; reads(rt, alloc, worker, Controller::Even, record(3, 2, 0, 151), 8));
     }
 }
 
 #[test]
 fn a_write_finds_no_room_until_a_slot_is_given_back(rt: HostRuntime) {
-    assert!(rt; one_after_other(&rt, rt.alloc(), 48, &FindsNone, &FindsOne) == 1);
+    check!(rt; one_after_other(&rt, rt.alloc(), 48, &FindsNone, &FindsOne) == 1);
 }

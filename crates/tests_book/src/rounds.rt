@@ -1,4 +1,5 @@
 // Workers in threads that write, trim, move and read the same blocks at once.
+use crate::asserts::check;
 use crate::calls::{read, trim, write};
 use crate::rig::{Story, lived};
 use array_book::{Controller, NoGate, Sizes, WorkFault, Worker};
@@ -44,6 +45,6 @@ impl Story for Rounds {
 fn workers_that_trim_settle_and_give_all_slots_back(rt: HostRuntime) {
     for numbers in [[5, 2, 9], [4, 7, 12]] {
         let settled = lived(&rt, rt.alloc(), &numbers, &Rounds);
-        assert!(rt; settled == (Ok(()), 16));
+        check!(rt; settled == (Ok(()), 16));
     }
 }

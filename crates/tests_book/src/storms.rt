@@ -1,4 +1,5 @@
 // Storms of workers, all of which agree, and what the workers carried out.
+use crate::asserts::check;
 use step_core::Refusal;
 use storm::{Fuse, Orders, Storm, StormFault, Tally, run_orders, run_storm};
 
@@ -22,7 +23,7 @@ fn a_worker_alone_writes_and_reads_each_round_and_moves_from_the_fifth_on(rt: Ho
         blanks: 50,
         lost: 0,
     };
-    assert!(rt; reported == Some(expected));
+    check!(rt; reported == Some(expected));
 }
 
 // A write may find no slot while others hold them, but fewer than one in sixteen should.
@@ -76,9 +77,9 @@ fn storms_agree_whichever_drive_is_lost_at_whichever_call(rt: HostRuntime) {
 
 #[test]
 fn sixteen_workers_can_be_had_and_no_more(rt: HostRuntime) {
-    assert!(rt; tally(run_storm(&rt, rt.alloc(), 16, 4)).is_some());
+    check!(rt; tally(run_storm(&rt, rt.alloc(), 16, 4)).is_some());
     let full = StormFault::Setup(Refusal::Full);
-    assert!(rt; run_storm(&rt, rt.alloc(), 17, 4) == Err(full));
+    check!(rt; run_storm(&rt, rt.alloc(), 17, 4) == Err(full));
 }
 
 #[test]

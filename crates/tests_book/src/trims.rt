@@ -1,4 +1,5 @@
 // Trims of workers: their records and what is read then.
+use crate::asserts::check;
 use crate::calls::{moved, reads_none, reads_trim, record, trim, trim_by, write};
 use crate::points::Reached;
 use crate::rig::{Layout, Story, lived};
@@ -19,23 +20,23 @@ impl Story for TrimsInTurn {
         R: Abort + Wait,
     >(&self, rt: &R, alloc: Global, workers: &mut [Worker<'_, MemDrive, N, A, B>]) {
         let (even, odd) = (Controller::Even, Controller::Odd);
-        assert!(rt; workers.len() == 2);
+        check!(rt; workers.len() == 2);
         let gate = Reached::new(true);
-        assert!(rt; write(rt, alloc, &mut workers[0], 3, 7) == Ok(record(3, 1, 0, 0)));
-        assert!(rt; trim_by(rt, alloc, &mut workers[0], 3, &gate) == Ok(record(3, 2, 0, 1)));
-        assert!(rt; gate.digits() == 1234);
-        assert!(rt; reads_none(rt, alloc, &mut workers[0], even, 3));
-        assert!(rt; reads_trim(rt, alloc, &mut workers[0], odd, record(3, 2, 0, 1)));
+        check!(rt; write(rt, alloc, &mut workers[0], 3, 7) == Ok(record(3, 1, 0, 0)));
+        check!(rt; trim_by(rt, alloc, &mut workers[0], 3, &gate) == Ok(record(3, 2, 0, 1)));
+        check!(rt; gate.digits() == 1234);
+        check!(rt; reads_none(rt, alloc, &mut workers[0], even, 3));
+        check!(rt; reads_trim(rt, alloc, &mut workers[0], odd, record(3, 2, 0, 1)));
 
-        assert!(rt; trim(rt, alloc, &mut workers[0], 9) == Ok(record(9, 1, 0, 0)));
-        assert!(rt; trim(rt, alloc, &mut workers[1], 9) == Ok(record(9, 2, 0, 2)));
-        assert!(rt; reads_trim(rt, alloc, &mut workers[1], even, record(9, 2, 0, 2)));
+        check!(rt; trim(rt, alloc, &mut workers[0], 9) == Ok(record(9, 1, 0, 0)));
+        check!(rt; trim(rt, alloc, &mut workers[1], 9) == Ok(record(9, 2, 0, 2)));
+        check!(rt; reads_trim(rt, alloc, &mut workers[1], even, record(9, 2, 0, 2)));
 
-        assert!(rt; reads_trim(rt, alloc, &mut workers[1], odd, record(9, 1, 0, 0)));
-        assert!(rt; write(rt, alloc, &mut workers[1], 4, 8) == Ok(record(4, 1, 0, 0)));
-        assert!(rt; reads_trim(rt, alloc, &mut workers[1], odd, record(9, 2, 0, 2)));
-        assert!(rt; write(rt, alloc, &mut workers[0], 9, 6) == Ok(record(9, 3, 0, 3)));
-        assert!(rt; reads_trim(rt, alloc, &mut workers[1], even, record(9, 2, 0, 2)));
+        check!(rt; reads_trim(rt, alloc, &mut workers[1], odd, record(9, 1, 0, 0)));
+        check!(rt; write(rt, alloc, &mut workers[1], 4, 8) == Ok(record(4, 1, 0, 0)));
+        check!(rt; reads_trim(rt, alloc, &mut workers[1], odd, record(9, 2, 0, 2)));
+        check!(rt; write(rt, alloc, &mut workers[0], 9, 6) == Ok(record(9, 3, 0, 3)));
+        check!(rt; reads_trim(rt, alloc, &mut workers[1], even, record(9, 2, 0, 2)));
     }
 }
 
@@ -51,12 +52,12 @@ impl Story for MovesATrim {
     >(&self, rt: &R, alloc: Global, worker: &mut Worker<'_, MemDrive, N, A, B>) {
         for block in 0..5u16 {
             let trimmed = trim(rt, alloc, worker, u32::from(block));
-            assert!(rt; trimmed == Ok(record(u32::from(block), 1, 0, block)));
+            check!(rt; trimmed == Ok(record(u32::from(block), 1, 0, block)));
         }
         let demoted = moved(worker.migrate(rt, alloc, 44, &NoGate));
-        assert!(rt; demoted == Some(record(0, 1, 1, 256)));
-        assert!(rt; matches!(worker.migrate(rt, alloc, 44, &NoGate), Ok(Migration::Idle)));
-        assert!(rt; reads_trim(rt, alloc, worker, Controller::Even, record(0, 1, 1, 256)));
+        check!(rt; demoted == Some(record(0, 1, 1, 256)));
+        check!(rt; matches!(worker.migrate(rt, alloc, 44, &NoGate), Ok(Migration::Idle)));
+        check!(rt; reads_trim(rt, alloc, worker, Controller::Even, record(0, 1, 1, 256)));
     }
 }
 
@@ -74,34 +75,34 @@ impl Story for TrimsInLittleRoom {
         B: map_words::Naming,
         R: Abort + Wait,
     >(&self, rt: &R, alloc: Global, worker: &mut Worker<'_, MemDrive, N, A, B>) {
-        assert!(rt; trim(rt, alloc, worker, 0) == Ok(record(0, 1, 0, 0)));
-        assert!(rt; write(rt, alloc, worker, 1, 7) == Ok(record(1, 1, 0, 1)));
-        assert!(rt; trim(rt, alloc, worker, 2) == Err(WorkFault::NoRoom));
-        assert!(rt; trim(rt, alloc, worker, 0) == Err(WorkFault::NoRoom));
+        check!(rt; trim(rt, alloc, worker, 0) == Ok(record(0, 1, 0, 0)));
+        check!(rt; write(rt, alloc, worker, 1, 7) == Ok(record(1, 1, 0, 1)));
+        check!(rt; trim(rt, alloc, worker, 2) == Err(WorkFault::NoRoom));
+        check!(rt; trim(rt, alloc, worker, 0) == Err(WorkFault::NoRoom));
 
         let demoted = moved(worker.migrate(rt, alloc, 1, &NoGate));
-        assert!(rt; demoted == Some(record(0, 1, 1, 128)));
-        assert!(rt; trim(rt, alloc, worker, 1) == Ok(record(1, 2, 0, 0)));
-        assert!(rt; trim(rt, alloc, worker, 0) == Ok(record(0, 2, 0, 1)));
+        check!(rt; demoted == Some(record(0, 1, 1, 128)));
+        check!(rt; trim(rt, alloc, worker, 1) == Ok(record(1, 2, 0, 0)));
+        check!(rt; trim(rt, alloc, worker, 0) == Ok(record(0, 2, 0, 1)));
         let demoted = moved(worker.migrate(rt, alloc, 1, &NoGate));
-        assert!(rt; demoted == Some(record(1, 2, 1, 129)));
+        check!(rt; demoted == Some(record(1, 2, 1, 129)));
     }
 }
 
 #[test]
 fn a_trimmed_block_is_read_as_a_record_without_a_payload(rt: HostRuntime) {
     let settled = lived(&rt, rt.alloc(), &[1, 2], &TrimsInTurn);
-    assert!(rt; settled == (Ok(()), 3));
+    check!(rt; settled == (Ok(()), 3));
 }
 
 #[test]
 fn a_trimmed_block_is_moved(rt: HostRuntime) {
     let settled = lived(&rt, rt.alloc(), &[4], &MovesATrim);
-    assert!(rt; settled == (Ok(()), 5));
+    check!(rt; settled == (Ok(()), 5));
 }
 
 #[test]
 fn a_trim_makes_its_block_the_last_written(rt: HostRuntime) {
     let settled = lived(&rt, rt.alloc(), &[4], &TrimsInLittleRoom);
-    assert!(rt; settled == (Ok(()), 2));
+    check!(rt; settled == (Ok(()), 2));
 }

@@ -1,5 +1,6 @@
 // Two workers in threads that write one block: each has claimed before either commits, and worker 2's write is acknowledged
 // before worker 1 goes on.
+use crate::asserts::check;
 use crate::calls::{comes_to, reads, record, write, write_by};
 use crate::rig::{Story, lived};
 use array_book::{Controller, Gate, Point, Sizes, WorkFault, Worker};
@@ -59,7 +60,7 @@ impl<'a> Gate for Turn<'a> {
 // The record of block 3 with this key.
 fn record_of<R: Abort>(rt: &R, key: &AtomicU64) -> Record {
     let Some(record) = Record::of_key(3, key.load(SeqCst)) else {
-        panic!(rt; "not written")
+        rt.panic("not written")
     };
     record
 }
@@ -92,21 +93,21 @@ impl Story for Turns {
         B: map_words::Naming,
         R: Abort + Wait,
     >(&self, rt: &R, alloc: Global, worker: &mut Worker<'_, MemDrive, N, A, B>) {
-        assert!(rt; self.late.load(SeqCst) == 0);
+        check!(rt; self.late.load(SeqCst) == 0);
         let older = record_of(rt, &self.second);
         let last = record_of(rt, &self.first);
-        assert!(rt; older.place < 2 && last.place < 2 && older.place != last.place);
-        assert!(rt; older == record(3, 1, 0, older.place));
-        assert!(rt; last == record(3, 2, 0, last.place));
-        assert!(rt; reads(rt, alloc, worker, Controller::Odd, last, 1));
-        assert!(rt; reads(rt, alloc, worker, Controller::Even, older, 2));
-        assert!(rt; write(rt, alloc, worker, 7, 3) == Ok(record(7, 1, 0, older.place)));
-        assert!(rt; reads(rt, alloc, worker, Controller::Even, last, 1));
+        check!(rt; older.place < 2 && last.place < 2 && older.place != last.place);
+        check!(rt; older == record(3, 1, 0, older.place));
+        check!(rt; last == record(3, 2, 0, last.place));
+        check!(rt; reads(rt, alloc, worker, Controller::Odd, last, 1));
+        check!(rt; reads(rt, alloc, worker, Controller::Even, older, 2));
+        check!(rt; write(rt, alloc, worker, 7, 3) == Ok(record(7, 1, 0, older.place)));
+        check!(rt; reads(rt, alloc, worker, Controller::Even, last, 1));
     }
 }
 
 #[test]
 fn the_last_commit_of_two_is_read_once_the_older_place_is_written_over(rt: HostRuntime) {
     let settled = lived(&rt, rt.alloc(), &[1, 2], &Turns::new());
-    assert!(rt; settled == (Ok(()), 2));
+    check!(rt; settled == (Ok(()), 2));
 }

@@ -1,6 +1,7 @@
 // A disk that gets one more drive.
 ghost use Rattle.std.specs.Prelude.{◌≡◌};
 
+use crate::asserts::check;
 use crate::calls::publish_call;
 use crate::model::{agree, write};
 use crate::recovered::{begin, formatted, groups_of, opened_in};
@@ -30,11 +31,11 @@ pub(crate) fn form<V: Vault>(rt: &impl Abort, alloc: Global, plan: &Plan, vault:
         };
         written &= vault.write_unit(place, &[0; FORM_BYTES]).is_ok();
     }
-    assert!(rt; written);
+    check!(rt; written);
     let (groups, _extents) = groups_of(rt, alloc, plan);
     let mut batch = Batch::new(alloc);
     let put = write_groups(alloc, &mut batch, &groups, plan.drives).is_ok();
-    assert!(rt; put && keep(vault, &batch).is_ok());
+    check!(rt; put && keep(vault, &batch).is_ok());
 }
 
 // Gives a drive units of any bytes.
@@ -46,11 +47,11 @@ pub(crate) fn attach<V: Vault>(
     drive: u8,
 ) {
     let Ok(rubbish) = vec![in alloc; 0xa5u8; plan.shape.unit_bytes()] else {
-        panic!(rt; "no memory")
+        rt.panic("no memory")
     };
     for address in 0..plan.shape.drive_units() {
         let put = vault.write_unit(Place { drive, address }, &rubbish).is_ok();
-        assert!(rt; put);
+        check!(rt; put);
     }
 }
 
@@ -74,7 +75,7 @@ pub(crate) fn added<V: Vault>(
     vault: &mut V,
 ) -> Result<(), AdditionFault> {
     let Ok(found) = find_groups(alloc, vault, &plan.shape) else {
-        panic!(rt; "no groups")
+        rt.panic("no groups")
     };
     add_drive(
         alloc,
@@ -99,7 +100,7 @@ fn open_found<N: Chronicle, V: Vault>(
     requires { opened ≡ N.chronicle }
 {
     let Ok(form) = find_groups(alloc, vault, &plan.shape) else {
-        panic!(rt; "no groups")
+        rt.panic("no groups")
     };
     let (mut store, mut changes) = recover::<N, V>(
         alloc,
@@ -112,7 +113,7 @@ fn open_found<N: Chronicle, V: Vault>(
         plan.size,
         absent,
     )?;
-    assert!(rt; agree(rt, &mut store, model));
+    check!(rt; agree(rt, &mut store, model));
     write(rt, alloc, &mut store, model, (300, 100, 9));
     publish_call(rt, &mut store, &mut changes, vault);
     Ok(())
@@ -133,16 +134,16 @@ pub(crate) fn resume<V: Vault>(
 // Tests that all slots are sound, and that the loads of no two drives are two apart.
 fn test_spread<V: Vault>(rt: &impl Abort, alloc: Global, plan: &Plan, vault: &mut V, drives: u8) {
     let Ok(form) = find_groups(alloc, vault, &plan.shape) else {
-        panic!(rt; "no groups")
+        rt.panic("no groups")
     };
-    assert!(rt; form.drives == drives);
+    check!(rt; form.drives == drives);
     let first = load_of(&form.groups, 0);
     for drive in 0..drives {
         let load = load_of(&form.groups, drive);
-        assert!(rt; load > 0 && load <= first.saturating_add(1) && first <= load.saturating_add(1));
+        check!(rt; load > 0 && load <= first.saturating_add(1) && first <= load.saturating_add(1));
     }
     let Ok(found) = find(alloc, vault, &plan.shape, drives, &[false; DRIVES]) else {
-        panic!(rt; "nothing is found")
+        rt.panic("nothing is found")
     };
     let mut parts = Parts {
         shape: plan.shape,
@@ -152,9 +153,9 @@ fn test_spread<V: Vault>(rt: &impl Abort, alloc: Global, plan: &Plan, vault: &mu
         note: None,
     };
     let Ok(findings) = scrub_parts(alloc, &mut parts) else {
-        panic!(rt; "no memory")
+        rt.panic("no memory")
     };
-    assert!(rt; findings.slots > 0 && findings.unsound == 0);
+    check!(rt; findings.slots > 0 && findings.unsound == 0);
 }
 
 #[test]
@@ -166,18 +167,18 @@ fn a_disk_grows_to_nine_drives_and_loses_any(rt: HostRuntime) {
     form(&rt, alloc, &plan, &mut vault);
     begin(&rt, alloc, &plan, &mut vault, &mut model);
     // Its places aren't there.
-    assert!(&rt; added(&rt, alloc, &plan, &mut vault) == Err(AdditionFault::Misfit));
+    check!(&rt; added(&rt, alloc, &plan, &mut vault) == Err(AdditionFault::Misfit));
     for drive in 6..9u8 {
         attach(&rt, alloc, &plan, &mut vault, drive);
         let done = added(&rt, alloc, &plan, &mut vault);
-        assert!(&rt; done.is_ok());
+        check!(&rt; done.is_ok());
         test_spread(&rt, alloc, &plan, &mut vault, drive + 1);
         let again = resume(&rt, alloc, &plan, &mut vault, &[false; DRIVES], &mut model);
-        assert!(&rt; again.is_ok());
+        check!(&rt; again.is_ok());
     }
     let mut absent = [false; DRIVES];
     absent[8] = true;
     let less = resume(&rt, alloc, &plan, &mut vault, &absent, &mut model);
-    assert!(&rt; less.is_ok());
-    assert!(&rt; added(&rt, alloc, &plan, &mut vault) == Err(AdditionFault::Lost(8)));
+    check!(&rt; less.is_ok());
+    check!(&rt; added(&rt, alloc, &plan, &mut vault) == Err(AdditionFault::Lost(8)));
 }

@@ -1,4 +1,5 @@
 // Bytes at any offset, in blocks of 64.
+use crate::asserts::check;
 use crate::model::{agree, write, zero};
 use crate::rig::{plan_of, store_of};
 use byte_store::ByteStore;
@@ -8,10 +9,10 @@ use std::sync::atomic::AtomicU64;
 
 // Writes, zeros and reads a store of 1,000 bytes.
 fn test_bytes<S: ByteStore>(rt: &impl Abort, alloc: Global, store: &mut S) {
-    assert!(rt; store.size() == 1000);
-    assert!(rt; store.block_bytes() == 64);
+    check!(rt; store.size() == 1000);
+    check!(rt; store.block_bytes() == 64);
     let mut model = [0u8; 1000];
-    assert!(rt; agree(rt, store, &model));
+    check!(rt; agree(rt, store, &model));
     for piece in [
         (60usize, 9usize, 1u8),
         (0, 64, 20),
@@ -23,11 +24,11 @@ fn test_bytes<S: ByteStore>(rt: &impl Abort, alloc: Global, store: &mut S) {
         write(rt, alloc, store, &mut model, piece);
         store.rest(alloc);
     }
-    assert!(rt; agree(rt, store, &model));
+    check!(rt; agree(rt, store, &model));
     for range in [(64usize, 64usize), (1, 2), (100, 300), (998, 2)] {
         zero(rt, alloc, store, &mut model, range);
     }
-    assert!(rt; agree(rt, store, &model));
+    check!(rt; agree(rt, store, &model));
 }
 
 #[test]

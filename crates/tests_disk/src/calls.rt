@@ -1,5 +1,6 @@
 // Calls of a store and a vault of any type, without their contracts. Nothing here is proved of them, and over types that are spelled out
 // each contract takes a minute to check.
+use crate::asserts::check;
 use array_store::ArrayStore;
 use byte_store::{ByteStore, StoreFault};
 use cached_drive::CachedDrive;
@@ -17,7 +18,7 @@ pub(crate) fn publish_call<N: Chronicle, V: Vault>(
     vault: &mut V,
 ) {
     let kept = publish(store, changes, vault);
-    assert!(rt; kept.is_ok());
+    check!(rt; kept.is_ok());
 }
 
 /// Makes all bytes durable.

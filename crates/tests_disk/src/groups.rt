@@ -1,4 +1,5 @@
 // The groups of a disk are found again in its vault's table.
+use crate::asserts::check;
 use crate::recovered::groups_of;
 use crate::rig::plan_of;
 use disk_shape::Plan;
@@ -21,7 +22,7 @@ fn blank(rt: &impl Abort, alloc: Global) -> MemVault {
         };
         written &= vault.write_unit(place, &[0; FORM_BYTES]).is_ok();
     }
-    assert!(rt; written);
+    check!(rt; written);
     vault
 }
 
@@ -35,12 +36,12 @@ fn test_found<V: Vault>(
     drives: u8,
 ) {
     let Ok(found) = find_groups(alloc, vault, shape) else {
-        panic!(rt; "no groups")
+        rt.panic("no groups")
     };
-    assert!(rt; found.drives == drives);
+    check!(rt; found.drives == drives);
     for group in 0..GROUPS as u16 {
-        assert!(rt; found.groups.class_of(group) == groups.class_of(group));
-        assert!(rt; found.groups.members(group) == groups.members(group));
+        check!(rt; found.groups.class_of(group) == groups.class_of(group));
+        check!(rt; found.groups.members(group) == groups.members(group));
     }
 }
 
@@ -48,21 +49,21 @@ fn test_found<V: Vault>(
 fn put<V: Vault>(rt: &impl Abort, alloc: Global, vault: &mut V, groups: &GroupTable, drives: u8) {
     let mut batch = Batch::new(alloc);
     let put = write_groups(alloc, &mut batch, groups, drives).is_ok();
-    assert!(rt; put && keep(vault, &batch).is_ok());
+    check!(rt; put && keep(vault, &batch).is_ok());
 }
 
 // The same files, with their writes in their bytes, so that reads are fast.
 fn folded(rt: &impl Abort, files: MemFiles) -> MemFiles {
     match files.left(Stop::Killed, 0) {
         Ok(files) => files,
-        Err(_) => panic!(rt; "no memory"),
+        Err(_) => rt.panic("no memory"),
     }
 }
 
 fn opened(rt: &impl Abort, alloc: Global, files: MemFiles, layout: Layout) -> FileVault<MemFiles> {
     match FileVault::open(alloc, files, layout) {
         Ok(vault) => vault,
-        Err(_) => panic!(rt; "not opened"),
+        Err(_) => rt.panic("not opened"),
     }
 }
 
@@ -73,10 +74,10 @@ fn made(rt: &impl Abort, alloc: Global, layout: Layout) -> MemFiles {
     for _ in 0..18 {
         pushed &= empty.push(Vec::new(alloc)).is_ok();
     }
-    assert!(rt; pushed);
+    check!(rt; pushed);
     match FileVault::create(alloc, MemFiles::new(alloc, empty), layout) {
         Ok(vault) => folded(rt, vault.into_files()),
-        Err(_) => panic!(rt; "not made"),
+        Err(_) => rt.panic("not made"),
     }
 }
 
@@ -91,7 +92,7 @@ fn tear(rt: &impl Abort, files: &mut MemFiles, layout: Layout) {
         let offset = layout.offset(place).unwrap_or(0);
         written &= files.write_at(TABLE, offset, &[1]).is_ok();
     }
-    assert!(rt; written);
+    check!(rt; written);
 }
 
 #[test]
@@ -113,12 +114,12 @@ fn torn_units_of_groups_are_read_from_the_journal_alone(rt: HostRuntime) {
     let mut files = made(&rt, alloc, layout);
     tear(&rt, &mut files, layout);
     let mut vault = opened(&rt, alloc, files, layout);
-    assert!(rt; find_groups(alloc, &mut vault, &plan.shape).err() == Some(FormFault::Missing));
+    check!(rt; find_groups(alloc, &mut vault, &plan.shape).err() == Some(FormFault::Missing));
 }
 
 fn none_of(rt: &impl Abort, alloc: Global, plan: &Plan) -> GroupTable {
     let Ok(groups) = GroupTable::new(alloc, &plan.shape) else {
-        panic!(rt; "no memory")
+        rt.panic("no memory")
     };
     groups
 }
@@ -132,7 +133,7 @@ fn groups_are_found_in_the_journal_and_once_it_is_settled(rt: HostRuntime) {
     put(&rt, alloc, &mut vault, &groups, plan.drives);
     test_found(&rt, alloc, &mut vault, &plan.shape, &groups, plan.drives);
     let mut batch = Batch::new(alloc);
-    assert!(rt; settle(&mut vault, &mut batch, &[false; DRIVES]).is_ok());
+    check!(rt; settle(&mut vault, &mut batch, &[false; DRIVES]).is_ok());
     test_found(&rt, alloc, &mut vault, &plan.shape, &groups, plan.drives);
 }
 
@@ -151,7 +152,7 @@ fn later_groups_are_found_and_none_in_zeros(rt: HostRuntime) {
         0,
     );
     put(&rt, alloc, &mut vault, &groups, 6);
-    assert!(rt; groups.agrees(&extents) && groups.take_group(&mut extents, 1).is_ok());
+    check!(rt; groups.agrees(&extents) && groups.take_group(&mut extents, 1).is_ok());
     put(&rt, alloc, &mut vault, &groups, 7);
     test_found(&rt, alloc, &mut vault, &plan.shape, &groups, 7);
 }
@@ -161,7 +162,7 @@ fn a_table_without_units_or_with_others_has_no_groups(rt: HostRuntime) {
     let alloc = rt.alloc();
     let plan = plan_of(&rt, 100_000, 64);
     let mut none = MemVault::new(alloc);
-    assert!(rt; find_groups(alloc, &mut none, &plan.shape).err() == Some(FormFault::Missing));
+    check!(rt; find_groups(alloc, &mut none, &plan.shape).err() == Some(FormFault::Missing));
     // A member of a group that has no number of a class.
     let mut vault = blank(&rt, alloc);
     let place = Place {
@@ -170,6 +171,6 @@ fn a_table_without_units_or_with_others_has_no_groups(rt: HostRuntime) {
     };
     let mut unit = [0; FORM_BYTES];
     unit[4] = 1;
-    assert!(rt; vault.write_unit(place, &unit).is_ok());
-    assert!(rt; find_groups(alloc, &mut vault, &plan.shape).err() == Some(FormFault::Misfit));
+    check!(rt; vault.write_unit(place, &unit).is_ok());
+    check!(rt; find_groups(alloc, &mut vault, &plan.shape).err() == Some(FormFault::Misfit));
 }

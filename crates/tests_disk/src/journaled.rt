@@ -2,6 +2,7 @@
 ghost use Rattle.std.specs.Prelude.{◌≡◌, []};
 ghost use Rattle.extents.specs.declared.mem_drive.Condition.TheVariants.{Present};
 
+use crate::asserts::check;
 use crate::calls::publish_call;
 use crate::model::{agree, write, zero};
 use crate::rig::{plan_of, store_over};
@@ -30,7 +31,7 @@ fn drive_of<N: Chronicle>(
     requires { hand.mine ≡ [] }
 {
     let Ok(cache) = MemDrive::new(alloc, &plan.shape) else {
-        panic!(rt; "no drive")
+        rt.panic("no drive")
     };
     CachedDrive::new(alloc, cache, history, keeper, hand)
 }
@@ -49,20 +50,20 @@ pub(crate) fn disk_of<N: Chronicle>(
     let pushed = drives
         .push(drive_of(rt, alloc, plan, &history, &mut keeper, first))
         .is_ok();
-    assert!(rt; pushed);
+    check!(rt; pushed);
     for _drive in 1..6u8 {
         let Some(hand) = keeper.hire(&history) else {
-            panic!(rt; "no hand")
+            rt.panic("no hand")
         };
         let pushed = drives
             .push(drive_of(rt, alloc, plan, &history, &mut keeper, hand))
             .is_ok();
-        assert!(rt; pushed);
+        check!(rt; pushed);
     }
     let store = store_over(rt, alloc, plan, drives);
     let bytes = plan.shape.unit_bytes();
     let Ok(changes) = Changes::new(alloc, history, keeper, bytes, [0; DRIVES]) else {
-        panic!(rt; "no changes")
+        rt.panic("no changes")
     };
     (store, changes)
 }
@@ -89,21 +90,21 @@ fn write_all<N: Chronicle, V: Vault>(
         write(rt, alloc, &mut store, &mut model, piece);
         publish_call(rt, &mut store, &mut changes, vault);
     }
-    assert!(rt; agree(rt, &mut store, &model));
+    check!(rt; agree(rt, &mut store, &model));
     publish_call(rt, &mut store, &mut changes, vault);
     let synced = sync(vault);
-    assert!(rt; synced.is_ok());
-    assert!(rt; vault.batches() == Ok(5));
+    check!(rt; synced.is_ok());
+    check!(rt; vault.batches() == Ok(5));
     // The first write lies in two blocks of the mirrored level, so in four units.
     let mut batch = Batch::new(alloc);
     let read = vault.read_batch(1, &mut batch);
-    assert!(rt; read.is_ok() && batch.len() == 4);
+    check!(rt; read.is_ok() && batch.len() == 4);
 }
 
 #[test]
 fn each_call_is_one_batch(rt: HostRuntime) {
     let Ok(opened) = Opened::new(rt.alloc()) else {
-        panic!(rt; "no memory")
+        rt.panic("no memory")
     };
     let plan = plan_of(&rt, 1000, 64);
     let mut vault = MemVault::new(rt.alloc());
@@ -134,20 +135,20 @@ fn keep_all<N: Chronicle, V: Vault + Drop>(
     }
     zero(rt, alloc, &mut disk, &mut model, (70, 30));
     let flushed = disk.flush();
-    assert!(rt; flushed.is_ok());
-    assert!(rt; agree(rt, &mut disk, &model));
+    check!(rt; flushed.is_ok());
+    check!(rt; agree(rt, &mut disk, &model));
     let settled = disk.settle();
-    assert!(rt; settled.is_ok());
+    check!(rt; settled.is_ok());
     for piece in [(500usize, 100usize, 7u8), (400, 130, 9)] {
         write(rt, alloc, &mut disk, &mut model, piece);
     }
-    assert!(rt; agree(rt, &mut disk, &model));
+    check!(rt; agree(rt, &mut disk, &model));
 }
 
 #[test]
 fn bytes_are_read_as_they_were_kept(rt: HostRuntime) {
     let Ok(opened) = Opened::new(rt.alloc()) else {
-        panic!(rt; "no memory")
+        rt.panic("no memory")
     };
     let plan = plan_of(&rt, 1000, 64);
     let vault = MemVault::new(rt.alloc());
@@ -168,16 +169,16 @@ fn failing_vault(rt: &impl Abort, alloc: Global, plan: &Plan) -> FileVault<MemFi
     let mut empty = Vec::new(alloc);
     for _ in 0..18 {
         let pushed = empty.push(Vec::new(alloc)).is_ok();
-        assert!(rt; pushed);
+        check!(rt; pushed);
     }
     let made = FileVault::create(alloc, MemFiles::new(alloc, empty), layout);
     let Ok(vault) = made else {
-        panic!(rt; "not made")
+        rt.panic("not made")
     };
     let mut files = vault.into_files();
     files.fail_file_after(1, 1);
     let Ok(vault) = FileVault::open(alloc, files, layout) else {
-        panic!(rt; "not opened")
+        rt.panic("not opened")
     };
     vault
 }
@@ -197,22 +198,22 @@ fn lose_one<N: Chronicle, V: Vault + Drop>(
     let mut model = [0u8; 1000];
     write(rt, alloc, &mut disk, &mut model, (60, 130, 1));
     let settled = disk.settle();
-    assert!(rt; settled == Err(StoreFault::Sync));
-    assert!(rt; disk.world().array().drive_count() == 6);
-    assert!(rt; disk.world().array().is_lost(1));
-    assert!(rt; !disk.world().array().is_lost(0));
+    check!(rt; settled == Err(StoreFault::Sync));
+    check!(rt; disk.world().array().drive_count() == 6);
+    check!(rt; disk.world().array().is_lost(1));
+    check!(rt; !disk.world().array().is_lost(0));
     let settled = disk.settle();
-    assert!(rt; settled.is_ok());
+    check!(rt; settled.is_ok());
     write(rt, alloc, &mut disk, &mut model, (300, 100, 5));
-    assert!(rt; agree(rt, &mut disk, &model));
+    check!(rt; agree(rt, &mut disk, &model));
     let flushed = disk.flush();
-    assert!(rt; flushed.is_ok());
+    check!(rt; flushed.is_ok());
 }
 
 #[test]
 fn a_drive_that_fails_the_vault_is_lost(rt: HostRuntime) {
     let Ok(opened) = Opened::new(rt.alloc()) else {
-        panic!(rt; "no memory")
+        rt.panic("no memory")
     };
     let plan = plan_of(&rt, 1000, 64);
     let vault = failing_vault(&rt, rt.alloc(), &plan);
@@ -225,29 +226,29 @@ fn lose_doomed<N: Chronicle>(rt: &impl Abort, alloc: Global, plan: &Plan, opened
 {
     let (history, mut keeper, first) = opened.named::<N>();
     let mut drive = drive_of(rt, alloc, plan, &history, &mut keeper, first);
-    assert!(rt; drive.sync().is_ok());
+    check!(rt; drive.sync().is_ok());
     drive.doom();
-    assert!(rt; !drive.is_lost());
-    assert!(rt; drive.sync().is_err());
-    assert!(rt; drive.is_lost());
+    check!(rt; !drive.is_lost());
+    check!(rt; drive.sync().is_err());
+    check!(rt; drive.is_lost());
     let Some(hand) = keeper.hire(&history) else {
-        panic!(rt; "no hand")
+        rt.panic("no hand")
     };
     let mut drive = drive_of(rt, alloc, plan, &history, &mut keeper, hand);
-    assert!(rt; drive.units() > 0);
+    check!(rt; drive.units() > 0);
     let Ok(mut unit) = vec![in alloc; 0u8; drive.unit_bytes()] else {
-        panic!(rt; "no memory")
+        rt.panic("no memory")
     };
-    assert!(rt; drive.read_unit(0, &mut unit).is_ok());
+    check!(rt; drive.read_unit(0, &mut unit).is_ok());
     drive.doom();
-    assert!(rt; drive.read_unit(0, &mut unit).is_err());
-    assert!(rt; drive.is_lost());
+    check!(rt; drive.read_unit(0, &mut unit).is_err());
+    check!(rt; drive.is_lost());
 }
 
 #[test]
 fn a_doomed_drive_is_lost_by_its_next_call(rt: HostRuntime) {
     let Ok(opened) = Opened::new(rt.alloc()) else {
-        panic!(rt; "no memory")
+        rt.panic("no memory")
     };
     let plan = plan_of(&rt, 1000, 64);
     lose_doomed::<Brand>(&rt, rt.alloc(), &plan, opened);

@@ -4,6 +4,8 @@
 #[cfg(test)]
 mod added;
 #[cfg(test)]
+mod asserts;
+#[cfg(test)]
 mod bytes;
 #[cfg(test)]
 mod calls;

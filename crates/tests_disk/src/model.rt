@@ -1,6 +1,7 @@
 // A store of bytes beside a plain model of them.
 ghost use Rattle.std.specs.Prelude.{◌+◌, ◌≤◌, IsTrue};
 
+use crate::asserts::check;
 use byte_store::ByteStore;
 use std::alloc::Global;
 use std::process::Abort;
@@ -27,7 +28,7 @@ pub(crate) fn piece_of(first: u8) -> [u8; PIECE] {
 
 /// Puts bytes over those of the model.
 pub(crate) fn set(rt: &impl Abort, model: &mut [u8], offset: usize, bytes: &[u8]) {
-    assert!(rt; is_within(offset, bytes.len(), model.len() as u64));
+    check!(rt; is_within(offset, bytes.len(), model.len() as u64));
     model[offset..offset + bytes.len()].copy_from_slice(bytes);
 }
 
@@ -40,11 +41,11 @@ pub(crate) fn write<S: ByteStore>(
     (offset, length, first): (usize, usize, u8),
 ) {
     let piece = piece_of(first);
-    assert!(rt; length <= PIECE);
+    check!(rt; length <= PIECE);
     let size = store.size();
-    assert!(rt; is_within(offset, length, size));
+    check!(rt; is_within(offset, length, size));
     let written = store.write(alloc, offset as u64, &piece[..length]);
-    assert!(rt; written.is_ok());
+    check!(rt; written.is_ok());
     set(rt, model, offset, &piece[..length]);
 }
 
@@ -56,20 +57,20 @@ pub(crate) fn zero<S: ByteStore>(
     model: &mut [u8],
     (offset, length): (usize, usize),
 ) {
-    assert!(rt; length <= 1000);
+    check!(rt; length <= 1000);
     let size = store.size();
-    assert!(rt; is_within(offset, length, size));
+    check!(rt; is_within(offset, length, size));
     let zeroed = store.zero(alloc, offset as u64, length as u32);
-    assert!(rt; zeroed.is_ok());
+    check!(rt; zeroed.is_ok());
     set(rt, model, offset, &[0; 1000][..length]);
 }
 
 /// Whether the store has the model's bytes.
 pub(crate) fn agree<S: ByteStore>(rt: &impl Abort, store: &mut S, model: &[u8]) -> bool {
     let mut out = [7; 1000];
-    assert!(rt; model.len() <= 1000);
+    check!(rt; model.len() <= 1000);
     let size = store.size();
-    assert!(rt; is_within(0, model.len(), size));
+    check!(rt; is_within(0, model.len(), size));
     let read = store.read(0, &mut out[..model.len()]);
     read.is_ok() && &out[..model.len()] == model
 }

@@ -2,6 +2,7 @@
 ghost use Rattle.std.specs.Prelude.{◌≡◌, ◌<◌};
 ghost use Rattle.extent_groups.specs.Groups.{Agree};
 
+use crate::asserts::check;
 use crate::calls::publish_call;
 use crate::journaled::disk_of;
 use crate::model::{agree, write};
@@ -21,7 +22,7 @@ use vault::{MemVault, TABLE, Vault};
 pub(crate) fn formatted(rt: &impl Abort, alloc: Global, plan: &Plan) -> MemVault {
     let mut vault = MemVault::new(alloc);
     let Ok(zeros) = vec![in alloc; 0u8; plan.shape.unit_bytes()] else {
-        panic!(rt; "no memory")
+        rt.panic("no memory")
     };
     let table = Place {
         drive: TABLE,
@@ -33,7 +34,7 @@ pub(crate) fn formatted(rt: &impl Abort, alloc: Global, plan: &Plan) -> MemVault
             written &= vault.write_unit(Place { drive, address }, &zeros).is_ok();
         }
     }
-    assert!(rt; written);
+    check!(rt; written);
     vault
 }
 
@@ -67,9 +68,9 @@ pub(crate) fn groups_of(rt: &impl Abort, alloc: Global, plan: &Plan) -> (GroupTa
         GroupTable::new(alloc, &plan.shape),
         ExtentTable::new(alloc, plan.drives, &plan.shape),
     ) else {
-        panic!(rt; "no memory")
+        rt.panic("no memory")
     };
-    assert!(rt; groups.agrees(&extents));
+    check!(rt; groups.agrees(&extents));
     for group in 0..plan.groups {
         enter(rt, alloc, plan, group, &mut groups, &mut extents);
     }
@@ -92,11 +93,11 @@ fn enter(
     let mut members = Vec::new(alloc);
     for index in 0..plan.members {
         let pushed = members.push(member_at(plan, group, index)).is_ok();
-        assert!(rt; pushed);
+        check!(rt; pushed);
     }
-    assert!(rt; are_there(extents, &members) && groups.is_free(group));
+    check!(rt; are_there(extents, &members) && groups.is_free(group));
     let put = groups.put_group(alloc, extents, group, class_of(plan, group), &members);
-    assert!(rt; put.is_ok());
+    check!(rt; put.is_ok());
 }
 
 // Opens the disk without the drives that are named; its bytes are the model's.
@@ -123,7 +124,7 @@ fn open_again<N: Chronicle, V: Vault>(
         plan.size,
         absent,
     )?;
-    assert!(rt; agree(rt, &mut store, model));
+    check!(rt; agree(rt, &mut store, model));
     write(rt, alloc, &mut store, model, (500, 100, 7));
     publish_call(rt, &mut store, &mut changes, vault);
     Ok(())
@@ -132,7 +133,7 @@ fn open_again<N: Chronicle, V: Vault>(
 /// A history that nobody has.
 pub(crate) fn opened_in(rt: &impl Abort, alloc: Global) -> Opened<Saved> {
     let Ok(opened) = Opened::new(alloc) else {
-        panic!(rt; "no memory")
+        rt.panic("no memory")
     };
     opened
 }
@@ -172,17 +173,17 @@ fn a_disk_is_opened_with_the_bytes_that_were_published(rt: HostRuntime) {
 
     let all = [false; DRIVES];
     let again = go_on(&rt, alloc, &plan, &mut vault, &all, &mut model);
-    assert!(&rt; again.is_ok());
+    check!(&rt; again.is_ok());
 
     // Without a drive, and then with the mark that it is lost.
     let mut absent = all;
     absent[2] = true;
     let again = go_on(&rt, alloc, &plan, &mut vault, &absent, &mut model);
-    assert!(&rt; again.is_ok());
+    check!(&rt; again.is_ok());
     let again = go_on(&rt, alloc, &plan, &mut vault, &all, &mut model);
-    assert!(&rt; again.is_ok());
+    check!(&rt; again.is_ok());
 
     absent[3] = true;
     let again = go_on(&rt, alloc, &plan, &mut vault, &absent, &mut model);
-    assert!(&rt; matches!(again, Err(RecoveryFault::Gone(_))));
+    check!(&rt; matches!(again, Err(RecoveryFault::Gone(_))));
 }

@@ -1,5 +1,6 @@
 // A disk that gives up its last drives.
 use crate::added::{added, attach, form, load_of, resume};
+use crate::asserts::check;
 use crate::recovered::{begin, formatted};
 use crate::rig::plan_of;
 use array_recovery::find;
@@ -20,7 +21,7 @@ fn removed<V: Vault>(
     vault: &mut V,
 ) -> Result<(), RemovalFault> {
     let Ok(found) = find_groups(alloc, vault, &plan.shape) else {
-        panic!(rt; "no groups")
+        rt.panic("no groups")
     };
     remove_drive(
         alloc,
@@ -35,14 +36,14 @@ fn removed<V: Vault>(
 // Tests that the disk has so many drives, that no group has a member past them, and that all slots are sound.
 fn test_drives<V: Vault>(rt: &impl Abort, alloc: Global, plan: &Plan, vault: &mut V, drives: u8) {
     let Ok(form) = find_groups(alloc, vault, &plan.shape) else {
-        panic!(rt; "no groups")
+        rt.panic("no groups")
     };
-    assert!(rt; form.drives == drives);
+    check!(rt; form.drives == drives);
     for drive in drives..16 {
-        assert!(rt; load_of(&form.groups, drive) == 0);
+        check!(rt; load_of(&form.groups, drive) == 0);
     }
     let Ok(found) = find(alloc, vault, &plan.shape, drives, &[false; DRIVES]) else {
-        panic!(rt; "nothing is found")
+        rt.panic("nothing is found")
     };
     let mut parts = Parts {
         shape: plan.shape,
@@ -52,9 +53,9 @@ fn test_drives<V: Vault>(rt: &impl Abort, alloc: Global, plan: &Plan, vault: &mu
         note: None,
     };
     let Ok(findings) = scrub_parts(alloc, &mut parts) else {
-        panic!(rt; "no memory")
+        rt.panic("no memory")
     };
-    assert!(rt; findings.slots > 0 && findings.unsound == 0);
+    check!(rt; findings.slots > 0 && findings.unsound == 0);
 }
 
 #[test]
@@ -68,25 +69,25 @@ fn a_grown_disk_gives_up_a_drive_and_one_that_is_lost(rt: HostRuntime) {
     for drive in 6..8u8 {
         attach(&rt, alloc, &plan, &mut vault, drive);
         let done = added(&rt, alloc, &plan, &mut vault);
-        assert!(&rt; done.is_ok());
+        check!(&rt; done.is_ok());
     }
     let less = removed(&rt, alloc, &plan, &mut vault);
-    assert!(&rt; less.is_ok());
+    check!(&rt; less.is_ok());
     test_drives(&rt, alloc, &plan, &mut vault, 7);
     let mut absent = [false; DRIVES];
     absent[6] = true;
     let lost = resume(&rt, alloc, &plan, &mut vault, &absent, &mut model);
-    assert!(&rt; lost.is_ok());
+    check!(&rt; lost.is_ok());
     let less = removed(&rt, alloc, &plan, &mut vault);
-    assert!(&rt; less.is_ok());
+    check!(&rt; less.is_ok());
     test_drives(&rt, alloc, &plan, &mut vault, 6);
     let again = resume(&rt, alloc, &plan, &mut vault, &[false; DRIVES], &mut model);
-    assert!(&rt; again.is_ok());
+    check!(&rt; again.is_ok());
     // Each group has a member on each drive.
-    assert!(&rt; removed(&rt, alloc, &plan, &mut vault) == Err(RemovalFault::Stuck));
+    check!(&rt; removed(&rt, alloc, &plan, &mut vault) == Err(RemovalFault::Stuck));
     let mut absent = [false; DRIVES];
     absent[2] = true;
     let lost = resume(&rt, alloc, &plan, &mut vault, &absent, &mut model);
-    assert!(&rt; lost.is_ok());
-    assert!(&rt; removed(&rt, alloc, &plan, &mut vault) == Err(RemovalFault::Lost(2)));
+    check!(&rt; lost.is_ok());
+    check!(&rt; removed(&rt, alloc, &plan, &mut vault) == Err(RemovalFault::Lost(2)));
 }

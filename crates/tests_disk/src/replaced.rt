@@ -1,4 +1,5 @@
 // A disk of which a drive is lost and replaced.
+use crate::asserts::check;
 use crate::recovered::{begin, formatted, go_on, groups_of};
 use crate::rig::plan_of;
 use array_recovery::find;
@@ -43,7 +44,7 @@ fn replaced<V: Vault>(
         plan.drives,
         number,
     );
-    assert!(rt;
+    check!(rt;
         done.is_err() || (counted.units == plan.shape.drive_units() && counted.of == counted.units)
     );
     let Counted { units: _, of: _ } = counted;
@@ -53,7 +54,7 @@ fn replaced<V: Vault>(
 // How many slots of the disk that a vault has aren't sound.
 fn unsound<V: Vault>(rt: &impl Abort, alloc: Global, plan: &Plan, vault: &mut V) -> u32 {
     let Ok(found) = find(alloc, vault, &plan.shape, plan.drives, &[false; DRIVES]) else {
-        panic!(rt; "nothing is found")
+        rt.panic("nothing is found")
     };
     let (groups, extents) = groups_of(rt, alloc, plan);
     let mut parts = Parts {
@@ -64,9 +65,9 @@ fn unsound<V: Vault>(rt: &impl Abort, alloc: Global, plan: &Plan, vault: &mut V)
         note: None,
     };
     let Ok(findings) = scrub_parts(alloc, &mut parts) else {
-        panic!(rt; "no memory")
+        rt.panic("no memory")
     };
-    assert!(rt; findings.slots > 0 && findings.named.len() == findings.unsound as usize);
+    check!(rt; findings.slots > 0 && findings.named.len() == findings.unsound as usize);
     findings.unsound
 }
 
@@ -75,31 +76,31 @@ fn lose_and_replace(rt: &impl Abort, alloc: Global, plan: &Plan, number: u8, oth
     let mut vault = formatted(rt, alloc, plan);
     let mut model = [0u8; 1000];
     begin(rt, alloc, plan, &mut vault, &mut model);
-    assert!(rt; replaced(rt, alloc, plan, &mut vault, number) == Err(RebuildFault::NotLost));
+    check!(rt; replaced(rt, alloc, plan, &mut vault, number) == Err(RebuildFault::NotLost));
     let mut absent = [false; DRIVES];
     absent[usize::from(number % 16)] = true;
     let gone = go_on(rt, alloc, plan, &mut vault, &absent, &mut model);
-    assert!(rt; gone.is_ok());
+    check!(rt; gone.is_ok());
 
     // What lies at its places doesn't matter.
     let Ok(rubbish) = vec![in alloc; 0xa5u8; plan.shape.unit_bytes()] else {
-        panic!(rt; "no memory")
+        rt.panic("no memory")
     };
     for address in 0..plan.shape.drive_units() {
         let drive = number;
         let put = vault.write_unit(Place { drive, address }, &rubbish).is_ok();
-        assert!(rt; put);
+        check!(rt; put);
     }
-    assert!(rt; replaced(rt, alloc, plan, &mut vault, number).is_ok());
-    assert!(rt; unsound(rt, alloc, plan, &mut vault) == 0);
+    check!(rt; replaced(rt, alloc, plan, &mut vault, number).is_ok());
+    check!(rt; unsound(rt, alloc, plan, &mut vault) == 0);
 
     let all = go_on(rt, alloc, plan, &mut vault, &[false; DRIVES], &mut model);
-    assert!(rt; all.is_ok());
+    check!(rt; all.is_ok());
     let mut absent = [false; DRIVES];
     absent[usize::from(other % 16)] = true;
     let less = go_on(rt, alloc, plan, &mut vault, &absent, &mut model);
-    assert!(rt; less.is_ok());
-    assert!(rt; replaced(rt, alloc, plan, &mut vault, other).is_ok());
+    check!(rt; less.is_ok());
+    check!(rt; replaced(rt, alloc, plan, &mut vault, other).is_ok());
 }
 
 #[test]
@@ -120,16 +121,16 @@ fn a_changed_unit_is_found_and_stops_a_replacement(rt: HostRuntime) {
     let mut model = [0u8; 1000];
     begin(&rt, alloc, &plan, &mut vault, &mut model);
     let Ok(rubbish) = vec![in alloc; 1u8; plan.shape.unit_bytes()] else {
-        panic!(&rt; "no memory")
+        rt.panic("no memory")
     };
     let place = Place {
         drive: 1,
         address: 0,
     };
     let settled = go_on(&rt, alloc, &plan, &mut vault, &[false; DRIVES], &mut model);
-    assert!(&rt; settled.is_ok());
+    check!(&rt; settled.is_ok());
     let mut batch = vault::Batch::new(alloc);
     let put = batch.push(place, &rubbish).is_ok() && vault.append(&batch).is_ok();
-    assert!(&rt; put);
-    assert!(&rt; unsound(&rt, alloc, &plan, &mut vault) == 1);
+    check!(&rt; put);
+    check!(&rt; unsound(&rt, alloc, &plan, &mut vault) == 1);
 }

@@ -3,6 +3,7 @@ ghost use Rattle.std.specs.Prelude.{◌≡◌, ◌+◌, ◌≤◌, None, IsTrue,
 ghost use Rattle.extent_groups.specs.Calls.{AreSized};
 ghost use Rattle.unit_store.specs.Fit.{HaveUnitCount};
 
+use crate::asserts::check;
 use array_store::ArrayStore;
 use disk_shape::{Plan, class_of, member_at, plan_disk};
 use extents::Shape;
@@ -51,7 +52,7 @@ pub(crate) type Store<'a> = ArrayStore<FileDrive<Counted<'a>>>;
 /// The plan of a disk of six drives.
 pub(crate) fn plan_of(rt: &impl Abort, size: u64, block: u32) -> Plan {
     let Ok(plan) = plan_disk(size, block, 6) else {
-        panic!(rt; "no plan")
+        rt.panic("no plan")
     };
     plan
 }
@@ -65,7 +66,7 @@ fn opened<'a>(
 ) -> FileDrive<Counted<'a>> {
     let length = shape.unit_bytes() * shape.drive_units() as usize;
     let Ok(bytes) = vec![in alloc; 0u8; length] else {
-        panic!(rt; "no memory")
+        rt.panic("no memory")
     };
     let backing = Counted {
         inner: InMemory { bytes },
@@ -73,7 +74,7 @@ fn opened<'a>(
         refuses,
     };
     let Ok(drive) = FileDrive::open(alloc, shape, backing) else {
-        panic!(rt; "no drive")
+        rt.panic("no drive")
     };
     drive
 }
@@ -96,14 +97,14 @@ fn world_of<D: Drive + Drop>(
     shape: Shape,
     drives: Vec<D>,
 ) -> World<D> {
-    assert!(rt; 3 <= drives.len() && drives.len() <= 16);
-    assert!(rt; are_sized(&drives, shape.unit_bytes()));
-    assert!(rt; have_units(&drives, shape.drive_units()));
+    check!(rt; 3 <= drives.len() && drives.len() <= 16);
+    check!(rt; are_sized(&drives, shape.unit_bytes()));
+    check!(rt; have_units(&drives, shape.drive_units()));
     let Ok(array) = Array::new(alloc, shape, drives) else {
-        panic!(rt; "no array")
+        rt.panic("no array")
     };
     let Ok(world) = World::of(alloc, array) else {
-        panic!(rt; "no world")
+        rt.panic("no world")
     };
     world
 }
@@ -113,10 +114,10 @@ fn make_groups<D: Drive>(rt: &impl Abort, alloc: Global, plan: &Plan, tiers: &mu
         let mut members = Vec::new(alloc);
         for index in 0..plan.members {
             let pushed = members.push(member_at(plan, group, index)).is_ok();
-            assert!(rt; pushed);
+            check!(rt; pushed);
         }
         let made = tiers.make(alloc, class_of(plan, group), &members);
-        assert!(rt; matches!(made, Ok(Answer::Made(_))));
+        check!(rt; matches!(made, Ok(Answer::Made(_))));
     }
 }
 
@@ -133,7 +134,7 @@ pub(crate) fn store_of<'a>(
         let pushed = drives
             .push(opened(rt, alloc, &plan.shape, syncs, refuses))
             .is_ok();
-        assert!(rt; pushed);
+        check!(rt; pushed);
     }
     store_over(rt, alloc, plan, drives)
 }
@@ -147,13 +148,13 @@ pub(crate) fn store_over<D: Drive + Drop>(
 ) -> ArrayStore<D> {
     let world = world_of(rt, alloc, plan.shape, drives);
     let Ok(mut tiers) = Tiers::new(alloc, world) else {
-        panic!(rt; "no tiers")
+        rt.panic("no tiers")
     };
     make_groups(rt, alloc, plan, &mut tiers);
     let shape = tiers.world().array().shape();
-    assert!(rt; plan.size <= u64::from(shape.blocks) * u64::from(shape.payload));
+    check!(rt; plan.size <= u64::from(shape.blocks) * u64::from(shape.payload));
     let Ok(store) = ArrayStore::new(alloc, tiers, plan.size) else {
-        panic!(rt; "no store")
+        rt.panic("no store")
     };
     store
 }

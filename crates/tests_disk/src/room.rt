@@ -1,4 +1,5 @@
 // A disk that is full to its last block is written over and over, and its log stays short.
+use crate::asserts::check;
 use crate::calls::count_records;
 use crate::model::{agree, write, zero};
 use crate::rig::{plan_of, store_of};
@@ -28,7 +29,7 @@ fn overfill<S: ByteStore>(rt: &impl Abort, alloc: Global, store: &mut S) {
             store.rest(alloc);
         }
     }
-    assert!(rt; agree(rt, store, &model));
+    check!(rt; agree(rt, store, &model));
 }
 
 // Two groups of six members of one segment: 6 / 2 mirrored slots and 5 with parity are 8, so a disk of 7 blocks has no slot to
@@ -37,9 +38,9 @@ fn overfill<S: ByteStore>(rt: &impl Abort, alloc: Global, store: &mut S) {
 fn a_full_disk_is_never_refused_room(rt: HostRuntime) {
     let syncs = AtomicU64::new(0);
     let plan = plan_of(&rt, 7 * 8, 8);
-    assert!(rt; plan.groups == 2 && plan.shape.segments == 1 && plan.shape.blocks == 7);
+    check!(rt; plan.groups == 2 && plan.shape.segments == 1 && plan.shape.blocks == 7);
     let mut store = store_of(&rt, rt.alloc(), &plan, &syncs, [false; 6]);
     overfill(&rt, rt.alloc(), &mut store);
     // 4,096 records and four for each block stay at most, and those of the last turns.
-    assert!(rt; count_records(&store) < 4096 + 4 * 7 + 8);
+    check!(rt; count_records(&store) < 4096 + 4 * 7 + 8);
 }

@@ -2,6 +2,7 @@
 //! were begun no later one, and no earlier one than the last that was answered, or after a loss of power that was flushed.
 ghost use Rattle.std.specs.Prelude.{◌≡◌};
 
+use crate::asserts::check;
 use crate::model::{PIECE, is_within, piece_of, set};
 use crate::recovered::{groups_of, opened_in};
 use crate::rig::plan_of;
@@ -71,18 +72,18 @@ fn new_files(rt: &impl Abort, alloc: Global, plan: &Plan) -> MemFiles {
             0
         };
         let Ok(zeros) = vec![in alloc; 0u8; length] else {
-            panic!(rt; "no memory")
+            rt.panic("no memory")
         };
         let pushed = first.push(zeros).is_ok();
-        assert!(rt; pushed);
+        check!(rt; pushed);
     }
     let files = MemFiles::new(alloc, first);
     let Ok(vault) = FileVault::create(alloc, files, layout_of(plan)) else {
-        panic!(rt; "not made")
+        rt.panic("not made")
     };
     // Without the calls of it, which each read would look through.
     let Ok(files) = vault.into_files().left(Stop::Killed, 0) else {
-        panic!(rt; "no memory")
+        rt.panic("no memory")
     };
     files
 }
@@ -91,7 +92,7 @@ fn new_files(rt: &impl Abort, alloc: Global, plan: &Plan) -> MemFiles {
 fn bytes_after(rt: &impl Abort, count: usize) -> [u8; 1000] {
     let mut bytes = [0u8; 1000];
     for (offset, length, first) in REQUESTS.iter().take(count) {
-        assert!(rt; *length <= PIECE);
+        check!(rt; *length <= PIECE);
         set(rt, &mut bytes, *offset, &piece_of(*first)[..*length]);
     }
     bytes
@@ -101,7 +102,7 @@ fn bytes_after(rt: &impl Abort, count: usize) -> [u8; 1000] {
 fn request_all<S: ByteStore>(rt: &impl Abort, alloc: Global, store: &mut S, reached: &mut Reached) {
     for (offset, length, first) in REQUESTS {
         reached.begun = reached.begun.saturating_add(1);
-        assert!(rt; length <= PIECE && is_within(offset, length, store.size()));
+        check!(rt; length <= PIECE && is_within(offset, length, store.size()));
         if store
             .write(alloc, offset as u64, &piece_of(first)[..length])
             .is_err()
@@ -205,9 +206,9 @@ fn run_stopped(
 // The bytes of a store.
 fn read_all<S: ByteStore>(rt: &impl Abort, store: &mut S) -> [u8; 1000] {
     let mut out = [7u8; 1000];
-    assert!(rt; is_within(0, out.len(), store.size()));
+    check!(rt; is_within(0, out.len(), store.size()));
     let read = store.read(0, &mut out);
-    assert!(rt; read.is_ok());
+    check!(rt; read.is_ok());
     out
 }
 
@@ -223,7 +224,7 @@ fn read_again<N: Chronicle>(
     requires { opened ≡ N.chronicle }
 {
     let Ok(mut store) = store_of::<N>(rt, alloc, plan, opened, files, absent) else {
-        panic!(rt; "not opened")
+        rt.panic("not opened")
     };
     let out = read_all(rt, &mut store);
     (out, store.into_vault())
@@ -245,14 +246,14 @@ fn lost_in<V: Vault + Drop>(rt: &impl Abort, alloc: Global, vault: V) -> Option<
     let mut vault = vault;
     let mut room = Batch::new(alloc);
     let settled = settle(&mut vault, &mut room, &[false; DRIVES]).is_ok();
-    assert!(rt; settled);
+    check!(rt; settled);
     let mut marks = [0u8; DRIVES];
     let place = Place {
         drive: TABLE,
         address: 0,
     };
     let read = vault.read_unit(place, &mut marks);
-    assert!(rt; read == Ok(UnitRead::Whole));
+    check!(rt; read == Ok(UnitRead::Whole));
     marks.iter().position(|mark| *mark != 0)
 }
 
@@ -278,10 +279,10 @@ fn opened_bytes(
     reached: Reached,
 ) -> FileVault<MemFiles> {
     let Ok(left) = files.left(stop.0, stop.1) else {
-        panic!(rt; "no memory")
+        rt.panic("no memory")
     };
     let (bytes, vault) = bytes_again(rt, alloc, plan, left, absent);
-    assert!(rt; is_allowed(rt, &bytes, least, reached.begun));
+    check!(rt; is_allowed(rt, &bytes, least, reached.begun));
     vault
 }
 
@@ -315,7 +316,7 @@ fn stop_at(rt: &impl Abort, alloc: Global, plan: &Plan, calls: u32) -> bool {
         );
         // A batch whose write failed may be there, and say that a drive is lost: then no other one may be.
         let without = lost_in(rt, alloc, vault).unwrap_or(calls as usize % 6);
-        assert!(rt; without < DRIVES);
+        check!(rt; without < DRIVES);
         absent[without] = true;
         let _ = opened_bytes(
             rt,
@@ -342,5 +343,5 @@ fn a_disk_that_is_stopped_has_all_that_was_answered(rt: HostRuntime) {
         }
         stops = stops.saturating_add(1);
     }
-    assert!(&rt; 100 < stops && stops < 2000);
+    check!(&rt; 100 < stops && stops < 2000);
 }

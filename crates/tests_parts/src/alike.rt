@@ -3,6 +3,7 @@ ghost use Rattle.std.specs.Prelude.{◌≡◌, ◌*◌, length, IsTrue};
 ghost use Rattle.extent_groups.specs.Stores.{unit_bytes};
 ghost use Rattle.unit_store.specs.Fit.{IsFit};
 
+use crate::asserts::check;
 use crate::plain::PlainDrive;
 use crate::rig::{SIZE, byte_at, fill_from, is_of, is_slot, members_on, zeros};
 use extent_groups::{Class, GroupTable, are_there, put_check};
@@ -27,9 +28,9 @@ trait Tried: Drive + Drop {
 impl Tried for MemDrive {
     fn made(rt: &impl Abort, alloc: Global, shape: &Shape, call: u64) -> MemDrive {
         let Ok(mut drive) = MemDrive::new(alloc, shape) else {
-            panic!(rt; "no drive")
+            rt.panic("no drive")
         };
-        assert!(rt; call > 0);
+        check!(rt; call > 0);
         drive.fuse(call);
         drive
     }
@@ -41,7 +42,7 @@ impl Tried for MemDrive {
 
 impl Tried for PlainDrive {
     fn made(rt: &impl Abort, alloc: Global, shape: &Shape, call: u64) -> PlainDrive {
-        assert!(rt; call > 0);
+        check!(rt; call > 0);
         PlainDrive::new(rt, alloc, shape, call - 1)
     }
 
@@ -75,7 +76,7 @@ fn four<D: Tried>(rt: &impl Abort, alloc: Global, shape: &Shape, lost: usize, ca
     let mut drives = Vec::new(alloc);
     for drive in 0..4 {
         let calls = if drive == lost { call } else { CALLS };
-        assert!(rt; drives.push(D::made(rt, alloc, shape, calls)).is_ok());
+        check!(rt; drives.push(D::made(rt, alloc, shape, calls)).is_ok());
     }
     drives
 }
@@ -83,13 +84,13 @@ fn four<D: Tried>(rt: &impl Abort, alloc: Global, shape: &Shape, lost: usize, ca
 impl<D: Tried> Trial<D> {
     fn new(rt: &impl Abort, alloc: Global, lost: usize, call: u64) -> Trial<D> {
         let Ok(shape) = Shape::new(8, 2, 24, 16) else {
-            panic!(rt; "no shape")
+            rt.panic("no shape")
         };
         let Ok(groups) = GroupTable::new(alloc, &shape) else {
-            panic!(rt; "no groups")
+            rt.panic("no groups")
         };
         let Ok(extents) = ExtentTable::new(alloc, 4, &shape) else {
-            panic!(rt; "no extents")
+            rt.panic("no extents")
         };
         let drives = four(rt, alloc, &shape, lost, call);
         let parts = Parts {
@@ -125,27 +126,27 @@ impl<D: Tried> Trial<D> {
     /// Lets a group enter, of the extent of its number on each of these drives.
     fn make(&mut self, rt: &impl Abort, alloc: Global, group: u16, class: Class, drives: &[u8]) {
         let members = members_on(rt, alloc, drives, group);
-        assert!(rt; self.is_ready());
-        assert!(rt; self.parts.groups.is_free(group));
-        assert!(rt; are_there(&self.parts.extents, &members));
-        assert!(rt; put_check(&self.parts.extents, &members).is_none());
+        check!(rt; self.is_ready());
+        check!(rt; self.parts.groups.is_free(group));
+        check!(rt; are_there(&self.parts.extents, &members));
+        check!(rt; put_check(&self.parts.extents, &members).is_none());
         let made = self.parts.enter(group, class, members, &mut self.unit);
-        assert!(rt; made.is_ok());
+        check!(rt; made.is_ok());
     }
 
     /// Writes the unit that a byte names to a slot.
     fn write(&mut self, rt: &impl Abort, slot: u16, byte: u8) -> Result<(), Refusal> {
-        assert!(rt; self.is_ready());
-        assert!(rt; is_slot(&self.parts.groups, slot));
+        check!(rt; self.is_ready());
+        check!(rt; is_slot(&self.parts.groups, slot));
         fill_from(&mut self.unit, byte);
         self.parts.write(slot, &self.unit, &mut self.scratch)
     }
 
     /// Puts the payload that a byte names under a blank header in a slot, from two pieces in a mirrored one.
     fn put(&mut self, rt: &impl Abort, slot: u16, byte: u8) -> Result<(), Refusal> {
-        assert!(rt; self.is_ready());
-        assert!(rt; is_slot(&self.parts.groups, slot));
-        assert!(rt; self.parts.groups.shape().payload == 24);
+        check!(rt; self.is_ready());
+        check!(rt; is_slot(&self.parts.groups, slot));
+        check!(rt; self.parts.groups.shape().payload == 24);
         let mut payload = [0; 24];
         fill_from(&mut payload, byte);
         self.parts
@@ -162,24 +163,24 @@ impl<D: Tried> Trial<D> {
 
     /// Reads a slot's unit into the buffer.
     fn read(&mut self, rt: &impl Abort, slot: u16) -> Result<(), Refusal> {
-        assert!(rt; self.is_ready());
-        assert!(rt; is_slot(&self.parts.groups, slot));
+        check!(rt; self.is_ready());
+        check!(rt; is_slot(&self.parts.groups, slot));
         self.unit.fill(1);
         self.parts.read(slot, &mut self.unit, &mut self.scratch)
     }
 
     /// Reads a slot's unit into the buffer, as a source of units.
     fn unit(&mut self, rt: &impl Abort, slot: u16) -> Result<(), Refusal> {
-        assert!(rt; self.is_ready());
-        assert!(rt; is_slot(&self.parts.groups, slot));
+        check!(rt; self.is_ready());
+        check!(rt; is_slot(&self.parts.groups, slot));
         self.unit.fill(1);
         self.parts.unit(slot, &mut self.unit, &mut self.scratch)
     }
 
     /// Reads a slot's header.
     fn header(&mut self, rt: &impl Abort, slot: u16) -> Result<[u8; 32], Refusal> {
-        assert!(rt; self.is_ready());
-        assert!(rt; is_slot(&self.parts.groups, slot));
+        check!(rt; self.is_ready());
+        check!(rt; is_slot(&self.parts.groups, slot));
         let mut header = [1; HEADER_BYTES];
         self.parts.header(slot, &mut header, &mut self.scratch)?;
         Ok(header)
@@ -222,7 +223,7 @@ impl<D: Tried> Trial<D> {
 
     fn give_all(&mut self, rt: &impl Abort) {
         for slot in SLOTS {
-            assert!(rt; self.give(rt, slot, first_of(slot)) == Ok(()));
+            check!(rt; self.give(rt, slot, first_of(slot)) == Ok(()));
         }
     }
 
@@ -246,16 +247,16 @@ impl<D: Tried> Trial<D> {
 
     fn lose(&mut self, rt: &impl Abort, drive: usize) {
         let Some(drive) = self.parts.drives.get_mut(drive) else {
-            panic!(rt; "no drive")
+            rt.panic("no drive")
         };
         drive.lose_it();
     }
 
     /// Whether one call reads `expected` headers of a group, each equal to what `header` reads.
     fn reads_headers(&mut self, rt: &impl Abort, group: u16, expected: u16) -> bool {
-        assert!(rt; self.is_ready());
+        check!(rt; self.is_ready());
         let count = self.parts.groups.slots_of(group);
-        assert!(rt; group < 2 && count <= 8);
+        check!(rt; group < 2 && count <= 8);
         let mut buffers = [[1; HEADER_BYTES]; 8];
         let headers = &mut buffers[..count as usize];
         let read = self.parts.headers(group, headers, &mut self.scratch);
@@ -319,9 +320,9 @@ fn lose_one<D: Tried>(rt: &impl Abort, alloc: Global, last: u64) {
 fn lose_two<D: Tried>(rt: &impl Abort, alloc: Global, one: usize, other: usize, gone: &[u16]) {
     let mut trial: Trial<D> = Trial::new(rt, alloc, 0, CALLS);
     trial.give_all(rt);
-    assert!(rt; trial.keeps_all(rt));
+    check!(rt; trial.keeps_all(rt));
     trial.lose(rt, one);
-    assert!(rt; trial.are_gone(rt, &[]));
+    check!(rt; trial.are_gone(rt, &[]));
     trial.lose(rt, other);
     assert!(rt; trial.are_gone(rt, gone), "drives {one} and {other}");
 }

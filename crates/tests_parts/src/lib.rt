@@ -4,6 +4,8 @@
 #[cfg(test)]
 mod alike;
 #[cfg(test)]
+mod asserts;
+#[cfg(test)]
 mod entries;
 #[cfg(test)]
 mod flips;

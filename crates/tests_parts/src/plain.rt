@@ -16,7 +16,7 @@ impl PlainDrive {
     /// A drive of zeros, with the units of this shape, that answers `left` calls.
     pub(crate) fn new(rt: &impl Abort, alloc: Global, shape: &Shape, left: u64) -> PlainDrive {
         let Ok(mut drive) = MemDrive::new(alloc, shape) else {
-            panic!(rt; "no drive")
+            rt.panic("no drive")
         };
         drive.fuse(left.saturating_add(1));
         PlainDrive { drive }

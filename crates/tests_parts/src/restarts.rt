@@ -1,4 +1,5 @@
 // Arrays rebuilt from drives that were written manually: the last version, the last hop, and one of each fault.
+use crate::asserts::check;
 use crate::rig::{Restarted, Rig, fill_from, is_of, record, restart_parts};
 use extents::MemDrive;
 use flat_machine::Refusal;
@@ -32,7 +33,7 @@ fn holding(rt: &impl Abort, alloc: Global, held: &[(u16, Record)]) -> Rig {
 fn restarted(rt: &impl Abort, alloc: Global, rig: Rig, slots: &[u16]) -> Restarted {
     let mut claims = Vec::new(alloc);
     for slot in slots {
-        assert!(rt; claims.push(Plain { slot: *slot }).is_ok());
+        check!(rt; claims.push(Plain { slot: *slot }).is_ok());
     }
     restart_parts(rt, alloc, rig.parts, claims)
 }
@@ -45,7 +46,7 @@ fn made_of(
     claims: Vec<Plain>,
 ) -> (Memory, Vec<Plain>) {
     let Ok(made) = restart_parts(rt, alloc, parts, claims) else {
-        panic!(rt; "not made anew")
+        rt.panic("not made anew")
     };
     made
 }
@@ -53,9 +54,9 @@ fn made_of(
 /// The array that is rebuilt with a claim of slot 0.
 fn made(rt: &impl Abort, alloc: Global, rig: Rig) -> Memory {
     let Ok((array, others)) = restarted(rt, alloc, rig, &[0]) else {
-        panic!(rt; "not made anew")
+        rt.panic("not made anew")
     };
-    assert!(rt; others.is_empty());
+    check!(rt; others.is_empty());
     array
 }
 
@@ -67,7 +68,7 @@ fn refused(
     slots: &[u16],
 ) -> (ScanFault, Parts<MemDrive>, Vec<Plain>) {
     let Err(refused) = restarted(rt, alloc, rig, slots) else {
-        panic!(rt; "made anew")
+        rt.panic("made anew")
     };
     refused
 }
@@ -85,11 +86,11 @@ fn fails(rt: &impl Abort, alloc: Global, rig: Rig, expected: ScanFault) -> bool 
 
 /// Fills a slot.
 fn fill(rt: &impl Abort, alloc: Global, array: &mut Memory, claim: Plain) -> Ticket {
-    assert!(rt; array.shape().payload == 24);
+    check!(rt; array.shape().payload == 24);
     let mut payload = [0; 24];
     fill_from(&mut payload, 0x11);
     let Ok(ticket) = array.fill(claim, &payload) else {
-        panic!(rt; "not filled")
+        rt.panic("not filled")
     };
     ticket
 }
@@ -101,22 +102,22 @@ fn commit(
     array: &mut Memory,
     ticket: Ticket,
 ) -> Result<Done<Plain>, (Refusal, Ticket)> {
-    assert!(rt; array.shape().blocks == 16);
+    check!(rt; array.shape().blocks == 16);
     array.commit(alloc, ticket, 3)
 }
 
 /// The refusal of a copy of block 3 to a slot, and the claim that it returns.
 fn copy(rt: &impl Abort, alloc: Global, array: &mut Memory, slot: u16) -> (Refusal, Plain) {
-    assert!(rt; array.shape().blocks == 16);
+    check!(rt; array.shape().blocks == 16);
     let Err(refused) = array.copy(Plain { slot }, 3) else {
-        panic!(rt; "copied")
+        rt.panic("copied")
     };
     refused
 }
 
 /// Whether block 3 reads as this version, with the payload that this byte names.
 fn reads(rt: &impl Abort, alloc: Global, array: &mut Memory, version: u32, byte: u8) -> bool {
-    assert!(rt; array.shape().blocks == 16);
+    check!(rt; array.shape().blocks == 16);
     match array.read(alloc, 3) {
         Ok(Some((reported, payload))) => reported == version && is_of(&payload, byte),
         _ => false,
@@ -129,13 +130,13 @@ fn a_block_found_at_its_last_hop_is_written_and_not_moved(rt: HostRuntime) {
     let rig = holding(&rt, alloc, &[(0, record(3, 1, 65_535, 0))]);
     let mut array = made(&rt, alloc, rig);
     let (refusal, claim) = copy(&rt, alloc, &mut array, 1);
-    assert!(rt; refusal == Refusal::HopsSpent && refusal.number() == 8);
+    check!(rt; refusal == Refusal::HopsSpent && refusal.number() == 8);
     let ticket = fill(&rt, alloc, &mut array, claim);
     let Ok(done) = commit(&rt, alloc, &mut array, ticket) else {
-        panic!(rt; "not committed")
+        rt.panic("not committed")
     };
-    assert!(rt; done.emitted.record() == record(3, 2, 0, 1));
-    assert!(rt; done.old == Some(Plain { slot: 0 }));
+    check!(rt; done.emitted.record() == record(3, 2, 0, 1));
+    check!(rt; done.old == Some(Plain { slot: 0 }));
 }
 
 #[test]
@@ -145,10 +146,10 @@ fn a_block_found_at_its_last_version_is_not_written(rt: HostRuntime) {
     let mut array = made(&rt, alloc, rig);
     let ticket = fill(&rt, alloc, &mut array, Plain { slot: 1 });
     let Err((refusal, ticket)) = commit(&rt, alloc, &mut array, ticket) else {
-        panic!(rt; "written past the last version")
+        rt.panic("written past the last version")
     };
-    assert!(rt; refusal == Refusal::VersionSpent && refusal.number() == 7);
-    assert!(rt; ticket.slot() == 1 && array.is_held(1));
+    check!(rt; refusal == Refusal::VersionSpent && refusal.number() == 7);
+    check!(rt; ticket.slot() == 1 && array.is_held(1));
 }
 
 #[test]
@@ -157,12 +158,12 @@ fn the_fault_of_the_lowest_slot_is_reported(rt: HostRuntime) {
     let mut rig = holding(&rt, alloc, &[(2, record(3, 1, 0, 0))]);
     rig.set(&rt, 4, 20, 1);
     let reported = fault(&rt, alloc, rig);
-    assert!(rt; reported == ScanFault::WrongSlot(2, 0) && reported.number() == 3);
+    check!(rt; reported == ScanFault::WrongSlot(2, 0) && reported.number() == 3);
     let mut rig = mirrored(&rt, alloc);
     rig.set(&rt, 4, 20, 1);
-    assert!(rt; fails(&rt, alloc, rig, ScanFault::BadHeader(4)));
+    check!(rt; fails(&rt, alloc, rig, ScanFault::BadHeader(4)));
     let rig = holding(&rt, alloc, &[(0, record(16, 1, 0, 0))]);
-    assert!(rt; fails(&rt, alloc, rig, ScanFault::BadHeader(0)));
+    check!(rt; fails(&rt, alloc, rig, ScanFault::BadHeader(0)));
 }
 
 #[test]
@@ -170,7 +171,7 @@ fn a_block_at_two_slots_is_reported_with_both(rt: HostRuntime) {
     let alloc = rt.alloc();
     let twice = [(0, record(3, 1, 0, 0)), (1, record(3, 1, 0, 1))];
     let rig = holding(&rt, alloc, &twice);
-    assert!(rt; fails(&rt, alloc, rig, ScanFault::Twice(3, 0, 1)));
+    check!(rt; fails(&rt, alloc, rig, ScanFault::Twice(3, 0, 1)));
 }
 
 #[test]
@@ -179,7 +180,7 @@ fn two_mirrored_drives_lost_leave_no_array(rt: HostRuntime) {
     let mut rig = holding(&rt, alloc, &[(0, record(3, 1, 0, 0))]);
     rig.lose(&rt, 0);
     rig.lose(&rt, 2);
-    assert!(rt; fails(&rt, alloc, rig, ScanFault::Gone(2)));
+    check!(rt; fails(&rt, alloc, rig, ScanFault::Gone(2)));
 }
 
 #[test]
@@ -187,12 +188,12 @@ fn a_restart_without_a_claim_hands_all_back(rt: HostRuntime) {
     let alloc = rt.alloc();
     let rig = holding(&rt, alloc, &[(0, record(3, 1, 0, 0))]);
     let (fault, parts, mut claims) = refused(&rt, alloc, rig, &[4, 1]);
-    assert!(rt; fault == ScanFault::NoClaim(0) && fault.number() == 6);
-    assert!(rt; claims.as_slice() == [Plain { slot: 4 }, Plain { slot: 1 }].as_slice());
-    assert!(rt; claims.push(Plain { slot: 0 }).is_ok());
+    check!(rt; fault == ScanFault::NoClaim(0) && fault.number() == 6);
+    check!(rt; claims.as_slice() == [Plain { slot: 4 }, Plain { slot: 1 }].as_slice());
+    check!(rt; claims.push(Plain { slot: 0 }).is_ok());
     let (mut array, others) = made_of(&rt, alloc, parts, claims);
-    assert!(rt; others.len() == 2);
-    assert!(rt; others.contains(&Plain { slot: 1 }) && others.contains(&Plain { slot: 4 }));
-    assert!(rt; array.is_held(0) && !array.is_held(1) && !array.is_held(4));
-    assert!(rt; reads(&rt, alloc, &mut array, 1, 9));
+    check!(rt; others.len() == 2);
+    check!(rt; others.contains(&Plain { slot: 1 }) && others.contains(&Plain { slot: 4 }));
+    check!(rt; array.is_held(0) && !array.is_held(1) && !array.is_held(4));
+    check!(rt; reads(&rt, alloc, &mut array, 1, 9));
 }

@@ -8,6 +8,7 @@ ghost use Rattle.unit_store.specs.Fit.{IsFit};
 ghost use Rattle.unit_store.specs.Memory.{held_units};
 ghost use Rattle.unit_store.specs.Slots.{IsSlot};
 
+use crate::asserts::check;
 use consistency_check::{find_unsound, is_sound};
 use extent_groups::{Class, GroupTable, Member, SLOTS, are_there, put_check};
 use extents::{Drive, ExtentTable, Header, Kind, MemDrive, Shape};
@@ -73,7 +74,7 @@ fn is_of_both(bytes: &[u8], one: u8, other: u8) -> bool {
 /// A buffer of `size` zeros.
 pub(crate) fn zeros(rt: &impl Abort, alloc: Global, size: usize) -> Vec<u8> {
     let Ok(bytes) = vec![in alloc; 0; size] else {
-        panic!(rt; "no buffer")
+        rt.panic("no buffer")
     };
     bytes
 }
@@ -83,9 +84,9 @@ fn four_drives(rt: &impl Abort, alloc: Global, shape: &Shape) -> Vec<MemDrive> {
     let mut drives = Vec::new(alloc);
     for _drive in 0..4 {
         let Ok(drive) = MemDrive::new(alloc, shape) else {
-            panic!(rt; "no drive")
+            rt.panic("no drive")
         };
-        assert!(rt; drives.push(drive).is_ok());
+        check!(rt; drives.push(drive).is_ok());
     }
     drives
 }
@@ -103,7 +104,7 @@ pub(crate) fn members_on(
             drive: *drive,
             extent,
         };
-        assert!(rt; members.push(member).is_ok());
+        check!(rt; members.push(member).is_ok());
     }
     members
 }
@@ -138,7 +139,7 @@ pub(crate) fn restart_parts(
     parts: Parts<MemDrive>,
     claims: Vec<Plain>,
 ) -> Restarted {
-    assert!(rt; parts.is_fit());
+    check!(rt; parts.is_fit());
     restart(alloc, parts, claims)
 }
 
@@ -146,13 +147,13 @@ impl Rig {
     /// Drives all of whose units are zero, and no group.
     pub(crate) fn new(rt: &impl Abort, alloc: Global) -> Rig {
         let Ok(shape) = Shape::new(8, 2, 24, 16) else {
-            panic!(rt; "no shape")
+            rt.panic("no shape")
         };
         let Ok(groups) = GroupTable::new(alloc, &shape) else {
-            panic!(rt; "no groups")
+            rt.panic("no groups")
         };
         let Ok(extents) = ExtentTable::new(alloc, 4, &shape) else {
-            panic!(rt; "no extents")
+            rt.panic("no extents")
         };
         let drives = four_drives(rt, alloc, &shape);
         Rig {
@@ -172,7 +173,7 @@ impl Rig {
     /// Slots 0 to 5 are mirrored on drives 0 to 2.
     pub(crate) fn mirrored(rt: &impl Abort, alloc: Global) -> Rig {
         let mut rig = Rig::new(rt, alloc);
-        assert!(rt;
+        check!(rt;
             rig.make(rt, alloc, 0, Class::Mirrored, &[0, 1, 2], 0)
                 .is_ok()
         );
@@ -182,7 +183,7 @@ impl Rig {
     /// Slots 0 to 5 are mirrored on drives 0 to 2, and slots 128 to 135 have parity on drives 1 to 3.
     pub(crate) fn grouped(rt: &impl Abort, alloc: Global) -> Rig {
         let mut rig = Rig::mirrored(rt, alloc);
-        assert!(rt; rig.make(rt, alloc, 1, Class::Parity, &[1, 2, 3], 1).is_ok());
+        check!(rt; rig.make(rt, alloc, 1, Class::Parity, &[1, 2, 3], 1).is_ok());
         rig
     }
 
@@ -201,15 +202,15 @@ impl Rig {
 
     /// Reads a slot into the buffer.
     pub(crate) fn read(&mut self, rt: &impl Abort, slot: u16) -> Result<(), Refusal> {
-        assert!(rt; self.is_ready());
-        assert!(rt; is_slot(&self.parts.groups, slot));
+        check!(rt; self.is_ready());
+        check!(rt; is_slot(&self.parts.groups, slot));
         self.parts.read(slot, &mut self.unit, &mut self.scratch)
     }
 
     /// Writes what the buffer holds to a slot.
     fn store(&mut self, rt: &impl Abort, slot: u16) -> Result<(), Refusal> {
-        assert!(rt; self.is_ready());
-        assert!(rt; is_slot(&self.parts.groups, slot));
+        check!(rt; self.is_ready());
+        check!(rt; is_slot(&self.parts.groups, slot));
         self.parts.write(slot, &self.unit, &mut self.scratch)
     }
 
@@ -221,33 +222,33 @@ impl Rig {
 
     /// Writes a unit that this byte names to a slot, which is not refused.
     pub(crate) fn writes(&mut self, rt: &impl Abort, slot: u16, byte: u8) {
-        assert!(rt; self.write(rt, slot, byte).is_ok());
+        check!(rt; self.write(rt, slot, byte).is_ok());
     }
 
     /// Puts a payload that this byte names under a blank header in a slot, which is not refused.
     pub(crate) fn put(&mut self, rt: &impl Abort, slot: u16, byte: u8) {
-        assert!(rt; self.is_ready());
-        assert!(rt; is_slot(&self.parts.groups, slot));
-        assert!(rt; self.parts.groups.shape().payload == 24);
+        check!(rt; self.is_ready());
+        check!(rt; is_slot(&self.parts.groups, slot));
+        check!(rt; self.parts.groups.shape().payload == 24);
         let mut payload = [0; 24];
         fill_from(&mut payload, byte);
         let put = self
             .parts
             .put(slot, &payload, &mut self.unit, &mut self.scratch);
-        assert!(rt; put.is_ok());
+        check!(rt; put.is_ok());
     }
 
     /// Writes what a slot holds into a slot, under a record's header, which is not refused.
     pub(crate) fn carry(&mut self, rt: &impl Abort, from: u16, to: u16, record: Record) {
-        assert!(rt; self.is_ready());
-        assert!(rt; is_slot(&self.parts.groups, from));
-        assert!(rt; is_slot(&self.parts.groups, to));
-        assert!(rt; record.version > 0);
+        check!(rt; self.is_ready());
+        check!(rt; is_slot(&self.parts.groups, from));
+        check!(rt; is_slot(&self.parts.groups, to));
+        check!(rt; record.version > 0);
         let header = Header::Is(record, Kind::Data);
         let carried = self
             .parts
             .carry(from, to, &header, &mut self.unit, &mut self.scratch);
-        assert!(rt; carried.is_ok());
+        check!(rt; carried.is_ok());
     }
 
     /// Carries what a slot holds to another, or the same, each under a record's header.
@@ -286,15 +287,15 @@ impl Rig {
 
     /// Sets a byte of what a slot holds, which is not refused.
     pub(crate) fn set(&mut self, rt: &impl Abort, slot: u16, at: usize, byte: u8) {
-        assert!(rt; self.read(rt, slot).is_ok());
-        assert!(rt; at < self.unit.len());
+        check!(rt; self.read(rt, slot).is_ok());
+        check!(rt; at < self.unit.len());
         self.unit[at] = byte;
-        assert!(rt; self.store(rt, slot).is_ok());
+        check!(rt; self.store(rt, slot).is_ok());
     }
 
     /// The map of the headers of all groups.
     pub(crate) fn scan(&mut self, rt: &impl Abort, alloc: Global) -> Result<BlockMap, ScanFault> {
-        assert!(rt; self.is_ready());
+        check!(rt; self.is_ready());
         scan(alloc, &mut self.parts)
     }
 
@@ -306,23 +307,23 @@ impl Rig {
         first: u16,
         end: u16,
     ) -> Result<BlockMap, ScanFault> {
-        assert!(rt; self.is_ready());
-        assert!(rt; first <= end);
-        assert!(rt; end <= 512);
+        check!(rt; self.is_ready());
+        check!(rt; first <= end);
+        check!(rt; end <= 512);
         scan_groups(alloc, &mut self.parts, first, end)
     }
 
     /// The lowest slot that isn't sound.
     pub(crate) fn find_unsound(&mut self, rt: &impl Abort) -> Option<u16> {
-        assert!(rt; self.is_ready());
+        check!(rt; self.is_ready());
         let size = self.unit.len();
         find_unsound(&mut self.parts, &mut self.unit, &mut self.scratch[..size])
     }
 
     /// Whether a slot is sound.
     pub(crate) fn is_sound(&mut self, rt: &impl Abort, slot: u16) -> bool {
-        assert!(rt; self.is_ready());
-        assert!(rt; is_slot(&self.parts.groups, slot));
+        check!(rt; self.is_ready());
+        check!(rt; is_slot(&self.parts.groups, slot));
         let size = self.unit.len();
         is_sound(
             &mut self.parts,
@@ -343,11 +344,11 @@ impl Rig {
         extent: u16,
     ) -> Result<(), Refusal> {
         let members = members_on(rt, alloc, drives, extent);
-        assert!(rt; self.is_ready());
-        assert!(rt; self.parts.groups.shape().payload == 24);
-        assert!(rt; self.parts.groups.is_free(group));
-        assert!(rt; are_there(&self.parts.extents, &members));
-        assert!(rt; put_check(&self.parts.extents, &members).is_none());
+        check!(rt; self.is_ready());
+        check!(rt; self.parts.groups.shape().payload == 24);
+        check!(rt; self.parts.groups.is_free(group));
+        check!(rt; are_there(&self.parts.extents, &members));
+        check!(rt; put_check(&self.parts.extents, &members).is_none());
         let zeros = [0; SIZE];
         self.parts.make(group, class, members, &zeros)
     }
@@ -363,10 +364,10 @@ impl Rig {
         extent: u16,
     ) -> Result<(), Refusal> {
         let members = members_on(rt, alloc, drives, extent);
-        assert!(rt; self.is_ready());
-        assert!(rt; self.parts.groups.is_free(group));
-        assert!(rt; are_there(&self.parts.extents, &members));
-        assert!(rt; put_check(&self.parts.extents, &members).is_none());
+        check!(rt; self.is_ready());
+        check!(rt; self.parts.groups.is_free(group));
+        check!(rt; are_there(&self.parts.extents, &members));
+        check!(rt; put_check(&self.parts.extents, &members).is_none());
         self.parts.enter(group, class, members, &mut self.unit)
     }
 
@@ -378,10 +379,10 @@ impl Rig {
         member: u8,
         to: Member,
     ) -> Result<(), Refusal> {
-        assert!(rt; self.is_ready());
-        assert!(rt; (member as usize) < self.parts.groups.members(group).len());
-        assert!(rt; self.parts.extents.has_extent(to.drive, to.extent));
-        assert!(rt;
+        check!(rt; self.is_ready());
+        check!(rt; (member as usize) < self.parts.groups.members(group).len());
+        check!(rt; self.parts.extents.has_extent(to.drive, to.extent));
+        check!(rt;
             self.parts
                 .groups
                 .swap_refusal(&self.parts.extents, group, to)
@@ -393,12 +394,12 @@ impl Rig {
 
     /// Moves a group's member onto another extent, which is not refused.
     pub(crate) fn shifts(&mut self, rt: &impl Abort, group: u16, member: u8, to: Member) {
-        assert!(rt; self.shift(rt, group, member, to).is_ok());
+        check!(rt; self.shift(rt, group, member, to).is_ok());
     }
 
     /// Whether this is the lowest slot of a group that is gone, or none is.
     pub(crate) fn is_first_gone(&self, rt: &impl Abort, group: u16, expected: Option<u16>) -> bool {
-        assert!(rt; self.is_ready());
+        check!(rt; self.is_ready());
         self.parts.first_gone(group) == expected
     }
 
@@ -411,24 +412,24 @@ impl Rig {
         expected: Option<u8>,
     ) -> bool {
         let members = members_on(rt, alloc, drives, 0);
-        assert!(rt; are_on(self.parts.drives.len(), &members));
+        check!(rt; are_on(self.parts.drives.len(), &members));
         self.parts.first_lost(&members) == expected
     }
 
     /// Reads the payload of a slot into the buffer, and returns its kind.
     pub(crate) fn take_payload(&mut self, rt: &impl Abort, slot: u16) -> Result<Kind, Refusal> {
-        assert!(rt; self.is_ready());
-        assert!(rt; is_slot(&self.parts.groups, slot));
-        assert!(rt; self.parts.groups.shape().payload == 24);
+        check!(rt; self.is_ready());
+        check!(rt; is_slot(&self.parts.groups, slot));
+        check!(rt; self.parts.groups.shape().payload == 24);
         self.parts
             .payload(slot, &mut self.payload, &mut self.unit, &mut self.scratch)
     }
 
     /// Looks for a record at its place, and reads the payload there into the buffer.
     pub(crate) fn see(&mut self, rt: &impl Abort, asked: Record) -> Result<Sight, Refusal> {
-        assert!(rt; self.is_ready());
-        assert!(rt; is_slot(&self.parts.groups, asked.place));
-        assert!(rt; self.parts.groups.shape().payload == 24);
+        check!(rt; self.is_ready());
+        check!(rt; is_slot(&self.parts.groups, asked.place));
+        check!(rt; self.parts.groups.shape().payload == 24);
         self.parts.see(&asked, &mut self.payload, &mut self.unit, &mut self.scratch)
     }
 
@@ -440,7 +441,7 @@ impl Rig {
         extent: u16,
         expected: Option<u16>,
     ) -> bool {
-        assert!(rt; self.parts.extents.has_extent(drive, extent));
+        check!(rt; self.parts.extents.has_extent(drive, extent));
         self.parts.extents.owner(drive, extent) == expected
     }
 
@@ -451,26 +452,26 @@ impl Rig {
 
     /// Loses a drive.
     pub(crate) fn lose(&mut self, rt: &impl Abort, drive: u8) {
-        assert!(rt; self.is_ready());
-        assert!(rt; (drive as usize) < self.parts.drives.len());
+        check!(rt; self.is_ready());
+        check!(rt; (drive as usize) < self.parts.drives.len());
         self.parts.lose(drive);
     }
 
     /// Makes a drive fail at its `calls`-th read or write from now (1 = the next), and at all later ones.
     pub(crate) fn fuse(&mut self, rt: &impl Abort, drive: u8, calls: u64) {
-        assert!(rt; self.is_ready());
-        assert!(rt; (drive as usize) < self.parts.drives.len());
-        assert!(rt; calls >= 1);
+        check!(rt; self.is_ready());
+        check!(rt; (drive as usize) < self.parts.drives.len());
+        check!(rt; calls >= 1);
         self.parts.fuse(drive, calls);
     }
 
     /// The unit at an address of a drive, read from the drive itself.
     pub(crate) fn peek(&mut self, rt: &impl Abort, drive: usize, at: u32) -> bool {
         let Some(drive) = self.parts.drives.get_mut(drive) else {
-            panic!(rt; "no drive")
+            rt.panic("no drive")
         };
-        assert!(rt; drive.unit_bytes() == self.unit.len());
-        assert!(rt; at < drive.units());
+        check!(rt; drive.unit_bytes() == self.unit.len());
+        check!(rt; at < drive.units());
         drive.read_unit(at, &mut self.unit).is_ok()
     }
 
@@ -478,23 +479,23 @@ impl Rig {
     pub(crate) fn poke(&mut self, rt: &impl Abort, drive: usize, at: u32, byte: u8) -> bool {
         fill_from(&mut self.unit, byte);
         let Some(drive) = self.parts.drives.get_mut(drive) else {
-            panic!(rt; "no drive")
+            rt.panic("no drive")
         };
-        assert!(rt; drive.unit_bytes() == self.unit.len());
-        assert!(rt; at < drive.units());
+        check!(rt; drive.unit_bytes() == self.unit.len());
+        check!(rt; at < drive.units());
         drive.write_unit(at, &self.unit).is_ok()
     }
 
     /// Flips the bits of a byte of the unit at an address of a drive, on the drive itself.
     pub(crate) fn flip(&mut self, rt: &impl Abort, drive: usize, at: u32, byte: usize) {
-        assert!(rt; self.peek(rt, drive, at));
-        assert!(rt; byte < self.unit.len());
+        check!(rt; self.peek(rt, drive, at));
+        check!(rt; byte < self.unit.len());
         self.unit[byte] ^= 0xFF;
         let Some(drive) = self.parts.drives.get_mut(drive) else {
-            panic!(rt; "no drive")
+            rt.panic("no drive")
         };
-        assert!(rt; drive.unit_bytes() == self.unit.len());
-        assert!(rt; at < drive.units());
-        assert!(rt; drive.write_unit(at, &self.unit).is_ok());
+        check!(rt; drive.unit_bytes() == self.unit.len());
+        check!(rt; at < drive.units());
+        check!(rt; drive.write_unit(at, &self.unit).is_ok());
     }
 }

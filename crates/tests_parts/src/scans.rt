@@ -1,4 +1,5 @@
 // Scans of a mirrored and of a parity group: what their headers hold with a drive lost, and one of each fault.
+use crate::asserts::check;
 use crate::rig::{Rig, record};
 use header_scan::ScanFault;
 use map_join::{BlockMap, Record};
@@ -64,7 +65,7 @@ fn a_scan_with_a_drive_lost_reports_the_newest_record_of_each_block(rt: HostRunt
         record(5, 2, 0, 4),
         record(7, 1, 1, 133),
     ];
-    assert!(rt; tells_all(&rt, alloc, &mut rig, &newest));
+    check!(rt; tells_all(&rt, alloc, &mut rig, &newest));
 }
 
 #[test]
@@ -72,10 +73,10 @@ fn a_scan_of_some_groups_reports_their_records_alone(rt: HostRuntime) {
     let alloc = rt.alloc();
     let mut rig = two_groups(&rt, alloc);
     let mirrored = [record(3, 1, 0, 0), record(5, 2, 0, 4)];
-    assert!(rt; reports_of(&rt, alloc, &mut rig, 0, 1, &mirrored));
+    check!(rt; reports_of(&rt, alloc, &mut rig, 0, 1, &mirrored));
     let parity = [record(3, 1, 1, 130), record(7, 1, 1, 133)];
-    assert!(rt; reports_of(&rt, alloc, &mut rig, 1, 2, &parity));
-    assert!(rt; reports_of(&rt, alloc, &mut rig, 2, 512, &[]));
+    check!(rt; reports_of(&rt, alloc, &mut rig, 1, 2, &parity));
+    check!(rt; reports_of(&rt, alloc, &mut rig, 2, 512, &[]));
 }
 
 #[test]
@@ -84,10 +85,10 @@ fn a_scan_reads_each_header_by_one_call(rt: HostRuntime) {
     let mut rig = two_groups(&rt, alloc);
     // Of the units that are read where no drive is lost, those of slots 0 and 1 lie on drive 0.
     rig.fuse(&rt, 0, 3);
-    assert!(rt; rig.scan(&rt, alloc).is_ok());
-    assert!(rt; rig.is_first_lost(&rt, alloc, &[0], None));
-    assert!(rt; rig.scan(&rt, alloc).is_ok());
-    assert!(rt; rig.is_first_lost(&rt, alloc, &[0], Some(0)));
+    check!(rt; rig.scan(&rt, alloc).is_ok());
+    check!(rt; rig.is_first_lost(&rt, alloc, &[0], None));
+    check!(rt; rig.scan(&rt, alloc).is_ok());
+    check!(rt; rig.is_first_lost(&rt, alloc, &[0], Some(0)));
 }
 
 #[test]
@@ -96,9 +97,9 @@ fn the_lowest_slot_that_is_gone_is_reported(rt: HostRuntime) {
     let mut rig = two_groups(&rt, alloc);
     rig.lose(&rt, 0);
     rig.lose(&rt, 2);
-    assert!(rt; fails(&rt, alloc, &mut rig, ScanFault::Gone(2)));
+    check!(rt; fails(&rt, alloc, &mut rig, ScanFault::Gone(2)));
     let parity = [record(3, 1, 1, 130), record(7, 1, 1, 133)];
-    assert!(rt; reports_of(&rt, alloc, &mut rig, 1, 2, &parity));
+    check!(rt; reports_of(&rt, alloc, &mut rig, 1, 2, &parity));
 }
 
 #[test]
@@ -106,7 +107,7 @@ fn a_block_that_matches_twice_is_reported_with_both_slots(rt: HostRuntime) {
     let alloc = rt.alloc();
     let mut rig = two_groups(&rt, alloc);
     rig.carry(&rt, 133, 1, record(7, 1, 1, 1));
-    assert!(rt; fails(&rt, alloc, &mut rig, ScanFault::Twice(7, 1, 133)));
+    check!(rt; fails(&rt, alloc, &mut rig, ScanFault::Twice(7, 1, 133)));
 }
 
 #[test]
@@ -114,7 +115,7 @@ fn a_record_of_another_slot_and_bytes_that_are_no_header_are_reported(rt: HostRu
     let alloc = rt.alloc();
     let mut rig = two_groups(&rt, alloc);
     rig.carry(&rt, 0, 2, record(9, 1, 0, 3));
-    assert!(rt; fails(&rt, alloc, &mut rig, ScanFault::WrongSlot(2, 3)));
+    check!(rt; fails(&rt, alloc, &mut rig, ScanFault::WrongSlot(2, 3)));
     rig.writes(&rt, 1, 7);
-    assert!(rt; fails(&rt, alloc, &mut rig, ScanFault::BadHeader(1)));
+    check!(rt; fails(&rt, alloc, &mut rig, ScanFault::BadHeader(1)));
 }

@@ -1,4 +1,5 @@
 // What is seen at the places of records, and payloads read, in both classes: with all drives there, one lost, and two.
+use crate::asserts::check;
 use crate::rig::{Rig, is_of, record};
 use extents::Kind;
 use flat_machine::Refusal;
@@ -51,8 +52,8 @@ fn is_gone(rt: &impl Abort, rig: &mut Rig, asked: Record) -> bool {
 
 /// Looks for records that are there, for older ones of the same block and place, and where no record is.
 fn see_all(rt: &impl Abort, rig: &mut Rig) {
-    assert!(rt; sees(rt, rig, record(5, 2, 0, 4), 9));
-    assert!(rt; sees(rt, rig, record(3, 1, 1, 130), 8));
+    check!(rt; sees(rt, rig, record(5, 2, 0, 4), 9));
+    check!(rt; sees(rt, rig, record(3, 1, 1, 130), 8));
     let stale = [
         (record(5, 1, 0, 4), Some(record(5, 2, 0, 4))),
         (record(3, 1, 0, 130), Some(record(3, 1, 1, 130))),
@@ -62,7 +63,7 @@ fn see_all(rt: &impl Abort, rig: &mut Rig) {
         (record(6, 1, 1, 133), None),
     ];
     for (asked, found) in &stale {
-        assert!(rt; is_stale(rt, rig, *asked, *found));
+        check!(rt; is_stale(rt, rig, *asked, *found));
     }
 }
 
@@ -71,7 +72,7 @@ fn read_all(rt: &impl Abort, rig: &mut Rig) {
     // After the 32 bytes of a header the bytes that a seven names go on with 7 + 29 * 32, which is 167 and whole 256s.
     let payloads = [(1, 8), (2, 167), (4, 9), (130, 8), (131, 6), (133, 167)];
     for (slot, byte) in &payloads {
-        assert!(rt; reads(rt, rig, *slot, *byte));
+        check!(rt; reads(rt, rig, *slot, *byte));
     }
 }
 
@@ -91,8 +92,8 @@ fn a_slot_whose_two_drives_are_lost_is_gone_and_others_are_seen(rt: HostRuntime)
     rig.lose(&rt, 1);
     read_all(&rt, &mut rig);
     rig.fuse(&rt, 2, 1);
-    assert!(rt; is_gone(&rt, &mut rig, record(5, 2, 0, 4)));
-    assert!(rt; is_gone(&rt, &mut rig, record(3, 1, 1, 130)));
-    assert!(rt; sees(&rt, &mut rig, record(7, 1, 1, 134), 8));
-    assert!(rt; reads(&rt, &mut rig, 1, 8));
+    check!(rt; is_gone(&rt, &mut rig, record(5, 2, 0, 4)));
+    check!(rt; is_gone(&rt, &mut rig, record(3, 1, 1, 130)));
+    check!(rt; sees(&rt, &mut rig, record(7, 1, 1, 134), 8));
+    check!(rt; reads(&rt, &mut rig, 1, 8));
 }

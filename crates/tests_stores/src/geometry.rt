@@ -1,4 +1,5 @@
 // Where slots lie, against a model of the geometry that was written apart.
+use crate::asserts::check;
 use crate::cases::PLACES;
 use crate::tables::{Tables, on};
 use extent_groups::{Class, Copies, GroupTable, Role, Spot, Stripe};
@@ -47,8 +48,8 @@ fn group_of(
         on(6, 0),
         on(7, 0),
     ];
-    assert!(rt; members <= 8);
-    assert!(rt;
+    check!(rt; members <= 8);
+    check!(rt;
         tables
             .put(rt, alloc, 0, class, &all[..members as usize])
             .is_ok()
@@ -152,8 +153,8 @@ fn every_index_lies_where_the_table_says(rt: HostRuntime) -> Result<(), Fail> {
     for places in &PLACES {
         let row = Row::of(places);
         let tables = group_of(&rt, rt.alloc(), row.class, row.members, row.segments)?;
-        assert!(rt; is_reported(&tables.groups, row));
-        assert!(rt; is_reported_back(&tables.groups, row));
+        check!(rt; is_reported(&tables.groups, row));
+        check!(rt; is_reported_back(&tables.groups, row));
     }
     Ok(())
 }
@@ -166,7 +167,7 @@ fn an_odd_segment_is_used_by_no_mirrored_slot(rt: HostRuntime) -> Result<(), Fai
         (Class::Parity, 3, 2, 8),
         (Class::Parity, 8, 8, 112),
     ] {
-        assert!(rt;
+        check!(rt;
             group_of(&rt, rt.alloc(), class, members, segments)?
                 .groups
                 .slots_of(0)
@@ -180,8 +181,8 @@ fn an_odd_segment_is_used_by_no_mirrored_slot(rt: HostRuntime) -> Result<(), Fai
 fn an_odd_segment_lies_on_the_last_member_unused(rt: HostRuntime) -> Result<(), Fail> {
     let odd = group_of(&rt, rt.alloc(), Class::Mirrored, 3, 3)?;
     for offset in 4..6 {
-        assert!(rt; role_seen(&odd.groups, 0, 2, offset) == Some(Role::Unused));
-        assert!(rt; role_seen(&odd.groups, 0, 1, offset) == Some(Role::Slot(offset as u16 + 2)));
+        check!(rt; role_seen(&odd.groups, 0, 2, offset) == Some(Role::Unused));
+        check!(rt; role_seen(&odd.groups, 0, 1, offset) == Some(Role::Slot(offset as u16 + 2)));
     }
     Ok(())
 }

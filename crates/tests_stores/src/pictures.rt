@@ -1,4 +1,5 @@
 // What a picture shows of a small array, by the rules of the geometry.
+use crate::asserts::check;
 use crate::set_up::took;
 use crate::tables::{Tables, on};
 use extent_groups::Class;
@@ -12,9 +13,9 @@ use std::test::Fail;
 fn three_drives(rt: &impl Abort, alloc: Global) -> Result<Tables, Fail> {
     let mut tables = Tables::new(rt, alloc, 3, 1)?;
     let mirrored = [on(0, 0), on(1, 0), on(2, 0)];
-    assert!(rt; tables.put(rt, alloc, 1, Class::Mirrored, &mirrored) == Ok(()));
+    check!(rt; tables.put(rt, alloc, 1, Class::Mirrored, &mirrored) == Ok(()));
     let parity = [on(0, 1), on(1, 1), on(2, 1)];
-    assert!(rt; tables.put(rt, alloc, 2, Class::Parity, &parity) == Ok(()));
+    check!(rt; tables.put(rt, alloc, 2, Class::Parity, &parity) == Ok(()));
     Ok(tables)
 }
 
@@ -67,7 +68,7 @@ fn each_unit_is_what_the_geometry_says(rt: HostRuntime) -> Result<(), Fail> {
         (0, 2, 0, Mark::Free),
     ];
     for (drive, extent, offset, mark) in &marks {
-        assert!(rt; mark_seen(&tables, &blocks, *drive, *extent, *offset) == Some(*mark));
+        check!(rt; mark_seen(&tables, &blocks, *drive, *extent, *offset) == Some(*mark));
     }
     Ok(())
 }
@@ -92,8 +93,8 @@ fn a_picture_has_the_numbers_of_live_blocks_alone(rt: HostRuntime) -> Result<(),
         ">9</text>",
         "drive 2, lost",
     ] {
-        assert!(rt; text.contains(shown));
+        check!(rt; text.contains(shown));
     }
-    assert!(rt; !text.contains(">10</text>"));
+    check!(rt; !text.contains(">10</text>"));
     Ok(())
 }

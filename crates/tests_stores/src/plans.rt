@@ -1,6 +1,7 @@
 // The plans' answers over a few groups, as worked out manually.
 ghost use Rattle.extent_groups.specs.Groups.{Agree};
 
+use crate::asserts::check;
 use crate::tables::{Tables, on};
 use extent_groups::Class;
 use extents::DRIVES;
@@ -14,7 +15,7 @@ fn shift(rt: &impl Abort, tables: &mut Tables, plan: Option<Shift>)
     ensures { Agree tables.new.groups tables.new.extents }
 {
     if let Some(plan) = plan {
-        assert!(rt; tables.swap(rt, plan.group, plan.member, plan.to).is_ok());
+        check!(rt; tables.swap(rt, plan.group, plan.member, plan.to).is_ok());
     }
 }
 
@@ -23,18 +24,18 @@ fn loads_are_evened_onto_a_new_drive(rt: HostRuntime) -> Result<(), Fail> {
     let mut tables = Tables::new(&rt, rt.alloc(), 3, 2)?;
     for group in 0..6u16 {
         let members = [on(0, group), on(1, group), on(2, group)];
-        assert!(rt;
+        check!(rt;
             tables
                 .put(&rt, rt.alloc(), group, Class::Mirrored, &members)
                 .is_ok()
         );
     }
     let lost = [false; DRIVES];
-    assert!(rt; balance_plan(&tables.extents, &tables.groups, &lost) == None);
+    check!(rt; balance_plan(&tables.extents, &tables.groups, &lost) == None);
     tables.add_drive(rt.alloc())?;
     for (group, member, extent) in [(0, 0, 0), (1, 1, 1), (2, 2, 2), (3, 0, 3)] {
         let plan = balance_plan(&tables.extents, &tables.groups, &lost);
-        assert!(rt;
+        check!(rt;
             plan == Some(Shift {
                 group,
                 member,
@@ -43,7 +44,7 @@ fn loads_are_evened_onto_a_new_drive(rt: HostRuntime) -> Result<(), Fail> {
         );
         shift(&rt, &mut tables, plan);
     }
-    assert!(rt; balance_plan(&tables.extents, &tables.groups, &lost) == None);
+    check!(rt; balance_plan(&tables.extents, &tables.groups, &lost) == None);
     Ok(())
 }
 
@@ -51,25 +52,25 @@ fn loads_are_evened_onto_a_new_drive(rt: HostRuntime) -> Result<(), Fail> {
 fn a_lost_drive_is_emptied_group_by_group(rt: HostRuntime) -> Result<(), Fail> {
     let mut tables = Tables::new(&rt, rt.alloc(), 4, 2)?;
     let upper = [on(0, 0), on(1, 0), on(2, 0)];
-    assert!(rt;
+    check!(rt;
         tables
             .put(&rt, rt.alloc(), 0, Class::Mirrored, &upper)
             .is_ok()
     );
     let lower = [on(1, 1), on(2, 1), on(3, 1)];
-    assert!(rt;
+    check!(rt;
         tables
             .put(&rt, rt.alloc(), 1, Class::Parity, &lower)
             .is_ok()
     );
     let mut lost = [false; DRIVES];
-    assert!(rt; rebuild_plan(&tables.extents, &tables.groups, &lost, 1) == None);
+    check!(rt; rebuild_plan(&tables.extents, &tables.groups, &lost, 1) == None);
     lost[1] = true;
     for (group, member, to) in [(0, 1, on(3, 0)), (1, 0, on(0, 1))] {
         let plan = rebuild_plan(&tables.extents, &tables.groups, &lost, 1);
-        assert!(rt; plan == Some(Shift { group, member, to }));
+        check!(rt; plan == Some(Shift { group, member, to }));
         shift(&rt, &mut tables, plan);
     }
-    assert!(rt; rebuild_plan(&tables.extents, &tables.groups, &lost, 1) == None);
+    check!(rt; rebuild_plan(&tables.extents, &tables.groups, &lost, 1) == None);
     Ok(())
 }

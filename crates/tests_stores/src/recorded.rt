@@ -7,6 +7,7 @@ ghost use Rattle.extents.specs.declared.shape.TheConstants.{HEADER_BYTES};
 ghost use Rattle.extent_groups.specs.Stores.{AreDrives};
 ghost use Rattle.tests_stores.specs.declared.recorded.Recorder.{Recorder};
 
+use crate::asserts::check;
 use crate::rig::{SIZE, across, is_slot, make};
 use crate::tables::shape_of;
 use extent_groups::{Class, GroupTable, Planned};
@@ -188,11 +189,11 @@ fn write(rt: &impl Abort, groups: &GroupTable, drives: &mut [Recorder], slot: u1
 {
     let unit = [byte; SIZE];
     let mut scratch = [0; 2 * SIZE];
-    assert!(rt; groups.shape().unit_bytes() == SIZE);
+    check!(rt; groups.shape().unit_bytes() == SIZE);
     if is_slot(groups, Class::Mirrored, slot) {
         return mirrored_store::write(groups, drives, slot, &unit, &mut scratch).is_ok();
     }
-    assert!(rt; is_slot(groups, Class::Parity, slot));
+    check!(rt; is_slot(groups, Class::Parity, slot));
     parity_store::write(groups, drives, slot, &unit, &mut scratch).is_ok()
 }
 
@@ -209,15 +210,15 @@ fn plan(
     ensures { AreDrives (λ (m : Recorder). m.drive.units) groups.now drives.new }
 {
     let unit = [byte; SIZE];
-    assert!(rt; groups.shape().unit_bytes() == SIZE);
+    check!(rt; groups.shape().unit_bytes() == SIZE);
     let planned = if is_slot(groups, Class::Mirrored, slot) {
         mirrored_store::plan(alloc, groups, drives, slot, &unit)
     } else {
-        assert!(rt; is_slot(groups, Class::Parity, slot));
+        check!(rt; is_slot(groups, Class::Parity, slot));
         parity_store::plan(alloc, groups, drives, slot, &unit)
     };
     let Ok(planned) = planned else {
-        panic!(rt; "no plan")
+        rt.panic("no plan")
     };
     planned
 }
@@ -234,25 +235,25 @@ fn is_taken(
 ) -> Result<(), AllocError> {
     let clock = AtomicU64::new(0);
     let (groups, mut drives) = set_up(rt, alloc, &clock, class, lost)?;
-    assert!(rt; write(rt, &groups, &mut drives, 2, 5));
+    check!(rt; write(rt, &groups, &mut drives, 2, 5));
     clock.store(0, SeqCst);
     let planned = plan(rt, alloc, &groups, &mut drives, 0, 7);
-    assert!(rt; clock.load(SeqCst) == 0);
-    assert!(rt; planned.writes.len() == expected.len());
-    assert!(rt; write(rt, &groups, &mut drives, 0, 7));
-    assert!(rt; clock.load(SeqCst) == expected.len() as u64);
+    check!(rt; clock.load(SeqCst) == 0);
+    check!(rt; planned.writes.len() == expected.len());
+    check!(rt; write(rt, &groups, &mut drives, 0, 7));
+    check!(rt; clock.load(SeqCst) == expected.len() as u64);
     for (k, (drive, address, unit)) in planned.writes.iter().enumerate() {
-        assert!(rt; k < expected.len());
-        assert!(rt; *drive == expected[k].0 && *address == 0);
-        assert!(rt; unit.len() == SIZE && unit.iter().all(|byte| *byte == expected[k].1));
-        assert!(rt; (*drive as usize) < drives.len());
+        check!(rt; k < expected.len());
+        check!(rt; *drive == expected[k].0 && *address == 0);
+        check!(rt; unit.len() == SIZE && unit.iter().all(|byte| *byte == expected[k].1));
+        check!(rt; (*drive as usize) < drives.len());
         let taken = &drives[*drive as usize].taken;
-        assert!(rt; taken.tick == k as u64 && taken.at == *address);
-        assert!(rt; taken.unit.as_slice() == unit.as_slice());
+        check!(rt; taken.tick == k as u64 && taken.at == *address);
+        check!(rt; taken.unit.as_slice() == unit.as_slice());
     }
-    assert!(rt; planned.parity.is_some() == parity.is_some());
+    check!(rt; planned.parity.is_some() == parity.is_some());
     if let (Some(unit), Some(expected)) = (&planned.parity, parity) {
-        assert!(rt; unit.len() == SIZE && unit.iter().all(|byte| *byte == expected));
+        check!(rt; unit.len() == SIZE && unit.iter().all(|byte| *byte == expected));
     }
     Ok(())
 }

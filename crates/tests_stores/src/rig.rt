@@ -8,6 +8,7 @@ ghost use Rattle.extent_groups.specs.declared.class.Class.TheVariants.{Mirrored,
 ghost use Rattle.extent_groups.specs.Groups.{Agree, class_in, group_at};
 ghost use Rattle.extent_groups.specs.Stores.{IsSlotOf, AreDrives};
 
+use crate::asserts::check;
 use crate::tables::shape_of;
 use extent_groups::{Class, GroupTable, Member, SLOTS, StoreRefusal, are_there, wipe_extent};
 use extents::{Drive, ExtentTable, HEADER_BYTES, HotSwap, MemDrive, Shape};
@@ -66,10 +67,10 @@ pub(crate) fn make(
     ensures sizes { (groups.new.extents ≡ groups.old.extents) × (groups.new.segments ≡ groups.old.segments) × (groups.new.payload ≡ groups.old.payload) }
     ensures rows { (length extents.new.rows ≡ length extents.old.rows) × (extents.new.extents ≡ extents.old.extents) }
 {
-    assert!(rt; are_there(extents, members));
-    assert!(rt; groups.is_free(group));
+    check!(rt; are_there(extents, members));
+    check!(rt; groups.is_free(group));
     let Ok(()) = groups.put_group(alloc, extents, group, class, members) else {
-        panic!(rt; "no group");
+        rt.panic("no group");
     };
 }
 
@@ -170,7 +171,7 @@ impl Rig {
 
     /// Writes the buffered unit to a slot, in two pieces to a mirrored one of odd number.
     pub(crate) fn write(&mut self, rt: &impl Abort, slot: u16) -> Result<(), StoreRefusal> {
-        assert!(rt; self.has_buffers());
+        check!(rt; self.has_buffers());
         let drives: &mut [MemDrive] = &mut self.drives;
         if is_slot(&self.groups, Class::Mirrored, slot) {
             if slot % 2 == 1 {
@@ -178,13 +179,13 @@ impl Rig {
             }
             return mirrored_store::write(&self.groups, drives, slot, &self.unit, &mut self.scratch);
         }
-        assert!(rt; is_slot(&self.groups, Class::Parity, slot));
+        check!(rt; is_slot(&self.groups, Class::Parity, slot));
         parity_store::write(&self.groups, drives, slot, &self.unit, &mut self.scratch)
     }
 
     /// Reads a slot into the buffer.
     pub(crate) fn read(&mut self, rt: &impl Abort, slot: u16) -> Result<(), StoreRefusal> {
-        assert!(rt; self.has_buffers());
+        check!(rt; self.has_buffers());
         let drives: &mut [MemDrive] = &mut self.drives;
         if is_slot(&self.groups, Class::Mirrored, slot) {
             return mirrored_store::read(
@@ -195,7 +196,7 @@ impl Rig {
                 &mut self.scratch,
             );
         }
-        assert!(rt; is_slot(&self.groups, Class::Parity, slot));
+        check!(rt; is_slot(&self.groups, Class::Parity, slot));
         parity_store::read(
             &self.groups,
             drives,
@@ -212,8 +213,8 @@ impl Rig {
         slot: u16,
         header: &mut [u8],
     ) -> Result<(), StoreRefusal> {
-        assert!(rt; self.has_buffers());
-        assert!(rt; header.len() == HEADER_BYTES);
+        check!(rt; self.has_buffers());
+        check!(rt; header.len() == HEADER_BYTES);
         let drives: &mut [MemDrive] = &mut self.drives;
         if is_slot(&self.groups, Class::Mirrored, slot) {
             return mirrored_store::read_header(
@@ -224,15 +225,15 @@ impl Rig {
                 &mut self.scratch,
             );
         }
-        assert!(rt; is_slot(&self.groups, Class::Parity, slot));
+        check!(rt; is_slot(&self.groups, Class::Parity, slot));
         parity_store::read_header(&self.groups, drives, slot, header, &mut self.scratch)
     }
 
     /// Reads the parity at an offset of a group, after asserting that it is a parity group.
     pub(crate) fn read_parity(&mut self, rt: &impl Abort, group: u16, offset: u16) -> bool {
-        assert!(rt; self.has_buffers());
-        assert!(rt; has_parity(&self.groups, group));
-        assert!(rt; (offset as u32) < self.groups.shape().extent_units());
+        check!(rt; self.has_buffers());
+        check!(rt; has_parity(&self.groups, group));
+        check!(rt; (offset as u32) < self.groups.shape().extent_units());
         let drives: &mut [MemDrive] = &mut self.drives;
         parity_store::read_parity(
             &self.groups,
@@ -246,10 +247,10 @@ impl Rig {
 
     /// Writes the buffered unit over an extent, after asserting that there is such an extent.
     pub(crate) fn wipe(&mut self, rt: &impl Abort, member: Member) -> bool {
-        assert!(rt; self.has_buffers());
+        check!(rt; self.has_buffers());
         let shape = self.groups.shape();
-        assert!(rt; (member.drive as usize) < self.drives.len());
-        assert!(rt; (member.extent as u32) < shape.extents);
+        check!(rt; (member.drive as usize) < self.drives.len());
+        check!(rt; (member.extent as u32) < shape.extents);
         let drives: &mut [MemDrive] = &mut self.drives;
         wipe_extent(drives, &shape, member, &self.unit)
     }
@@ -267,20 +268,20 @@ impl Rig {
 
     /// Makes a drive fail at its `calls`-th read or write from now (1 = the next).
     pub(crate) fn fuse(&mut self, rt: &impl Abort, drive: usize, calls: u64) {
-        assert!(rt; drive < self.drives.len());
-        assert!(rt; calls >= 1);
+        check!(rt; drive < self.drives.len());
+        check!(rt; calls >= 1);
         self.drives[drive].fuse(calls);
     }
 
     /// Whether a drive is lost.
     pub(crate) fn is_lost(&self, rt: &impl Abort, drive: usize) -> bool {
-        assert!(rt; drive < self.drives.len());
+        check!(rt; drive < self.drives.len());
         self.drives[drive].is_lost()
     }
 
     /// Loses a drive.
     pub(crate) fn lose(&mut self, rt: &impl Abort, drive: usize) {
-        assert!(rt; drive < self.drives.len());
+        check!(rt; drive < self.drives.len());
         self.drives[drive].lose();
     }
 

@@ -2,6 +2,7 @@
 ghost use Rattle.std.specs.Prelude.{IfOk};
 ghost use Rattle.extent_groups.specs.Groups.{Agree};
 
+use crate::asserts::check;
 use extent_groups::{Class, GroupTable, Member, are_there};
 use extents::{ExtentTable, Shape};
 use map_join::{BlockMap, Record};
@@ -17,7 +18,7 @@ fn tables(rt: &impl Abort, alloc: Global) -> Result<(GroupTable, ExtentTable), A
     ensures { IfOk result (λ tables. Agree tables.0 tables.1) }
 {
     let Ok(shape) = Shape::new(8, 1, 8, 16) else {
-        panic!(rt; "no shape");
+        rt.panic("no shape");
     };
     Ok((
         GroupTable::new(alloc, &shape)?,
@@ -38,15 +39,15 @@ fn put(
     requires { Agree groups.old extents.old }
     ensures { Agree groups.new extents.new }
 {
-    assert!(rt; are_there(extents, members));
-    assert!(rt; groups.is_free(group));
-    assert!(rt; groups.put_group(alloc, extents, group, class, members) == Ok(()));
+    check!(rt; are_there(extents, members));
+    check!(rt; groups.is_free(group));
+    check!(rt; groups.put_group(alloc, extents, group, class, members) == Ok(()));
 }
 
 /// Group 0 is mirrored, with slots 0 and 1; groups 1 to 3 are parity, with four slots each.
 pub(crate) fn four_groups(rt: &impl Abort, alloc: Global) -> GroupTable {
     let Ok((mut groups, mut extents)) = tables(rt, alloc) else {
-        panic!(rt; "no tables")
+        rt.panic("no tables")
     };
     let table = &mut groups;
     let owners = &mut extents;
@@ -77,8 +78,8 @@ pub(crate) fn took(
         hop,
         place,
     };
-    assert!(rt; version > 0);
-    assert!(rt; map.take(alloc, record).is_ok());
+    check!(rt; version > 0);
+    check!(rt; map.take(alloc, record).is_ok());
 }
 
 /// The places after blocks 0 to 8 were written and demoted, blocks 0, 4 and 5 were written again, and block 0 was demoted

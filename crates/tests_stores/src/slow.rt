@@ -1,6 +1,7 @@
 // What a slot holds, computed from reads of the present drives alone.
 ghost use Rattle.std.specs.Prelude.{◌≡◌};
 
+use crate::asserts::check;
 use crate::rig::is_slot;
 use extent_groups::{Class, GroupTable, Place, SLOTS};
 use extents::{Drive, MemDrive};
@@ -13,10 +14,10 @@ pub(crate) fn peek(
     place: Place,
     unit: &mut [u8],
 ) -> bool {
-    assert!(rt; (place.drive as usize) < drives.len());
+    check!(rt; (place.drive as usize) < drives.len());
     let drive = &mut drives[place.drive as usize];
-    assert!(rt; place.address < drive.units());
-    assert!(rt; unit.len() == drive.unit_bytes());
+    check!(rt; place.address < drive.units());
+    check!(rt; unit.len() == drive.unit_bytes());
     !drive.is_lost() && drive.read_unit(place.address, unit).is_ok()
 }
 
@@ -36,8 +37,8 @@ fn copies_hold(
     unit: &mut [u8],
     part: &mut [u8],
 ) -> bool {
-    assert!(rt; is_slot(groups, Class::Mirrored, slot));
-    assert!(rt; unit.len() == part.len());
+    check!(rt; is_slot(groups, Class::Mirrored, slot));
+    check!(rt; unit.len() == part.len());
     let (first, second) = groups.pair_of(slot);
     let one = peek(rt, drives, first, part);
     if !peek(rt, drives, second, unit) {
@@ -45,7 +46,7 @@ fn copies_hold(
         return one;
     }
     if one {
-        assert!(rt; unit.iter().zip(part.iter()).all(|(a, b)| *a == *b));
+        check!(rt; unit.iter().zip(part.iter()).all(|(a, b)| *a == *b));
     }
     true
 }
@@ -64,8 +65,8 @@ fn others_hold(
     unit.fill(0);
     for member in 0..groups.members(group).len() as u8 {
         if member != but {
-            assert!(rt; (member as usize) < groups.members(group).len());
-            assert!(rt; (offset as u32) < groups.shape().extent_units());
+            check!(rt; (member as usize) < groups.members(group).len());
+            check!(rt; (offset as u32) < groups.shape().extent_units());
             if !peek(rt, drives, groups.place(group, member, offset), part) {
                 return false;
             }
@@ -84,7 +85,7 @@ fn stripe_holds(
     unit: &mut [u8],
     part: &mut [u8],
 ) -> bool {
-    assert!(rt; is_slot(groups, Class::Parity, slot));
+    check!(rt; is_slot(groups, Class::Parity, slot));
     let at = groups.stripe_of(slot / SLOTS, slot % SLOTS);
     peek(
         rt,

@@ -1,4 +1,5 @@
 // Where the log starts over, with the most groups that an array can have.
+use crate::asserts::check;
 use crate::counted::live_counts;
 use crate::gathering::AllBut;
 use crate::set_up::took;
@@ -15,7 +16,7 @@ fn all_groups(rt: &impl Abort, alloc: Global) -> Result<Tables, AllocError> {
     let mut tables = Tables::of(alloc, 3, &shape_of(rt, 512, 1))?;
     for group in 0..GROUPS as u16 {
         let members = [on(0, group), on(1, group), on(2, group)];
-        assert!(rt;
+        check!(rt;
             tables
                 .put(rt, alloc, group, Class::Parity, &members)
                 .is_ok()
@@ -48,11 +49,11 @@ fn no_group_of_512_is_started_over_where_each_has_a_live_slot(rt: HostRuntime) -
     let map = one_in_each(&rt, rt.alloc(), None);
     let groups = &tables.groups;
     let counts = live_counts(groups, &map);
-    assert!(rt; first_append(&LogEnd::new(), groups, &map, &counts, &AllBut(0)) == None);
+    check!(rt; first_append(&LogEnd::new(), groups, &map, &counts, &AllBut(0)) == None);
     let end = end_after(128 * 7 + 3);
-    assert!(rt; first_append(&end, groups, &map, &counts, &AllBut(0)) == None);
+    check!(rt; first_append(&end, groups, &map, &counts, &AllBut(0)) == None);
     let end = end_after(128 * 7 + 1);
-    assert!(rt; first_append(&end, groups, &map, &counts, &AllBut(0)) == Some(128 * 7 + 2));
+    check!(rt; first_append(&end, groups, &map, &counts, &AllBut(0)) == Some(128 * 7 + 2));
     Ok(())
 }
 
@@ -63,11 +64,11 @@ fn the_last_group_of_512_is_started_over(rt: HostRuntime) -> Result<(), Fail> {
     let groups = &tables.groups;
     let counts = live_counts(groups, &map);
     let last = 128 * 511;
-    assert!(rt; first_append(&LogEnd::new(), groups, &map, &counts, &AllBut(0)) == Some(last));
+    check!(rt; first_append(&LogEnd::new(), groups, &map, &counts, &AllBut(0)) == Some(last));
     let end = end_after(128 * 7 + 3);
-    assert!(rt; first_append(&end, groups, &map, &counts, &AllBut(last)) == Some(last + 1));
+    check!(rt; first_append(&end, groups, &map, &counts, &AllBut(last)) == Some(last + 1));
     let end = end_after(128 * 7 + 1);
-    assert!(rt; first_append(&end, groups, &map, &counts, &AllBut(0)) == Some(128 * 7 + 2));
+    check!(rt; first_append(&end, groups, &map, &counts, &AllBut(0)) == Some(128 * 7 + 2));
     Ok(())
 }
 
@@ -78,10 +79,10 @@ fn a_write_group_without_live_slots_is_not_started_over(rt: HostRuntime) -> Resu
     let groups = &tables.groups;
     let counts = live_counts(groups, &map);
     let end = end_after(128 * 7 + 3);
-    assert!(rt; first_append(&end, groups, &map, &counts, &AllBut(0)) == None);
+    check!(rt; first_append(&end, groups, &map, &counts, &AllBut(0)) == None);
     let end = end_after(128 * 7 + 1);
-    assert!(rt; first_append(&end, groups, &map, &counts, &AllBut(0)) == Some(128 * 7 + 2));
+    check!(rt; first_append(&end, groups, &map, &counts, &AllBut(0)) == Some(128 * 7 + 2));
     let end = end_after(128 * 8 + 3);
-    assert!(rt; first_append(&end, groups, &map, &counts, &AllBut(0)) == Some(128 * 7));
+    check!(rt; first_append(&end, groups, &map, &counts, &AllBut(0)) == Some(128 * 7));
     Ok(())
 }

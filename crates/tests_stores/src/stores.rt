@@ -1,4 +1,5 @@
 // Both stores, with one drive lost at any call and a second one lost before or not.
+use crate::asserts::check;
 use crate::rig::{Rig, SIZE, is_slot};
 use crate::slow::{holds, peek};
 use extent_groups::{Class, GroupTable, Member, SLOTS, StoreRefusal};
@@ -35,7 +36,7 @@ fn is_all(unit: &[u8], expected: u8) -> bool {
 /// Two groups of a class over `drives` drives, where there is memory for them.
 fn rig_of(rt: &impl Abort, alloc: Global, class: Class, drives: u8, segments: u32) -> Rig {
     let Ok(rig) = Rig::new(rt, alloc, class, drives, segments) else {
-        panic!(rt; "no memory")
+        rt.panic("no memory")
     };
     rig
 }
@@ -45,7 +46,7 @@ fn fill(rt: &impl Abort, rig: &mut Rig) {
     for slot in 0..2 * SLOTS {
         if rig.has(slot) {
             give(&mut rig.unit, slot);
-            assert!(rt; rig.write(rt, slot).is_ok());
+            check!(rt; rig.write(rt, slot).is_ok());
         }
     }
 }
@@ -72,9 +73,9 @@ fn run(rt: &impl Abort, alloc: Global, case: &Case) -> (Rig, bool, bool) {
     }
     rig.fuse(rt, case.fused, case.call);
     let wrote = rig.write_all(rt, case.slot, NEW);
-    assert!(rt; wrote.is_ok() || wrote == Err(StoreRefusal::Gone(case.slot)));
+    check!(rt; wrote.is_ok() || wrote == Err(StoreRefusal::Gone(case.slot)));
     let read = rig.read(rt, case.slot);
-    assert!(rt;
+    check!(rt;
         if read.is_ok() {
             is_all(&rig.unit, NEW)
         } else {
@@ -83,7 +84,7 @@ fn run(rt: &impl Abort, alloc: Global, case: &Case) -> (Rig, bool, bool) {
     );
     let mut header = [0; HEADER_BYTES];
     let front = rig.read_header(rt, case.slot, &mut header);
-    assert!(rt;
+    check!(rt;
         if front.is_ok() {
             read.is_ok() && is_all(&header, NEW)
         } else {
@@ -109,10 +110,10 @@ fn stand(
         if is_slot(groups, case.class, slot) {
             let there = holds(rt, groups, drives, case.class, slot, unit, part);
             if slot == case.slot {
-                assert!(rt; !there || is_all(unit, NEW));
+                check!(rt; !there || is_all(unit, NEW));
                 found = there;
             } else {
-                assert!(rt;
+                check!(rt;
                     if there {
                         is_given(unit, slot)
                     } else {
@@ -137,8 +138,8 @@ fn matches(rt: &impl Abort, case: &Case, rig: Rig) -> bool {
 fn swept(rt: &impl Abort, alloc: Global, case: &Case) {
     let (rig, wrote, read) = run(rt, alloc, case);
     let there = matches(rt, case, rig);
-    assert!(rt; case.lost.is_some() || wrote && read && there);
-    assert!(rt; wrote && read || !there);
+    check!(rt; case.lost.is_some() || wrote && read && there);
+    check!(rt; wrote && read || !there);
 }
 
 /// Every drive lost at each of its calls, and at its second one with one of the first two lost before.
@@ -207,18 +208,18 @@ fn the_exclusive_or_by_lanes_is_that_of_each_byte(rt: HostRuntime) -> Result<(),
         for (at, byte) in from.iter_mut().enumerate() {
             *byte = (at / 7 % 256) as u8;
         }
-        assert!(rt; into.len() == from.len());
+        check!(rt; into.len() == from.len());
         xor_into(&mut into, &from);
         let same = into.iter().enumerate().all(|(at, byte)| *byte
             == (at % 251) as u8 ^ (at / 7 % 256) as u8);
-        assert!(rt; same);
+        check!(rt; same);
     }
     Ok(())
 }
 
 /// Writes a unit of one byte throughout, which is not refused.
 fn writes(rt: &impl Abort, rig: &mut Rig, slot: u16, byte: u8) {
-    assert!(rt; rig.write_all(rt, slot, byte).is_ok());
+    check!(rt; rig.write_all(rt, slot, byte).is_ok());
 }
 
 /// Whether a slot's unit is of this byte.
@@ -243,8 +244,8 @@ fn two_written(rt: &impl Abort, alloc: Global) -> Rig {
 fn has_parity(rt: &impl Abort, rig: Rig, expected: u8) -> bool {
     let (groups, mut drives) = rig.open();
     let mut unit = [0; SIZE];
-    assert!(rt; groups.members(1).len() > 2);
-    assert!(rt; groups.shape().extent_units() > 0);
+    check!(rt; groups.members(1).len() > 2);
+    check!(rt; groups.shape().extent_units() > 0);
     let parity = groups.place(1, 2, 0);
     peek(rt, &mut drives, parity, &mut unit) && is_all(&unit, expected)
 }
@@ -253,8 +254,8 @@ fn has_parity(rt: &impl Abort, rig: Rig, expected: u8) -> bool {
 fn the_parity_is_of_header_and_payload(rt: HostRuntime) {
     let mut one = rig_of(&rt, rt.alloc(), Class::Parity, 3, 2);
     writes(&rt, &mut one, 128, 0x5a);
-    assert!(rt; has_parity(&rt, one, 0x5a));
-    assert!(rt; has_parity(&rt, two_written(&rt, rt.alloc()), 0x99));
+    check!(rt; has_parity(&rt, one, 0x5a));
+    check!(rt; has_parity(&rt, two_written(&rt, rt.alloc()), 0x99));
 }
 
 #[test]
@@ -262,7 +263,7 @@ fn a_lost_neighbour_stays_over_a_write(rt: HostRuntime) {
     let mut rig = two_written(&rt, rt.alloc());
     rig.lose(&rt, 1);
     writes(&rt, &mut rig, 128, 0xc3);
-    assert!(rt; reads(&rt, &mut rig, 130, 0xc3));
+    check!(rt; reads(&rt, &mut rig, 130, 0xc3));
 }
 
 /// Whether no drive is lost.
@@ -281,7 +282,7 @@ fn a_write_in_a_sound_group_reaches_two_drives_alone(rt: HostRuntime) {
     rig.fuse(&rt, 0, 3);
     rig.fuse(&rt, 7, 3);
     writes(&rt, &mut rig, 0, 7);
-    assert!(rt; are_there(rig));
+    check!(rt; are_there(rig));
 }
 
 #[test]
@@ -293,19 +294,19 @@ fn a_mirrored_write_is_one_call_of_each_of_its_two_drives(rt: HostRuntime) {
     rig.fuse(&rt, 2, 1);
     writes(&rt, &mut rig, 0, 7);
     writes(&rt, &mut rig, 1, 7);
-    assert!(rt; are_there(rig));
+    check!(rt; are_there(rig));
 }
 
 #[test]
 fn the_parity_is_read_or_had_from_the_others(rt: HostRuntime) {
     let mut rig = two_written(&rt, rt.alloc());
-    assert!(rt; reads_parity(&rt, &mut rig, 0, 0x99));
-    assert!(rt; reads_parity(&rt, &mut rig, 1, 0));
+    check!(rt; reads_parity(&rt, &mut rig, 0, 0x99));
+    check!(rt; reads_parity(&rt, &mut rig, 1, 0));
     // The parity of the first offset is on the last drive.
     rig.lose(&rt, 2);
-    assert!(rt; reads_parity(&rt, &mut rig, 0, 0x99));
+    check!(rt; reads_parity(&rt, &mut rig, 0, 0x99));
     rig.lose(&rt, 0);
-    assert!(rt; !rig.read_parity(&rt, 1, 0));
+    check!(rt; !rig.read_parity(&rt, 1, 0));
 }
 
 /// Writes the buffered unit over an extent of the second group.
@@ -318,19 +319,19 @@ fn an_extent_is_wiped_to_its_end(rt: HostRuntime) {
     let mut rig = rig_of(&rt, rt.alloc(), Class::Mirrored, 3, 2);
     fill(&rt, &mut rig);
     rig.unit.fill(NEW);
-    assert!(rt; wipe(&rt, &mut rig, 0));
-    assert!(rt; wipe(&rt, &mut rig, 1));
+    check!(rt; wipe(&rt, &mut rig, 0));
+    check!(rt; wipe(&rt, &mut rig, 1));
     // The last pair of the group lies at the end of the extents of drives 1 and 2, the first on 0 and 1.
-    assert!(rt; reads(&rt, &mut rig, 133, NEW));
-    assert!(rt; reads(&rt, &mut rig, 128, NEW));
-    assert!(rt; rig.read(&rt, 5).is_ok() && is_given(&rig.unit, 5));
+    check!(rt; reads(&rt, &mut rig, 133, NEW));
+    check!(rt; reads(&rt, &mut rig, 128, NEW));
+    check!(rt; rig.read(&rt, 5).is_ok() && is_given(&rig.unit, 5));
     rig.lose(&rt, 0);
-    assert!(rt; !wipe(&rt, &mut rig, 0));
+    check!(rt; !wipe(&rt, &mut rig, 0));
 }
 
 /// Reads the header of slot 0 into a buffer, and returns whether drive 0 is lost then.
 fn burns_at_header(rt: &impl Abort, rig: &mut Rig, header: &mut [u8]) -> bool {
-    assert!(rt; rig.read_header(rt, 0, header).is_ok());
+    check!(rt; rig.read_header(rt, 0, header).is_ok());
     rig.is_lost(rt, 0)
 }
 
@@ -342,8 +343,8 @@ fn a_header_is_read_by_one_call_of_its_drive(rt: HostRuntime) {
         let mut header = [0; HEADER_BYTES];
         // Slot 0 lies on drive 0; its copy, or the two others of its row, on drives 1 and 2.
         rig.fuse(&rt, 0, 2);
-        assert!(rt; !burns_at_header(&rt, &mut rig, &mut header));
-        assert!(rt; burns_at_header(&rt, &mut rig, &mut header));
-        assert!(rt; is_given(&header, 0));
+        check!(rt; !burns_at_header(&rt, &mut rig, &mut header));
+        check!(rt; burns_at_header(&rt, &mut rig, &mut header));
+        check!(rt; is_given(&header, 0));
     }
 }

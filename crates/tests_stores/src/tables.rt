@@ -3,6 +3,7 @@ ghost use Rattle.std.specs.Prelude.{IfOk};
 ghost use Rattle.extents.specs.Shapes.{IsShapeOf};
 ghost use Rattle.extent_groups.specs.Groups.{Agree};
 
+use crate::asserts::check;
 use extent_groups::{Class, GroupRefusal, GroupTable, Member, are_there};
 use extents::{ExtentTable, Shape};
 use std::alloc::{AllocError, Global};
@@ -24,7 +25,7 @@ pub(crate) fn shape_of(rt: &impl Abort, extents: u32, segments: u32) -> Shape
     ensures { IsShapeOf result extents segments 8 16 }
 {
     let Ok(shape) = Shape::new(extents, segments, 8, 16) else {
-        panic!(rt; "no shape");
+        rt.panic("no shape");
     };
     shape
 }
@@ -63,8 +64,8 @@ impl Tables {
         requires { Agree self.old.groups self.old.extents }
         ensures { Agree self.new.groups self.new.extents }
     {
-        assert!(rt; are_there(&self.extents, members));
-        assert!(rt; self.groups.is_free(group));
+        check!(rt; are_there(&self.extents, members));
+        check!(rt; self.groups.is_free(group));
         self.groups
             .put_group(alloc, &mut self.extents, group, class, members)
     }
@@ -88,8 +89,8 @@ impl Tables {
         requires { Agree self.old.groups self.old.extents }
         ensures { Agree self.new.groups self.new.extents }
     {
-        assert!(rt; self.extents.has_extent(to.drive, to.extent));
-        assert!(rt; (member as usize) < self.groups.members(group).len());
+        check!(rt; self.extents.has_extent(to.drive, to.extent));
+        check!(rt; (member as usize) < self.groups.members(group).len());
         self.groups
             .swap_member(&mut self.extents, group, member, to)
     }

@@ -2,6 +2,7 @@
 ghost use Rattle.std.specs.Prelude.{◌≡◌, true};
 ghost use Rattle.extents.specs.Failures.{no_failures, settled};
 
+use crate::asserts::check;
 use crate::rig::{shape_of, world_of};
 use extents::{Drive, DriveLost, HotSwap, MemDrive, Shape};
 use std::alloc::{Alloc, AllocError, Global};
@@ -73,29 +74,29 @@ fn counted_world(rt: &impl Abort, alloc: Global) -> World<Counted<MemDrive>> {
     let mut drives = Vec::new(alloc);
     for _made in 0..4 {
         let Ok(drive) = Counted::fresh(alloc, &shape) else {
-            panic!(rt; "no drive")
+            rt.panic("no drive")
         };
         let pushed = drives.push(drive).is_ok();
-        assert!(rt; pushed);
+        check!(rt; pushed);
     }
     world_of(rt, alloc, drives)
 }
 
 fn push(rt: &impl Abort, steps: &mut Vec<Step>, step: Step) {
     let pushed = steps.push(step).is_ok();
-    assert!(rt; pushed);
+    check!(rt; pushed);
 }
 
 fn members(rt: &impl Abort, alloc: Global, numbers: [u8; 3], extent: u16) -> Vec<Member> {
     let Ok(members) = Vec::from_array(alloc, numbers.map(|drive| Member { drive, extent })) else {
-        panic!(rt; "no memory")
+        rt.panic("no memory")
     };
     members
 }
 
 fn payload(rt: &impl Abort, alloc: Global, byte: u8) -> Vec<u8> {
     let Ok(payload) = Vec::from_array(alloc, [byte, 1, 2, 3, 4, 5, 6, 7]) else {
-        panic!(rt; "no memory")
+        rt.panic("no memory")
     };
     payload
 }
@@ -148,20 +149,20 @@ fn a_run_adds_and_loses_drives_of_ones_own(rt: HostRuntime) {
     push(&rt, &mut steps, Step::AddDrive);
     push(&rt, &mut steps, Step::Read { block: 3 });
     push(&rt, &mut steps, Step::Lose { drive: 9 });
-    assert!(rt; steps.iter().all(|step| world.fits(step)));
+    check!(rt; steps.iter().all(|step| world.fits(step)));
     let Ok(run) = run_steps(alloc, world, &steps) else {
-        panic!(rt; "stopped")
+        rt.panic("stopped")
     };
     let answers = &run.answers;
-    assert!(rt; answers.len() == 9);
-    assert!(rt; matches!(answers.first(), Some(Answer::Made(0))));
-    assert!(rt; matches!(answers.get(1), Some(Answer::Claimed(4))));
-    assert!(rt; matches!(answers.get(2), Some(Answer::Filled(4))));
-    assert!(rt; is_read(answers.get(4)));
-    assert!(rt; matches!(answers.get(5), Some(Answer::Lost(1))));
-    assert!(rt; matches!(answers.get(6), Some(Answer::Added(4))));
-    assert!(rt; is_read(answers.get(7)));
-    assert!(rt; matches!(answers.get(8), Some(Answer::Refused(Refusal::BadMember))));
+    check!(rt; answers.len() == 9);
+    check!(rt; matches!(answers.first(), Some(Answer::Made(0))));
+    check!(rt; matches!(answers.get(1), Some(Answer::Claimed(4))));
+    check!(rt; matches!(answers.get(2), Some(Answer::Filled(4))));
+    check!(rt; is_read(answers.get(4)));
+    check!(rt; matches!(answers.get(5), Some(Answer::Lost(1))));
+    check!(rt; matches!(answers.get(6), Some(Answer::Added(4))));
+    check!(rt; is_read(answers.get(7)));
+    check!(rt; matches!(answers.get(8), Some(Answer::Refused(Refusal::BadMember))));
 }
 
 // The same steps without a loss run over drives of any kind.
@@ -170,12 +171,12 @@ fn steps_that_swap_no_drive_run_over_any_kind(rt: HostRuntime) {
     let alloc = rt.alloc();
     let world = counted_world(&rt, alloc);
     let steps = opening(&rt, alloc);
-    assert!(rt; steps.iter().all(|step| world.fits(step)));
-    assert!(rt; steps.iter().all(|step| step.swaps_no_drive()));
+    check!(rt; steps.iter().all(|step| world.fits(step)));
+    check!(rt; steps.iter().all(|step| step.swaps_no_drive()));
     let Ok(run) = run_fixed(alloc, world, &steps) else {
-        panic!(rt; "stopped")
+        rt.panic("stopped")
     };
-    assert!(rt; is_read(run.answers.get(4)));
-    assert!(rt; !Step::AddDrive.swaps_no_drive());
-    assert!(rt; !Step::Lose { drive: 0 }.swaps_no_drive());
+    check!(rt; is_read(run.answers.get(4)));
+    check!(rt; !Step::AddDrive.swaps_no_drive());
+    check!(rt; !Step::Lose { drive: 0 }.swaps_no_drive());
 }

@@ -2,6 +2,7 @@
 ghost use Rattle.std.specs.Prelude.{IsTrue};
 ghost use Rattle.unit_store.specs.Fit.{IsFit};
 
+use crate::asserts::check;
 use crate::rig::{demote, grouped, is_record, reads, shape_of, world_of, write};
 use extents::{Drive, Shape};
 use file_drive::{FileDrive, OnFile};
@@ -27,19 +28,19 @@ fn make_file(rt: &(impl Abort + Files<File = File>), name: &str, shape: &Shape) 
         .truncate(true)
         .open(rt, name);
     let Ok(file) = opened else {
-        panic!(rt; "no file")
+        rt.panic("no file")
     };
     let sized = file.set_len(bytes).is_ok();
-    assert!(rt; sized);
+    check!(rt; sized);
 }
 
 // The drive that a file holds.
 fn open(rt: &(impl Abort + Files<File = File>), alloc: Global, name: &str, shape: &Shape) -> Filed {
     let Ok(file) = OpenOptions::new().read(true).write(true).open(rt, name) else {
-        panic!(rt; "no file")
+        rt.panic("no file")
     };
     let Ok(drive) = FileDrive::open(alloc, shape, OnFile { file }) else {
-        panic!(rt; "no drive")
+        rt.panic("no drive")
     };
     drive
 }
@@ -48,14 +49,14 @@ fn open_all(rt: &(impl Abort + Files<File = File>), alloc: Global, shape: &Shape
     let mut drives = Vec::new(alloc);
     for name in NAMES {
         let pushed = drives.push(open(rt, alloc, name, shape)).is_ok();
-        assert!(rt; pushed);
+        check!(rt; pushed);
     }
     drives
 }
 
 // Writes blocks 3 and 5, demotes 3, writes 5 again, and trims nothing.
 fn use_all(rt: &(impl Abort + Files<File = File>), alloc: Global, tiers: &mut Tiers<Filed>) {
-    assert!(rt;
+    check!(rt;
         is_record(
             write(rt, alloc, tiers, 3, [3, 1, 2, 3, 4, 5, 6, 7]),
             3,
@@ -64,7 +65,7 @@ fn use_all(rt: &(impl Abort + Files<File = File>), alloc: Global, tiers: &mut Ti
             0
         )
     );
-    assert!(rt;
+    check!(rt;
         is_record(
             write(rt, alloc, tiers, 5, [5, 9, 8, 7, 6, 5, 4, 3]),
             5,
@@ -73,8 +74,8 @@ fn use_all(rt: &(impl Abort + Files<File = File>), alloc: Global, tiers: &mut Ti
             1
         )
     );
-    assert!(rt; is_record(demote(rt, alloc, tiers), 3, 1, 1, 128));
-    assert!(rt;
+    check!(rt; is_record(demote(rt, alloc, tiers), 3, 1, 1, 128));
+    check!(rt;
         is_record(
             write(rt, alloc, tiers, 5, [6, 6, 7, 7, 8, 8, 9, 9]),
             5,
@@ -97,7 +98,7 @@ fn reopened(
     tiers: Tiers<Filed>,
 ) -> (Parts<Filed>, Vec<Plain>) {
     let Ok((parts, claims)) = tiers.into_world().into_array().into_parts(alloc) else {
-        panic!(rt; "no memory")
+        rt.panic("no memory")
     };
     let Parts {
         shape,
@@ -107,7 +108,7 @@ fn reopened(
         note,
     } = parts;
     for drive in drives {
-        assert!(rt; drive.close().is_ok());
+        check!(rt; drive.close().is_ok());
     }
     let drives = open_all(rt, alloc, &shape);
     (
@@ -134,16 +135,16 @@ fn restarted(
     parts: Parts<Filed>,
     claims: Vec<Plain>,
 ) -> Tiers<Filed> {
-    assert!(rt; are_fit(&parts));
+    check!(rt; are_fit(&parts));
     let (array, _free): (Array<Filed, Plain>, Vec<Plain>) = match restart(alloc, parts, claims) {
         Ok(made) => made,
-        Err(_) => panic!(rt; "no restart"),
+        Err(_) => rt.panic("no restart"),
     };
     let Ok(world) = World::of(alloc, array) else {
-        panic!(rt; "no world")
+        rt.panic("no world")
     };
     let Ok(tiers) = Tiers::new(alloc, world) else {
-        panic!(rt; "no tiers")
+        rt.panic("no tiers")
     };
     tiers
 }
@@ -158,8 +159,8 @@ fn blocks_of_two_levels_are_read_from_files_that_were_closed(rt: HostRuntime) {
     let world = world_of(&rt, alloc, open_all(&rt, alloc, &shape));
     let mut tiers = grouped(&rt, alloc, world);
     use_all(&rt, alloc, &mut tiers);
-    assert!(rt; holds_all(&rt, &mut tiers));
+    check!(rt; holds_all(&rt, &mut tiers));
     let (parts, claims) = reopened(&rt, alloc, tiers);
     let mut tiers = restarted(&rt, alloc, parts, claims);
-    assert!(rt; holds_all(&rt, &mut tiers));
+    check!(rt; holds_all(&rt, &mut tiers));
 }

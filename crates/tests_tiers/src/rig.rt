@@ -3,6 +3,7 @@ ghost use Rattle.std.specs.Prelude.{◌≡◌, IsTrue};
 ghost use Rattle.extent_groups.specs.Calls.{AreSized};
 ghost use Rattle.unit_store.specs.Fit.{HaveUnitCount};
 
+use crate::asserts::check;
 use map_join::Record;
 use std::alloc::Global;
 use std::process::Abort;
@@ -12,7 +13,7 @@ use tiered_array::{Outcome, Tiers};
 /// Four drives of eight extents of two segments, and payloads of eight bytes, for sixteen blocks.
 pub(crate) fn shape_of(rt: &impl Abort) -> Shape {
     let Ok(shape) = Shape::new(8, 2, 8, 16) else {
-        panic!(rt; "no shape")
+        rt.panic("no shape")
     };
     shape
 }
@@ -36,14 +37,14 @@ pub(crate) fn world_of<D: Drive + Drop>(
     drives: Vec<D>,
 ) -> World<D> {
     let shape = shape_of(rt);
-    assert!(rt; 3 <= drives.len() && drives.len() <= 16);
-    assert!(rt; are_sized(&drives, shape.unit_bytes()));
-    assert!(rt; have_units(&drives, shape.drive_units()));
+    check!(rt; 3 <= drives.len() && drives.len() <= 16);
+    check!(rt; are_sized(&drives, shape.unit_bytes()));
+    check!(rt; have_units(&drives, shape.drive_units()));
     let Ok(array) = Array::new(alloc, shape, drives) else {
-        panic!(rt; "no array")
+        rt.panic("no array")
     };
     let Ok(world) = World::of(alloc, array) else {
-        panic!(rt; "no world")
+        rt.panic("no world")
     };
     world
 }
@@ -55,7 +56,7 @@ pub(crate) fn grouped<D: Drive + Drop>(
     world: World<D>,
 ) -> Tiers<D> {
     let Ok(mut tiers) = Tiers::new(alloc, world) else {
-        panic!(rt; "no tiers")
+        rt.panic("no tiers")
     };
     make(
         rt,
@@ -83,7 +84,7 @@ fn make<D: Drive>(
 ) {
     let members = members.map(|(drive, extent)| Member { drive, extent });
     let made = matches!(tiers.make(alloc, class, &members), Ok(Answer::Made(_)));
-    assert!(rt; made);
+    check!(rt; made);
 }
 
 /// Writes a block: its record.
@@ -95,11 +96,11 @@ pub(crate) fn write<D: Drive>(
     payload: [u8; 8],
 ) -> Record {
     let shape = tiers.world().array().shape();
-    assert!(rt; block < shape.blocks);
-    assert!(rt; shape.payload == 8);
+    check!(rt; block < shape.blocks);
+    check!(rt; shape.payload == 8);
     match tiers.write(alloc, block, Given::Payload(&payload)) {
         Ok(Outcome::Placed(record)) => record,
-        _ => panic!(rt; "not written"),
+        _ => rt.panic("not written"),
     }
 }
 
@@ -107,7 +108,7 @@ pub(crate) fn write<D: Drive>(
 pub(crate) fn demote<D: Drive>(rt: &impl Abort, alloc: Global, tiers: &mut Tiers<D>) -> Record {
     match tiers.demote(alloc) {
         Ok(Outcome::Placed(record)) => record,
-        _ => panic!(rt; "not demoted"),
+        _ => rt.panic("not demoted"),
     }
 }
 
@@ -120,8 +121,8 @@ pub(crate) fn reads<D: Drive>(
     payload: [u8; 8],
 ) -> bool {
     let shape = tiers.world().array().shape();
-    assert!(rt; block < shape.blocks);
-    assert!(rt; shape.payload == 8);
+    check!(rt; block < shape.blocks);
+    check!(rt; shape.payload == 8);
     let mut found = [0; 8];
     tiers.read_into(block, &mut found) == Ok(Some(version)) && found == payload
 }

@@ -1,4 +1,5 @@
 // Writes that find room up to the last slot but one.
+use crate::asserts::check;
 use crate::rig::{grouped, is_record, reads, shape_of, world_of};
 use extents::{HotSwap, MemDrive};
 use std::alloc::{Alloc, Global};
@@ -11,10 +12,10 @@ fn tiers_of(rt: &impl Abort, alloc: Global) -> Tiers {
     let mut drives = Vec::new(alloc);
     for _made in 0..4 {
         let Ok(drive) = MemDrive::fresh(alloc, &shape) else {
-            panic!(rt; "no drive")
+            rt.panic("no drive")
         };
         let pushed = drives.push(drive).is_ok();
-        assert!(rt; pushed);
+        check!(rt; pushed);
     }
     let world = world_of(rt, alloc, drives);
     grouped(rt, alloc, world)
@@ -29,10 +30,10 @@ fn write(
     payload: [u8; 8],
 ) -> Outcome {
     let shape = tiers.world().array().shape();
-    assert!(rt; block < shape.blocks);
-    assert!(rt; shape.payload == 8);
+    check!(rt; block < shape.blocks);
+    check!(rt; shape.payload == 8);
     let Ok(outcome) = tiers.write_always(alloc, block, Given::Payload(&payload)) else {
-        panic!(rt; "no memory")
+        rt.panic("no memory")
     };
     outcome
 }
@@ -53,11 +54,11 @@ fn all_slots_but_one_can_be_written_over(rt: HostRuntime) {
                 u32::from(block),
                 [block, round, 1, 2, 3, 4, 5, 6],
             );
-            assert!(rt; matches!(outcome, Outcome::Placed(_)));
+            check!(rt; matches!(outcome, Outcome::Placed(_)));
         }
     }
     for block in 0..13u8 {
-        assert!(rt;
+        check!(rt;
             reads(
                 &rt,
                 &mut tiers,
@@ -68,9 +69,9 @@ fn all_slots_but_one_can_be_written_over(rt: HostRuntime) {
         );
     }
     let last = write(&rt, alloc, &mut tiers, 13, [13, 0, 1, 2, 3, 4, 5, 6]);
-    assert!(rt; matches!(last, Outcome::Placed(_)));
+    check!(rt; matches!(last, Outcome::Placed(_)));
     let full = write(&rt, alloc, &mut tiers, 0, [0, 10, 1, 2, 3, 4, 5, 6]);
-    assert!(rt; matches!(full, Outcome::NoRoom));
+    check!(rt; matches!(full, Outcome::NoRoom));
 }
 
 // Two drives are lost, and with them the two oldest mirrored blocks, in slots 0 and 1. The blocks after them make room, each in the
@@ -87,7 +88,7 @@ fn blocks_and_slots_that_are_gone_are_skipped(rt: HostRuntime) {
             u32::from(block),
             [block, 1, 2, 3, 4, 5, 6, 7],
         );
-        assert!(rt; is_placed(outcome, u32::from(block), u16::from(block)));
+        check!(rt; is_placed(outcome, u32::from(block), u16::from(block)));
     }
     tiers.lose(0);
     tiers.lose(1);
@@ -100,8 +101,8 @@ fn blocks_and_slots_that_are_gone_are_skipped(rt: HostRuntime) {
             u32::from(block),
             [block, 1, 2, 3, 4, 5, 6, 7],
         );
-        assert!(rt; is_placed(outcome, u32::from(block), 2 + u16::from(turn % 4)));
-        assert!(rt;
+        check!(rt; is_placed(outcome, u32::from(block), 2 + u16::from(turn % 4)));
+        check!(rt;
             reads(
                 &rt,
                 &mut tiers,
@@ -110,12 +111,12 @@ fn blocks_and_slots_that_are_gone_are_skipped(rt: HostRuntime) {
                 [2 + turn, 1, 2, 3, 4, 5, 6, 7]
             )
         );
-        assert!(rt;
+        check!(rt;
             tiers.world().array().block_at(128 + u16::from(turn)) == Some(2 + u32::from(turn))
         );
     }
     let full = write(&rt, alloc, &mut tiers, 14, [14, 1, 2, 3, 4, 5, 6, 7]);
-    assert!(rt; matches!(full, Outcome::NoRoom));
+    check!(rt; matches!(full, Outcome::NoRoom));
 }
 
 // Whether a block was written for the first time, into this slot.
@@ -132,7 +133,7 @@ fn a_spare_slot_is_made_between_writes(rt: HostRuntime) {
     let alloc = rt.alloc();
     let mut tiers = tiers_of(&rt, alloc);
     for block in 0..6u8 {
-        assert!(rt; matches!(tiers.make_spare(alloc), Ok(Outcome::Nothing)));
+        check!(rt; matches!(tiers.make_spare(alloc), Ok(Outcome::Nothing)));
         let outcome = write(
             &rt,
             alloc,
@@ -140,13 +141,13 @@ fn a_spare_slot_is_made_between_writes(rt: HostRuntime) {
             u32::from(block),
             [block, 1, 2, 3, 4, 5, 6, 7],
         );
-        assert!(rt; is_placed(outcome, u32::from(block), u16::from(block)));
+        check!(rt; is_placed(outcome, u32::from(block), u16::from(block)));
     }
     let Ok(Outcome::Placed(moved)) = tiers.make_spare(alloc) else {
-        panic!(rt; "no spare slot")
+        rt.panic("no spare slot")
     };
-    assert!(rt; is_record(moved, 0, 1, 1, 128));
-    assert!(rt; matches!(tiers.make_spare(alloc), Ok(Outcome::Nothing)));
+    check!(rt; is_record(moved, 0, 1, 1, 128));
+    check!(rt; matches!(tiers.make_spare(alloc), Ok(Outcome::Nothing)));
     let outcome = write(&rt, alloc, &mut tiers, 6, [6, 1, 2, 3, 4, 5, 6, 7]);
-    assert!(rt; is_placed(outcome, 6, 0));
+    check!(rt; is_placed(outcome, 6, 0));
 }

@@ -1,6 +1,7 @@
 // A sync of two levels: it reaches each drive that isn't lost, and one whose sync fails is lost.
 ghost use Rattle.std.specs.Prelude.{None};
 
+use crate::asserts::check;
 use crate::rig::{demote, grouped, reads, shape_of, world_of, write};
 use extents::Shape;
 use file_drive::{Backing, FileDrive, InMemory};
@@ -43,7 +44,7 @@ impl Backing for Synced {
 fn opened(rt: &impl Abort, alloc: Global, shape: &Shape, left: u64) -> FileDrive<Synced> {
     let length = shape.unit_bytes() * shape.drive_units() as usize;
     let Ok(bytes) = vec![in alloc; 0u8; length] else {
-        panic!(rt; "no memory")
+        rt.panic("no memory")
     };
     let inner = InMemory { bytes };
     let backing = Synced {
@@ -52,7 +53,7 @@ fn opened(rt: &impl Abort, alloc: Global, shape: &Shape, left: u64) -> FileDrive
         left,
     };
     let Ok(drive) = FileDrive::open(alloc, shape, backing) else {
-        panic!(rt; "no drive")
+        rt.panic("no drive")
     };
     drive
 }
@@ -63,7 +64,7 @@ fn tiers_of(rt: &impl Abort, alloc: Global, left: u64) -> Tiers<FileDrive<Synced
     let mut drives = Vec::new(alloc);
     for lefts in [9, left, 9, 9] {
         let pushed = drives.push(opened(rt, alloc, &shape, lefts)).is_ok();
-        assert!(rt; pushed);
+        check!(rt; pushed);
     }
     let world = world_of(rt, alloc, drives);
     grouped(rt, alloc, world)
@@ -72,7 +73,7 @@ fn tiers_of(rt: &impl Abort, alloc: Global, left: u64) -> Tiers<FileDrive<Synced
 // How often each drive that isn't lost was synced; 0 for one that is.
 fn syncs_of(rt: &impl Abort, alloc: Global, tiers: Tiers<FileDrive<Synced>>) -> [u64; 4] {
     let Ok((parts, _claims)) = tiers.into_world().into_array().into_parts(alloc) else {
-        panic!(rt; "no memory")
+        rt.panic("no memory")
     };
     let mut counts = [0; 4];
     for (number, drive) in parts.drives.into_iter().enumerate() {
@@ -92,7 +93,7 @@ fn a_sync_reaches_each_drive(rt: HostRuntime) {
     let _ = write(&rt, alloc, &mut tiers, 3, [3, 1, 2, 3, 4, 5, 6, 7]);
     tiers.sync();
     tiers.sync();
-    assert!(rt; syncs_of(&rt, alloc, tiers) == [2, 2, 2, 2]);
+    check!(rt; syncs_of(&rt, alloc, tiers) == [2, 2, 2, 2]);
 }
 
 #[test]
@@ -101,14 +102,14 @@ fn a_drive_whose_sync_fails_is_lost_and_the_others_are_synced(rt: HostRuntime) {
     let mut tiers = tiers_of(&rt, alloc, 1);
     let _ = write(&rt, alloc, &mut tiers, 3, [3, 1, 2, 3, 4, 5, 6, 7]);
     tiers.sync();
-    assert!(rt; !tiers.world().array().is_lost(1));
+    check!(rt; !tiers.world().array().is_lost(1));
     tiers.sync();
     for (number, lost) in [(0, false), (1, true), (2, false), (3, false)] {
-        assert!(rt; tiers.world().array().is_lost(number) == lost);
+        check!(rt; tiers.world().array().is_lost(number) == lost);
     }
     tiers.sync();
-    assert!(rt; reads(&rt, &mut tiers, 3, 1, [3, 1, 2, 3, 4, 5, 6, 7]));
-    assert!(rt; syncs_of(&rt, alloc, tiers) == [3, 0, 3, 3]);
+    check!(rt; reads(&rt, &mut tiers, 3, 1, [3, 1, 2, 3, 4, 5, 6, 7]));
+    check!(rt; syncs_of(&rt, alloc, tiers) == [3, 0, 3, 3]);
 }
 
 // A log of five records of two blocks is shortened to the two newest; the block that was written longest ago still leaves first.
@@ -119,20 +120,20 @@ fn a_shortened_log_has_each_block_once_and_leaves_the_order(rt: HostRuntime) {
     for (block, byte) in [(3, 1), (5, 2), (3, 3), (5, 4), (3, 5)] {
         let _ = write(&rt, alloc, &mut tiers, block, [byte, 1, 2, 3, 4, 5, 6, 7]);
     }
-    assert!(rt; tiers.world().array().record_count() == 5);
-    assert!(rt; tiers.shorten_log(alloc).is_ok());
+    check!(rt; tiers.world().array().record_count() == 5);
+    check!(rt; tiers.shorten_log(alloc).is_ok());
     let Ok(log) = tiers.world().array().records_from(alloc, 0) else {
-        panic!(rt; "no memory")
+        rt.panic("no memory")
     };
-    assert!(rt; log.len() == 2);
+    check!(rt; log.len() == 2);
     for (at, block, version) in [(0, 3, 3), (1, 5, 2)] {
         let Some(record) = log.get(at) else {
-            panic!(rt; "no record")
+            rt.panic("no record")
         };
-        assert!(rt; record.block == block && record.version == version && record.hop == 0);
+        check!(rt; record.block == block && record.version == version && record.hop == 0);
     }
     let left = demote(&rt, alloc, &mut tiers);
-    assert!(rt; left.block == 5 && left.version == 2 && left.hop == 1);
-    assert!(rt; reads(&rt, &mut tiers, 3, 3, [5, 1, 2, 3, 4, 5, 6, 7]));
-    assert!(rt; reads(&rt, &mut tiers, 5, 2, [4, 1, 2, 3, 4, 5, 6, 7]));
+    check!(rt; left.block == 5 && left.version == 2 && left.hop == 1);
+    check!(rt; reads(&rt, &mut tiers, 3, 3, [5, 1, 2, 3, 4, 5, 6, 7]));
+    check!(rt; reads(&rt, &mut tiers, 5, 2, [4, 1, 2, 3, 4, 5, 6, 7]));
 }

@@ -1,4 +1,5 @@
 //! Records of the journal of which bytes are missing, and what lies after them.
+use crate::asserts::check;
 use crate::story::{empty_files, fill, layout};
 use extent_groups::Place;
 use file_vault::{FileVault, Files, HEADER, JOURNAL, MemFiles};
@@ -11,7 +12,7 @@ use vault::{Batch, Stop, Vault};
 fn made(rt: &impl Abort, alloc: Global) -> Result<FileVault<MemFiles>, Fail> {
     match FileVault::create(alloc, empty_files(alloc, 18)?, layout()) {
         Ok(vault) => Ok(vault),
-        Err(_) => panic!(rt; "not made"),
+        Err(_) => rt.panic("not made"),
     }
 }
 
@@ -23,11 +24,11 @@ fn bytes_of(
     file: u8,
 ) -> Result<Vec<u8>, Fail> {
     let Ok(length) = files.length(file) else {
-        panic!(rt; "no length");
+        rt.panic("no length");
     };
     let mut bytes = Vec::new(alloc);
     bytes.resize(length as usize, 0)?;
-    assert!(rt; files.read_at(file, 0, &mut bytes).is_ok());
+    check!(rt; files.read_at(file, 0, &mut bytes).is_ok());
     Ok(bytes)
 }
 
@@ -44,14 +45,14 @@ fn files_with(alloc: Global, journal: &[u8]) -> Result<MemFiles, Fail> {
 // How many batches a journal of these bytes has, and that each is read.
 fn batches_in(rt: &impl Abort, alloc: Global, journal: &[u8]) -> Result<usize, Fail> {
     let Ok(mut vault) = FileVault::open(alloc, files_with(alloc, journal)?, layout()) else {
-        panic!(rt; "not opened");
+        rt.panic("not opened");
     };
     let Ok(count) = vault.batches() else {
-        panic!(rt; "no count");
+        rt.panic("no count");
     };
     let mut batch = Batch::new(alloc);
     for index in 0..count {
-        assert!(rt; vault.read_batch(index, &mut batch).is_ok());
+        check!(rt; vault.read_batch(index, &mut batch).is_ok());
     }
     Ok(count)
 }
@@ -61,14 +62,14 @@ fn two_records(rt: &impl Abort, alloc: Global) -> Result<(Vec<u8>, usize), Fail>
     let mut vault = made(rt, alloc)?;
     let mut batch = Batch::new(alloc);
     fill(&mut batch, 0)?;
-    assert!(rt; vault.append(&batch).is_ok());
+    check!(rt; vault.append(&batch).is_ok());
     let mut files = vault.into_files().left(Stop::Killed, 0)?;
     let start = bytes_of(rt, alloc, &mut files, JOURNAL)?.len();
     let Ok(mut vault) = FileVault::open(alloc, files, layout()) else {
-        panic!(rt; "not opened");
+        rt.panic("not opened");
     };
     fill(&mut batch, 1)?;
-    assert!(rt; vault.append(&batch).is_ok());
+    check!(rt; vault.append(&batch).is_ok());
     let journal = bytes_of(rt, alloc, &mut vault.into_files(), JOURNAL)?;
     Ok((journal, start))
 }
@@ -77,14 +78,14 @@ fn two_records(rt: &impl Abort, alloc: Global) -> Result<(Vec<u8>, usize), Fail>
 fn a_record_without_its_last_bytes_isnt_taken(rt: HostRuntime) -> Result<(), Fail> {
     let alloc = rt.alloc();
     let (journal, start) = two_records(&rt, alloc)?;
-    assert!(rt; start > HEADER as usize + 18);
-    assert!(rt; journal.len().saturating_sub(start) > 18);
-    assert!(rt; batches_in(&rt, alloc, &journal)? == 2);
+    check!(rt; start > HEADER as usize + 18);
+    check!(rt; journal.len().saturating_sub(start) > 18);
+    check!(rt; batches_in(&rt, alloc, &journal)? == 2);
     for end in start..journal.len() {
         // Zeros past the end are as good as zeros in the file.
         let whole = journal[end..].iter().all(|byte| *byte == 0);
         let count = batches_in(&rt, alloc, &journal[..end])?;
-        assert!(rt; count == if whole { 2 } else { 1 });
+        check!(rt; count == if whole { 2 } else { 1 });
     }
     Ok(())
 }
@@ -100,11 +101,11 @@ fn a_record_without_one_byte_isnt_taken(rt: HostRuntime) -> Result<(), Fail> {
             continue;
         }
         torn[spot] = 0;
-        assert!(rt; batches_in(&rt, alloc, &torn)? == 1);
+        check!(rt; batches_in(&rt, alloc, &torn)? == 1);
         dropped = dropped.saturating_add(1);
     }
-    assert!(rt; dropped > 18);
-    assert!(rt; batches_in(&rt, alloc, &journal)? == 2);
+    check!(rt; dropped > 18);
+    check!(rt; batches_in(&rt, alloc, &journal)? == 2);
     Ok(())
 }
 
@@ -114,29 +115,29 @@ fn batches_of_zeros_are_found(rt: HostRuntime) -> Result<(), Fail> {
     let mut vault = made(&rt, alloc)?;
     let mut batch = Batch::new(alloc);
     // Without writes its bytes are zeros alone.
-    assert!(rt; vault.append(&batch).is_ok());
+    check!(rt; vault.append(&batch).is_ok());
     let place = Place {
         drive: 0,
         address: 0,
     };
     batch.push(place, &[0; 5])?;
-    assert!(rt; vault.append(&batch).is_ok());
-    assert!(rt; vault.sync_journal().is_ok());
+    check!(rt; vault.append(&batch).is_ok());
+    check!(rt; vault.sync_journal().is_ok());
     let mut files = vault.into_files().left(Stop::PowerLost, 1)?;
     let journal = bytes_of(&rt, alloc, &mut files, JOURNAL)?;
     let Ok(mut vault) = FileVault::open(alloc, files, layout()) else {
-        panic!(rt; "not opened");
+        rt.panic("not opened");
     };
-    assert!(rt; vault.batches() == Ok(2));
-    assert!(rt; vault.read_batch(0, &mut batch).is_ok());
-    assert!(rt; batch.is_empty());
-    assert!(rt; vault.read_batch(1, &mut batch).is_ok());
-    assert!(rt; batch.len() == 1);
-    assert!(rt; batch.place(0) == place);
-    assert!(rt; batch.unit(0) == &[0; 5][..]);
+    check!(rt; vault.batches() == Ok(2));
+    check!(rt; vault.read_batch(0, &mut batch).is_ok());
+    check!(rt; batch.is_empty());
+    check!(rt; vault.read_batch(1, &mut batch).is_ok());
+    check!(rt; batch.len() == 1);
+    check!(rt; batch.place(0) == place);
+    check!(rt; batch.unit(0) == &[0; 5][..]);
     // The first record is found where the file ends after its head.
     let front = journal.len().min(HEADER as usize + 18);
-    assert!(rt; batches_in(&rt, alloc, &journal[..front])? == 1);
+    check!(rt; batches_in(&rt, alloc, &journal[..front])? == 1);
     Ok(())
 }
 
@@ -148,23 +149,23 @@ fn nothing_is_left_of_an_older_longer_record(rt: HostRuntime) -> Result<(), Fail
     let mut mixed = journal.to_vec(alloc)?;
     mixed.extend_from_slice(&[7; 300])?;
     let Ok(mut vault) = FileVault::open(alloc, files_with(alloc, &mixed)?, layout()) else {
-        panic!(rt; "not opened");
+        rt.panic("not opened");
     };
-    assert!(rt; vault.batches() == Ok(2));
-    assert!(rt; vault.clear().is_ok());
+    check!(rt; vault.batches() == Ok(2));
+    check!(rt; vault.clear().is_ok());
     let mut batch = Batch::new(alloc);
     fill(&mut batch, 0)?;
-    assert!(rt; vault.append(&batch).is_ok());
+    check!(rt; vault.append(&batch).is_ok());
     let files = vault.into_files();
     for choice in 0..40 {
         for stop in [Stop::Killed, Stop::PowerLost] {
             let mut left = files.left(stop, choice)?;
             let bytes = bytes_of(&rt, alloc, &mut left, JOURNAL)?;
             let past = start.min(bytes.len());
-            assert!(rt; bytes[past..].iter().all(|byte| *byte == 0));
+            check!(rt; bytes[past..].iter().all(|byte| *byte == 0));
             let count = batches_in(&rt, alloc, &bytes)?;
-            assert!(rt; count <= 1);
-            assert!(rt; stop == Stop::PowerLost || count == 1);
+            check!(rt; count <= 1);
+            check!(rt; stop == Stop::PowerLost || count == 1);
         }
     }
     Ok(())
@@ -177,20 +178,20 @@ fn bytes_after_the_last_record_are_cut_off(rt: HostRuntime) -> Result<(), Fail> 
     // The second record has lost a byte of its head, and the rest of it is there.
     let mut torn = journal.to_vec(alloc)?;
     let spot = start.saturating_add(3);
-    assert!(rt; spot < torn.len());
+    check!(rt; spot < torn.len());
     torn[spot] = 0;
     let Ok(mut vault) = FileVault::open(alloc, files_with(alloc, &torn)?, layout()) else {
-        panic!(rt; "not opened");
+        rt.panic("not opened");
     };
-    assert!(rt; vault.batches() == Ok(1));
-    assert!(rt; vault.append(&Batch::new(alloc)).is_ok());
+    check!(rt; vault.batches() == Ok(1));
+    check!(rt; vault.append(&Batch::new(alloc)).is_ok());
     let files = vault.into_files();
     for choice in 0..40 {
         let mut left = files.left(Stop::PowerLost, choice)?;
         let bytes = bytes_of(&rt, alloc, &mut left, JOURNAL)?;
         let past = start.saturating_add(26).min(bytes.len());
-        assert!(rt; bytes[past..].iter().all(|byte| *byte == 0));
-        assert!(rt; batches_in(&rt, alloc, &bytes)? >= 1);
+        check!(rt; bytes[past..].iter().all(|byte| *byte == 0));
+        check!(rt; batches_in(&rt, alloc, &bytes)? >= 1);
     }
     Ok(())
 }

@@ -1,4 +1,5 @@
 //! A unit whose bytes, or whose digest's, a drive returns otherwise than written is found, and no other unit is taken for rotten.
+use crate::asserts::check;
 use crate::story::{empty_files, layout};
 use extent_groups::Place;
 use file_vault::{FileVault, Files, MemFiles};
@@ -28,18 +29,18 @@ fn unit_of(number: u8) -> [u8; 5] {
 fn offset_of(rt: &impl Abort, number: u8) -> u64 {
     match layout().offset(place_of(number)) {
         Some(offset) => offset,
-        None => panic!(rt; "no offset"),
+        None => rt.panic("no offset"),
     }
 }
 
 // Files with a unit at each place.
 fn written(rt: &impl Abort, alloc: Global) -> Result<MemFiles, Fail> {
     let Ok(mut vault) = FileVault::create(alloc, empty_files(alloc, 18)?, layout()) else {
-        panic!(rt; "not made");
+        rt.panic("not made");
     };
     for number in 0..9 {
         let written = vault.write_unit(place_of(number), &unit_of(number)).is_ok();
-        assert!(rt; written);
+        check!(rt; written);
     }
     Ok(vault.into_files().left(Stop::Killed, 0)?)
 }
@@ -50,7 +51,7 @@ fn sealed(rt: &impl Abort, files: &mut MemFiles, number: u8) -> [u8; SEALED] {
     let read = files
         .read_at(place_of(number).drive, offset_of(rt, number), &mut bytes)
         .is_ok();
-    assert!(rt; read);
+    check!(rt; read);
     bytes
 }
 
@@ -74,7 +75,7 @@ fn all_but(rt: &impl Abort, vault: &mut FileVault<MemFiles>, rotten: u8) -> bool
     for number in 0..9 {
         let mut unit = [0; 5];
         let Ok(read) = vault.read_unit(place_of(number), &mut unit) else {
-            panic!(rt; "not read");
+            rt.panic("not read");
         };
         let is_whole = read == UnitRead::Whole && unit == unit_of(number);
         if is_whole == (number == rotten) || (number == rotten && read != UnitRead::Rotten) {
@@ -91,15 +92,15 @@ fn found(rt: &impl Abort, alloc: Global, number: u8, way: usize) -> Result<bool,
     let changed = files
         .write_at(place_of(number).drive, offset_of(rt, number), &bytes)
         .is_ok();
-    assert!(rt; changed);
+    check!(rt; changed);
     let Ok(mut vault) = FileVault::open(alloc, files, layout()) else {
-        panic!(rt; "not opened");
+        rt.panic("not opened");
     };
     if !all_but(rt, &mut vault, number) {
         return Ok(false);
     }
     let written = vault.write_unit(place_of(number), &unit_of(number)).is_ok();
-    assert!(rt; written);
+    check!(rt; written);
     Ok(all_but(rt, &mut vault, 9))
 }
 
@@ -108,7 +109,7 @@ fn each_damaged_unit_is_found(rt: HostRuntime) -> Result<(), Fail> {
     let alloc = rt.alloc();
     for number in 0..9 {
         for way in 0..WAYS {
-            assert!(rt; found(&rt, alloc, number, way)?);
+            check!(rt; found(&rt, alloc, number, way)?);
         }
     }
     Ok(())

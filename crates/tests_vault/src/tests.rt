@@ -1,4 +1,5 @@
 //! Each stop leaves the units of after some first batches: all that were flushed, and after a kill all that were added.
+use crate::asserts::check;
 use crate::story::{
     BATCHES, Reached, empty_files, fill, layout, read_units, recover, run, units_after,
 };
@@ -12,7 +13,7 @@ use vault::{Batch, Stop, Vault, VaultError, add, flush, settle};
 fn made(rt: &impl Abort, alloc: Global, files: MemFiles) -> FileVault<MemFiles> {
     match FileVault::create(alloc, files, layout()) {
         Ok(vault) => vault,
-        Err(_) => panic!(rt; "not made"),
+        Err(_) => rt.panic("not made"),
     }
 }
 
@@ -60,14 +61,14 @@ fn a_run_that_isnt_stopped_leaves_all(rt: HostRuntime) -> Result<(), Fail> {
         added: 0,
         flushed: 0,
     };
-    assert!(rt; run(alloc, &mut vault, &mut reached).is_ok());
-    assert!(rt; reached.flushed == BATCHES);
+    check!(rt; run(alloc, &mut vault, &mut reached).is_ok());
+    check!(rt; reached.flushed == BATCHES);
     let mut room = Batch::new(alloc);
-    assert!(rt; settle(&mut vault, &mut room, &[false; 16]).is_ok());
+    check!(rt; settle(&mut vault, &mut room, &[false; 16]).is_ok());
     let Ok(units) = read_units(alloc, &mut vault) else {
-        panic!(rt; "not read");
+        rt.panic("not read");
     };
-    assert!(rt; units.bytes[..] == units_after(alloc, BATCHES)?.bytes[..]);
+    check!(rt; units.bytes[..] == units_after(alloc, BATCHES)?.bytes[..]);
     Ok(())
 }
 
@@ -93,10 +94,10 @@ fn check(
     let left = recover(alloc, left).files;
     let last = left.left(ends.recovery, ends.choice ^ 0x5a5a)?;
     let Some(units) = recover(alloc, last).into_units() else {
-        panic!(rt; "not recovered");
+        rt.panic("not recovered");
     };
     let Some(count) = batches_in(alloc, &units.bytes, reached)? else {
-        panic!(rt; "units of no moment");
+        rt.panic("units of no moment");
     };
     Ok(count)
 }
@@ -119,16 +120,16 @@ fn check_all(
                 choice: choice.wrapping_mul(77).wrapping_add(stop as u64),
             };
             let count = check(rt, alloc, &files, ends, reached)?;
-            assert!(rt; count >= reached.flushed);
+            check!(rt; count >= reached.flushed);
             if run == Stop::Killed && recovery == Stop::Killed {
-                assert!(rt; count >= reached.added);
+                check!(rt; count >= reached.added);
             }
         }
         if done {
             return Ok(());
         }
     }
-    panic!(rt; "no end");
+    rt.panic("no end");
 }
 
 #[test]
@@ -153,28 +154,28 @@ fn a_drive_that_fails_is_named_and_left_out(rt: HostRuntime) -> Result<(), Fail>
     let mut files = made(&rt, alloc, empty_files(alloc, 18)?).into_files();
     files.fail_file_after(1, 1);
     let Ok(mut vault) = FileVault::open(alloc, files, layout()) else {
-        panic!(rt; "not opened");
+        rt.panic("not opened");
     };
     let mut batch = Batch::new(alloc);
     let mut room = Batch::new(alloc);
     for number in 0..3 {
         fill(&mut batch, number)?;
-        assert!(rt; add(&mut vault, &batch).is_ok());
+        check!(rt; add(&mut vault, &batch).is_ok());
     }
-    assert!(rt; flush(&mut vault).is_ok());
+    check!(rt; flush(&mut vault).is_ok());
     let mut lost = [false; 16];
-    assert!(rt; settle(&mut vault, &mut room, &lost) == Err(VaultError::Drive(1)));
-    assert!(rt; vault.batches() == Ok(3));
+    check!(rt; settle(&mut vault, &mut room, &lost) == Err(VaultError::Drive(1)));
+    check!(rt; vault.batches() == Ok(3));
     lost[1] = true;
-    assert!(rt; settle(&mut vault, &mut room, &lost) == Ok(()));
+    check!(rt; settle(&mut vault, &mut room, &lost) == Ok(()));
     let Some(units) = recover(alloc, vault.into_files().left(Stop::Killed, 1)?).into_units() else {
-        panic!(rt; "not recovered");
+        rt.panic("not recovered");
     };
     let after = units_after(alloc, 3)?;
-    assert!(rt; units.bytes.len() == 49);
-    assert!(rt; after.bytes.len() == 49);
-    assert!(rt; units.bytes[..15] == after.bytes[..15]);
-    assert!(rt; units.bytes[30..] == after.bytes[30..]);
+    check!(rt; units.bytes.len() == 49);
+    check!(rt; after.bytes.len() == 49);
+    check!(rt; units.bytes[..15] == after.bytes[..15]);
+    check!(rt; units.bytes[30..] == after.bytes[30..]);
     Ok(())
 }
 
@@ -190,7 +191,7 @@ fn a_misfit_is_refused(rt: HostRuntime) -> Result<(), Fail> {
         },
         &[1, 2, 3, 4],
     )?;
-    assert!(rt; add(&mut vault, &batch) == Err(VaultError::Misfit));
-    assert!(rt; vault.batches() == Ok(0));
+    check!(rt; add(&mut vault, &batch) == Err(VaultError::Misfit));
+    check!(rt; vault.batches() == Ok(0));
     Ok(())
 }

@@ -1,4 +1,5 @@
 //! Vaults whose journal lies in two files: one of them fails, is lost, or is an older one, and all is there.
+use crate::asserts::check;
 use crate::story::{BATCHES, Reached, Recovered, empty_files, layout, run, settled};
 use crate::tests::batches_in;
 use file_vault::{FileVault, Found, Held, MemFiles, TwinFiles};
@@ -31,13 +32,13 @@ fn opened(alloc: Global, files: MemFiles) -> Result<FileVault<TwinFiles<MemFiles
 // The files of a new vault.
 fn made(rt: &impl Abort, alloc: Global) -> Result<MemFiles, Fail> {
     let Ok(twins) = TwinFiles::open(empty_files(alloc, 19)?) else {
-        panic!(rt; "not opened");
+        rt.panic("not opened");
     };
-    assert!(rt; twins.found() == Found::Pair);
+    check!(rt; twins.found() == Found::Pair);
     match FileVault::create(alloc, twins, layout()) {
         // Without the calls of it, which each read would look through.
         Ok(vault) => Ok(vault.into_files().into_files().left(Stop::Killed, 0)?),
-        Err(_) => panic!(rt; "not made"),
+        Err(_) => rt.panic("not made"),
     }
 }
 
@@ -64,11 +65,11 @@ fn found_in(
 ) -> Result<(usize, MemFiles), Fail> {
     let Recovered { files, units } = recover(alloc, files);
     let Some(units) = units else {
-        panic!(rt; "not recovered");
+        rt.panic("not recovered");
     };
     match batches_in(alloc, &units.bytes, reached)? {
         Some(count) => Ok((count, files)),
-        None => panic!(rt; "units of no moment"),
+        None => rt.panic("units of no moment"),
     }
 }
 
@@ -97,13 +98,13 @@ fn check_failed(
     for choice in 0..6 {
         for stop in [Stop::Killed, Stop::PowerLost] {
             let (count, _) = found_in(rt, alloc, files.left(stop, choice)?, reached)?;
-            assert!(rt; count == BATCHES);
+            check!(rt; count == BATCHES);
             let mut left = files.left(stop, choice)?;
             left.fail_file_after(failed, 0);
             let (count, after) = found_in(rt, alloc, left, reached)?;
-            assert!(rt; count == BATCHES);
+            check!(rt; count == BATCHES);
             let (count, _) = found_in(rt, alloc, after.left(stop, choice)?, reached)?;
-            assert!(rt; count == BATCHES);
+            check!(rt; count == BATCHES);
         }
     }
     Ok(())
@@ -118,14 +119,14 @@ fn a_file_of_the_journal_may_fail_at_any_call(rt: HostRuntime) -> Result<(), Fai
             let mut files = made(&rt, alloc)?;
             files.fail_file_after(failed, calls);
             let (files, reached, held, done) = ran(alloc, files);
-            assert!(rt; done && reached.flushed == BATCHES);
+            check!(rt; done && reached.flushed == BATCHES);
             check_failed(&rt, alloc, &files, failed, reached)?;
             if matches!(held, Held::Both(_)) {
                 ended = true;
                 break;
             }
         }
-        assert!(rt; ended);
+        check!(rt; ended);
     }
     Ok(())
 }
@@ -143,13 +144,13 @@ fn check_lost(
     let mut left = files.left(stop, choice)?;
     left.fail_file_after(lost.0, lost.1);
     let (count, after) = found_in(rt, alloc, left, reached)?;
-    assert!(rt; count >= reached.flushed);
+    check!(rt; count >= reached.flushed);
     if stop == Stop::Killed {
-        assert!(rt; count >= reached.added);
+        check!(rt; count >= reached.added);
     }
     let again = after.left(stop, choice ^ 0x77)?;
     let (later, _) = found_in(rt, alloc, again, reached)?;
-    assert!(rt; later == count);
+    check!(rt; later == count);
     Ok(())
 }
 
@@ -182,7 +183,7 @@ fn check_stops(rt: &impl Abort, alloc: Global, stop: Stop, losses: u32) -> Resul
             return Ok(());
         }
     }
-    panic!(rt; "no end");
+    rt.panic("no end");
 }
 
 #[test]
@@ -201,16 +202,16 @@ fn an_older_file_of_the_journal_is_written_over(rt: HostRuntime) -> Result<(), F
     for older in JOURNALS {
         let old = made(&rt, alloc)?.left(Stop::Killed, 0)?;
         let (files, reached, _, done) = ran(alloc, made(&rt, alloc)?);
-        assert!(rt; done);
+        check!(rt; done);
         for stop in [Stop::Killed, Stop::PowerLost] {
             let mut left = files.left(stop, 3)?;
             left.take_file(older, &old)?;
             let (count, after) = found_in(&rt, alloc, left, reached)?;
-            assert!(rt; count == BATCHES);
+            check!(rt; count == BATCHES);
             let mut left = after.left(stop, 4)?;
             left.fail_file_after(other_of(older), 0);
             let (count, _) = found_in(&rt, alloc, left, reached)?;
-            assert!(rt; count == BATCHES);
+            check!(rt; count == BATCHES);
         }
     }
     Ok(())
@@ -221,8 +222,8 @@ fn without_both_files_of_the_journal_nothing_is_opened(rt: HostRuntime) -> Resul
     let mut files = made(&rt, rt.alloc())?;
     files.fail_after(0);
     let Err((found, _)) = TwinFiles::open(files) else {
-        panic!(rt; "opened");
+        rt.panic("opened");
     };
-    assert!(rt; found == Found::None);
+    check!(rt; found == Found::None);
     Ok(())
 }

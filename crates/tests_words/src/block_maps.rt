@@ -1,4 +1,5 @@
 // Records and maps against values from outside.
+use crate::asserts::check;
 use map_join::{BlockMap, Live, MapRefusal, Newest, Record, RecordFault};
 use std::alloc::Global;
 use std::process::Abort;
@@ -25,8 +26,8 @@ fn first_of(block: u16) -> Record {
 fn map_of(rt: &impl Abort, alloc: Global, records: &[Record]) -> BlockMap {
     let mut map = BlockMap::new(alloc);
     for record in records {
-        assert!(rt; record.version > 0);
-        assert!(rt; map.take(alloc, *record).is_ok());
+        check!(rt; record.version > 0);
+        check!(rt; map.take(alloc, *record).is_ok());
     }
     map
 }
@@ -41,25 +42,25 @@ fn lists(alloc: Global, map: &BlockMap, expected: &[Record]) -> bool {
 
 #[test]
 fn a_key_orders_by_version_then_hop_then_place(rt: HostRuntime) {
-    assert!(rt; record(1, 0, 0).key() == 4_294_967_296);
-    assert!(rt; record(1, 1, 128).key() == 4_295_032_960);
-    assert!(rt; record(2, 0, 5).key() == 8_589_934_597);
-    assert!(rt; record(1, 65_535, 65_535).key() == 8_589_934_591);
-    assert!(rt; Record::of_key(3, 4_295_032_960) == Some(record(1, 1, 128)));
-    assert!(rt; Record::of_key(3, 4_294_967_295) == None);
+    check!(rt; record(1, 0, 0).key() == 4_294_967_296);
+    check!(rt; record(1, 1, 128).key() == 4_295_032_960);
+    check!(rt; record(2, 0, 5).key() == 8_589_934_597);
+    check!(rt; record(1, 65_535, 65_535).key() == 8_589_934_591);
+    check!(rt; Record::of_key(3, 4_295_032_960) == Some(record(1, 1, 128)));
+    check!(rt; Record::of_key(3, 4_294_967_295) == None);
 }
 
 #[test]
 fn twelve_bytes_spell_a_record_and_no_others_do(rt: HostRuntime) {
     let bytes = [0u8, 0, 0, 3, 0, 0, 0, 2, 0, 0, 0, 5];
-    assert!(rt; record(2, 0, 5).to_bytes() == bytes);
-    assert!(rt; Record::of_bytes(&bytes) == Ok(record(2, 0, 5)));
+    check!(rt; record(2, 0, 5).to_bytes() == bytes);
+    check!(rt; Record::of_bytes(&bytes) == Ok(record(2, 0, 5)));
     for length in 0..12usize {
-        assert!(rt; Record::of_bytes(&bytes[..length]) == Err(RecordFault::Length));
+        check!(rt; Record::of_bytes(&bytes[..length]) == Err(RecordFault::Length));
     }
-    assert!(rt; Record::of_bytes(&[1u8; 13]) == Err(RecordFault::Length));
+    check!(rt; Record::of_bytes(&[1u8; 13]) == Err(RecordFault::Length));
     let unwritten = [0u8, 0, 0, 3, 0, 0, 0, 0, 0, 0, 0, 0];
-    assert!(rt; Record::of_bytes(&unwritten) == Err(RecordFault::ZeroVersion));
+    check!(rt; Record::of_bytes(&unwritten) == Err(RecordFault::ZeroVersion));
 }
 
 #[test]
@@ -75,8 +76,8 @@ fn three_records_in_any_order_and_twice_leave_the_newest(rt: HostRuntime) {
     ];
     for [a, b, c] in &orders {
         let map = map_of(&rt, rt.alloc(), &[*a, *a, *b, *b, *c, *c]);
-        assert!(rt; map.get(3) == Some(three));
-        assert!(rt; map.get(4) == None);
+        check!(rt; map.get(3) == Some(three));
+        check!(rt; map.get(4) == None);
     }
 }
 
@@ -84,10 +85,10 @@ fn three_records_in_any_order_and_twice_leave_the_newest(rt: HostRuntime) {
 fn a_write_is_newer_than_the_last_move_before_it(rt: HostRuntime) {
     let moved = record(1, 65_535, 65_535);
     let written = record(2, 0, 0);
-    assert!(rt; written.key() == 8_589_934_592);
+    check!(rt; written.key() == 8_589_934_592);
     for (first, second) in [(moved, written), (written, moved)] {
         let map = map_of(&rt, rt.alloc(), &[first, second]);
-        assert!(rt; map.get(3) == Some(written));
+        check!(rt; map.get(3) == Some(written));
     }
 }
 
@@ -95,21 +96,21 @@ fn a_write_is_newer_than_the_last_move_before_it(rt: HostRuntime) {
 fn the_older_of_two_maps_differs_and_is_covered(rt: HostRuntime) {
     let newer = map_of(&rt, rt.alloc(), &[record(2, 0, 5), record(1, 0, 0)]);
     let older = map_of(&rt, rt.alloc(), &[record(1, 0, 0)]);
-    assert!(rt; older.lowest_difference(&newer) == Some(3));
-    assert!(rt; newer.lowest_difference(&older) == Some(3));
-    assert!(rt; !older.agrees(&newer));
-    assert!(rt; newer.covers(&older) && !older.covers(&newer));
+    check!(rt; older.lowest_difference(&newer) == Some(3));
+    check!(rt; newer.lowest_difference(&older) == Some(3));
+    check!(rt; !older.agrees(&newer));
+    check!(rt; newer.covers(&older) && !older.covers(&newer));
 }
 
 #[test]
 fn two_maps_agree_once_the_older_one_is_merged(rt: HostRuntime) {
     let newer = map_of(&rt, rt.alloc(), &[record(2, 0, 5), record(1, 0, 0)]);
     let mut older = map_of(&rt, rt.alloc(), &[record(1, 0, 0)]);
-    assert!(rt; older.merge(rt.alloc(), &newer).is_ok());
-    assert!(rt; older.get(3) == Some(record(2, 0, 5)));
-    assert!(rt; older.lowest_difference(&newer) == None);
-    assert!(rt; older.agrees(&newer));
-    assert!(rt; newer.covers(&older) && older.covers(&newer));
+    check!(rt; older.merge(rt.alloc(), &newer).is_ok());
+    check!(rt; older.get(3) == Some(record(2, 0, 5)));
+    check!(rt; older.lowest_difference(&newer) == None);
+    check!(rt; older.agrees(&newer));
+    check!(rt; newer.covers(&older) && older.covers(&newer));
 }
 
 #[test]
@@ -117,20 +118,20 @@ fn a_map_without_blocks_is_covered_by_each(rt: HostRuntime) {
     let one = map_of(&rt, rt.alloc(), &[record(1, 0, 0)]);
     let mut none = BlockMap::new(rt.alloc());
     let other = BlockMap::new(rt.alloc());
-    assert!(rt; none.merge(rt.alloc(), &other).is_ok());
-    assert!(rt; lists(rt.alloc(), &none, &[]));
-    assert!(rt; one.covers(&none) && !none.agrees(&one));
+    check!(rt; none.merge(rt.alloc(), &other).is_ok());
+    check!(rt; lists(rt.alloc(), &none, &[]));
+    check!(rt; one.covers(&none) && !none.agrees(&one));
 }
 
 #[test]
 fn a_table_of_keys_is_made_a_map(rt: HostRuntime) {
     let keys = [0, 0x2_0001_0082, 0, 0x1_0000_0007];
     let Ok(map) = BlockMap::of_table(rt.alloc(), &keys) else {
-        panic!(rt; "no map")
+        rt.panic("no map")
     };
     let expected = [record_of(1, 2, 1, 130), record(1, 0, 7)];
-    assert!(rt; lists(rt.alloc(), &map, &expected));
-    assert!(rt; map.get(4) == None);
+    check!(rt; lists(rt.alloc(), &map, &expected));
+    check!(rt; map.get(4) == None);
 }
 
 // Whether the blocks up to `last` that the map has are the first ones.
@@ -153,21 +154,21 @@ fn a_refused_merge_has_the_first_blocks_and_goes_on(rt: HostRuntime) {
         let mut from = BlockMap::new(rt.alloc());
         for block in 1..=blocks {
             let taken = first_of(block);
-            assert!(rt; taken.version > 0);
+            check!(rt; taken.version > 0);
             if from.take(rt.alloc(), taken) == Err(MapRefusal::Memory) {
-                assert!(rt; from.get(taken.block) == None);
-                assert!(rt; from.take(rt.alloc(), taken).is_ok());
+                check!(rt; from.get(taken.block) == None);
+                check!(rt; from.take(rt.alloc(), taken).is_ok());
             }
         }
         let mut to = BlockMap::new(rt.alloc());
         if to.merge(rt.alloc(), &from) == Err(MapRefusal::Memory) {
-            assert!(rt; has_the_first(&to, u32::from(blocks)));
-            assert!(rt; !to.covers(&from) && from.covers(&to));
-            assert!(rt; to.merge(rt.alloc(), &from).is_ok());
+            check!(rt; has_the_first(&to, u32::from(blocks)));
+            check!(rt; !to.covers(&from) && from.covers(&to));
+            check!(rt; to.merge(rt.alloc(), &from).is_ok());
         }
-        assert!(rt; to.get(1) == Some(first_of(1)));
-        assert!(rt; to.get(u32::from(blocks)) == Some(first_of(blocks)));
-        assert!(rt; to.agrees(&from));
+        check!(rt; to.get(1) == Some(first_of(1)));
+        check!(rt; to.get(u32::from(blocks)) == Some(first_of(blocks)));
+        check!(rt; to.agrees(&from));
     }
 }
 
@@ -180,22 +181,22 @@ fn a_list_is_in_block_order_and_a_copy_has_the_same(rt: HostRuntime) {
     );
     let map = map_of(&rt, rt.alloc(), &[nine, two, five]);
     let Ok(copy) = map.copied(rt.alloc()) else {
-        panic!(rt; "no copy")
+        rt.panic("no copy")
     };
-    assert!(rt; lists(rt.alloc(), &copy, &[two, five, nine]));
+    check!(rt; lists(rt.alloc(), &copy, &[two, five, nine]));
 }
 
 #[test]
 fn the_newest_records_alone_report_which_slots_are_live(rt: HostRuntime) {
     let records = [record(1, 0, 5), record(1, 1, 130), record_of(9, 1, 0, 5)];
     let map = map_of(&rt, rt.alloc(), &records);
-    assert!(rt; map.newest(3) == Some(record(1, 1, 130)));
-    assert!(rt; map.newest(4) == None);
-    assert!(rt; map.block_at(5) == Some(9));
-    assert!(rt; map.block_at(130) == Some(3));
-    assert!(rt; map.block_at(2) == None);
-    assert!(rt; map.count_live(0, 5) == 0);
-    assert!(rt; map.count_live(0, 6) == 1);
-    assert!(rt; map.count_live(1, 128) == 1);
-    assert!(rt; map.count_live(2, 128) == 0);
+    check!(rt; map.newest(3) == Some(record(1, 1, 130)));
+    check!(rt; map.newest(4) == None);
+    check!(rt; map.block_at(5) == Some(9));
+    check!(rt; map.block_at(130) == Some(3));
+    check!(rt; map.block_at(2) == None);
+    check!(rt; map.count_live(0, 5) == 0);
+    check!(rt; map.count_live(0, 6) == 1);
+    check!(rt; map.count_live(1, 128) == 1);
+    check!(rt; map.count_live(2, 128) == 0);
 }

@@ -1,6 +1,7 @@
 ghost use Rattle.std.specs.Prelude.{◌≡◌, ◌<◌};
 ghost use Rattle.map_words.specs.Places.{blocks_of};
 
+use crate::asserts::check;
 use map_join::{BlockMap, Record};
 use map_words::{CloseRefusal, MapWords, Naming, SplitRefusal, Taker, Unnamed};
 use std::alloc::Global;
@@ -31,7 +32,7 @@ fn needs_sync<T: Sync>(_: &T) {}
 fn split_of<N: Naming, R: Abort>(rt: &R, words: &MapWords<N>, taker: &mut Taker<N>) -> Taker<N> {
     match words.split(taker) {
         Ok(other) => other,
-        Err(_) => panic!(rt; "there is a share"),
+        Err(_) => rt.panic("there is a share"),
     }
 }
 
@@ -44,10 +45,10 @@ fn not_whole<N: Naming, R: Abort>(
     share: u32,
 ) -> (MapWords<N>, Taker<N>) {
     match words.close(alloc, taker) {
-        Ok(_) => panic!(rt; "the share is not the whole"),
+        Ok(_) => rt.panic("the share is not the whole"),
         Err((refusal, words, taker)) => {
-            assert!(rt; refusal == CloseRefusal::NotWhole(share));
-            assert!(rt; refusal.number() == 1);
+            check!(rt; refusal == CloseRefusal::NotWhole(share));
+            check!(rt; refusal.number() == 1);
             (words, taker)
         }
     }
@@ -61,7 +62,7 @@ fn closed<N: Naming, R: Abort>(
 ) -> BlockMap {
     match words.close(alloc, taker) {
         Ok(map) => map,
-        Err(_) => panic!(rt; "the share is whole"),
+        Err(_) => rt.panic("the share is whole"),
     }
 }
 
@@ -97,8 +98,8 @@ fn splits_sixteen_times<N: Naming, R: Abort>(rt: &R, table: Unnamed, alloc: Glob
         words = back;
     }
     match words.split(&mut taker) {
-        Ok(_) => panic!(rt; "the share is 1"),
-        Err(refusal) => assert!(rt; refusal == SplitRefusal::NoShare),
+        Ok(_) => rt.panic("the share is 1"),
+        Err(refusal) => check!(rt; refusal == SplitRefusal::NoShare),
     }
 }
 
@@ -115,15 +116,15 @@ fn closes_after_the_join<N: Naming + Send + Sync, R: Abort>(rt: &R, table: Unnam
     let (words, mut taker) = table.named::<N>();
     needs_sync(&words);
     needs_send(&taker);
-    assert!(rt; key_before(&words, &mut taker, OLDER) == 0);
+    check!(rt; key_before(&words, &mut taker, OLDER) == 0);
     let mut other = split_of(rt, &words, &mut taker);
-    assert!(rt; finds(&words, &mut other, 3, Some(OLDER)));
-    assert!(rt; finds(&words, &mut other, 4, None));
+    check!(rt; finds(&words, &mut other, 3, Some(OLDER)));
+    check!(rt; finds(&words, &mut other, 4, None));
     let (words, mut taker) = not_whole(rt, words, alloc, taker, 32768);
     words.join(&mut taker, other);
     let map = closed(rt, words, alloc, taker);
-    assert!(rt; map.get(3) == Some(OLDER));
-    assert!(rt; map.get(4).is_none());
+    check!(rt; map.get(3) == Some(OLDER));
+    check!(rt; map.get(4).is_none());
 }
 
 #[test]
@@ -147,18 +148,18 @@ fn takes_two<N: Naming, R: Abort>(
 {
     let (words, mut one) = table.named::<N>();
     let mut other = split_of(rt, &words, &mut one);
-    assert!(rt; finds(&words, &mut other, 3, None));
-    assert!(rt; key_before(&words, &mut one, first) == 0);
-    assert!(rt; key_before(&words, &mut other, second) == first_key);
-    assert!(rt; finds(&words, &mut one, 3, Some(NEWER)));
-    assert!(rt; finds(&words, &mut other, 3, Some(NEWER)));
+    check!(rt; finds(&words, &mut other, 3, None));
+    check!(rt; key_before(&words, &mut one, first) == 0);
+    check!(rt; key_before(&words, &mut other, second) == first_key);
+    check!(rt; finds(&words, &mut one, 3, Some(NEWER)));
+    check!(rt; finds(&words, &mut other, 3, Some(NEWER)));
     words.join(&mut one, other);
     let map = closed(rt, words, alloc, one);
-    assert!(rt; map.get(3) == Some(NEWER));
+    check!(rt; map.get(3) == Some(NEWER));
     let Ok(list) = map.to_list(alloc) else {
-        panic!(rt; "no list")
+        rt.panic("no list")
     };
-    assert!(rt; list.len() == 1);
+    check!(rt; list.len() == 1);
 }
 
 #[test]
@@ -252,12 +253,12 @@ fn takes_in_four_threads<N: Naming + Send + Sync, R: Abort + Threads + Sync>(
             requires { blocks_of N.table ≡ 16 }
         { take_all_in_two(rt, &words, &mut c, &mut d, (5, 37)) },
     );
-    assert!(rt; first & second);
+    check!(rt; first & second);
     words.join(&mut a, b);
     words.join(&mut a, c);
     words.join(&mut a, d);
     let map = closed(rt, words, alloc, a);
-    assert!(rt; holds_the_newest(&map));
+    check!(rt; holds_the_newest(&map));
 }
 
 #[test]

@@ -1,6 +1,7 @@
 ghost use Rattle.std.specs.Prelude.{◌≡◌, ◌<◌, All, IfOk};
 ghost use Rattle.slot_words.specs.Places.{table_slots};
 
+use crate::asserts::check;
 use slot_words::{Claim, ClaimRefusal, Naming, NoneFree, Pass, SlotWords, Unnamed};
 use std::alloc::{AllocError, AllocFailed, Global};
 use std::marker::Brand;
@@ -27,7 +28,7 @@ fn claimed<N: Naming, R: Abort>(
 {
     match words.claim(pass, slot) {
         Ok(claim) => claim,
-        Err(_) => panic!(rt; "the slot is free"),
+        Err(_) => rt.panic("the slot is free"),
     }
 }
 
@@ -43,7 +44,7 @@ fn refused<N: Naming, R: Abort>(
     match words.claim(pass, slot) {
         Ok(claim) => {
             words.release(pass, claim);
-            panic!(rt; "the slot is held")
+            rt.panic("the slot is held")
         }
         Err(refusal) => refusal,
     }
@@ -58,15 +59,15 @@ fn claims_one_slot_twice<N: Naming + Send + Sync, R: Abort>(rt: &R, table: Unnam
     needs_send(&pass);
     let first = claimed(rt, &words, &mut pass, 0);
     needs_send(&first);
-    assert!(rt; first.slot() == 0);
-    assert!(rt; first.generation() == 1);
+    check!(rt; first.slot() == 0);
+    check!(rt; first.generation() == 1);
     let taken = refused(rt, &words, &mut pass, 0);
-    assert!(rt; taken == ClaimRefusal::Taken(3));
-    assert!(rt; taken.number() == 1);
+    check!(rt; taken == ClaimRefusal::Taken(3));
+    check!(rt; taken.number() == 1);
     words.release(&mut pass, first);
     let second = claimed(rt, &words, &mut pass, 0);
-    assert!(rt; second.generation() == 2);
-    assert!(rt; refused(rt, &words, &mut pass, 0) == ClaimRefusal::Taken(5));
+    check!(rt; second.generation() == 2);
+    check!(rt; refused(rt, &words, &mut pass, 0) == ClaimRefusal::Taken(5));
     words.release(&mut pass, second);
 }
 
@@ -89,9 +90,9 @@ fn claims_at<N: Naming, R: Abort>(
 {
     let (pass, other) = passes;
     let claim = claimed(rt, words, pass, slot);
-    assert!(rt; claim.generation() == generation);
+    check!(rt; claim.generation() == generation);
     let held = ClaimRefusal::Taken(2 * generation + 1);
-    assert!(rt; refused(rt, words, other, slot) == held);
+    check!(rt; refused(rt, words, other, slot) == held);
     words.release(pass, claim);
 }
 
@@ -124,11 +125,11 @@ fn claims_first_at<N: Naming, R: Abort>(
 {
     match words.claim_first(pass, list) {
         Ok(claim) => {
-            assert!(rt; claim.slot() == slot);
-            assert!(rt; claim.generation() == generation);
+            check!(rt; claim.slot() == slot);
+            check!(rt; claim.generation() == generation);
             words.release(pass, claim);
         }
-        Err(_) => panic!(rt; "the slot is free"),
+        Err(_) => rt.panic("the slot is free"),
     }
 }
 
@@ -171,17 +172,17 @@ fn hands_a_claim_over<N: Naming + Send + Sync, R: Abort + Threads>(rt: &R, table
     let (words, mut pass) = table.named::<N>();
     let mut second = words.split(&mut pass);
     let claim = claimed(rt, &words, &mut pass, 2);
-    assert!(rt; refused(rt, &words, &mut second, 2) == ClaimRefusal::Taken(3));
+    check!(rt; refused(rt, &words, &mut second, 2) == ClaimRefusal::Taken(3));
     let mut given = Some(claim);
     thread::join(rt, || let_go(&words, &mut second, &mut given), || ());
     if let Some(kept) = given {
         words.release(&mut pass, kept);
     }
     let mut two = claimed(rt, &words, &mut pass, 2);
-    assert!(rt; two.generation() == 2);
+    check!(rt; two.generation() == 2);
     let mut three = claimed(rt, &words, &mut pass, 3);
     words.apart(&mut two, &mut three);
-    assert!(rt; (two.slot(), three.slot()) == (2, 3));
+    check!(rt; (two.slot(), three.slot()) == (2, 3));
     words.release(&mut pass, two);
     words.release(&mut pass, three);
 }
@@ -200,10 +201,10 @@ fn finds_a_free_slot_in_a_list<N: Naming, R: Abort>(rt: &R, table: Unnamed, allo
     let all: [u16; 8] = [0, 1, 2, 3, 4, 5, 6, 7];
     let second = words.split(&mut pass);
     let claims = claim_all(&words, second, &all, alloc);
-    assert!(rt; claims.len() == 8);
+    check!(rt; claims.len() == 8);
     let last_refusal = NoneFree(Some(ClaimRefusal::Taken(3)));
-    assert!(rt; first_refusal(&words, &mut pass, &all) == Some(last_refusal));
-    assert!(rt; first_refusal(&words, &mut pass, &[]) == Some(NoneFree(None)));
+    check!(rt; first_refusal(&words, &mut pass, &all) == Some(last_refusal));
+    check!(rt; first_refusal(&words, &mut pass, &[]) == Some(NoneFree(None)));
     release_all(&words, &mut pass, claims, &mut [0; 64]);
     let zero = claimed(rt, &words, &mut pass, 0);
     let one = claimed(rt, &words, &mut pass, 1);
@@ -321,7 +322,7 @@ fn shares_a_list_among_four<N: Naming + Send + Sync, R: Abort + Threads + Sync>(
     release_all(&words, &mut pass, second, &mut counts);
     release_all(&words, &mut pass, third, &mut counts);
     release_all(&words, &mut pass, fourth, &mut counts);
-    assert!(rt; counts == [1u8; 64]);
+    check!(rt; counts == [1u8; 64]);
 }
 
 #[test]
@@ -403,7 +404,7 @@ fn churns_in_four_threads<N: Naming + Send + Sync, R: Abort + Threads + Sync>(
             requires { table_slots N.table ≡ 4 }
         { churn_in_two(rt, &words, &mut c, &mut d, &holders) },
     );
-    assert!(rt; first & second);
+    check!(rt; first & second);
     words.join(&mut a, b);
     for slot in 0..4u16 {
         let claim = claimed(rt, &words, &mut a, slot);

@@ -1,4 +1,5 @@
 // What workers have in hand, where a world is made of an array that another world had.
+use crate::asserts::check;
 use crate::script::{Reported, Script, answers, grouped, push, push_fill};
 use std::alloc::Global;
 use std::process::Abort;
@@ -7,7 +8,7 @@ use step_core::{Refusal, Step, World};
 // The array of this world, in a new world.
 fn afresh(rt: &impl Abort, alloc: Global, world: World) -> World {
     let Ok(world) = World::of(alloc, world.into_array()) else {
-        panic!(rt; "no world")
+        rt.panic("no world")
     };
     world
 }
@@ -45,7 +46,7 @@ fn following(rt: &impl Abort, alloc: Global) -> Script {
 fn a_world_of_an_array_has_empty_hands(rt: HostRuntime) {
     let alloc = rt.alloc();
     let mut world = grouped(&rt, alloc);
-    assert!(rt; answers(&rt, alloc, &mut world, &before(&rt, alloc)));
+    check!(rt; answers(&rt, alloc, &mut world, &before(&rt, alloc)));
     let mut world = afresh(&rt, alloc, world);
-    assert!(rt; answers(&rt, alloc, &mut world, &following(&rt, alloc)));
+    check!(rt; answers(&rt, alloc, &mut world, &following(&rt, alloc)));
 }

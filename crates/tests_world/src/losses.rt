@@ -1,4 +1,5 @@
 // Every drive lost at every call of a run, a second one after it, and what is answered then.
+use crate::asserts::check;
 use crate::script::{
     Reported, Script, answers, fuse, grouped, is_lost, list_on, lose, push, push_fill, push_move,
     push_read, push_write, record_of,
@@ -89,7 +90,7 @@ fn reads_without(rt: &impl Abort, alloc: Global, one: u8, other: u8) -> Script {
 fn run(rt: &impl Abort, alloc: Global, world: &mut World, drive: u8, call: u64) {
     fuse(rt, world, drive, call);
     let script = run_without(rt, alloc, drive);
-    assert!(rt; answers(rt, alloc, world, &script));
+    check!(rt; answers(rt, alloc, world, &script));
 }
 
 // Loses two drives, and reads all blocks.
@@ -97,12 +98,12 @@ fn lose_two(rt: &impl Abort, alloc: Global, world: &mut World, one: u8, other: u
     lose(world, one);
     lose(world, other);
     let script = reads_without(rt, alloc, one, other);
-    assert!(rt; answers(rt, alloc, world, &script));
+    check!(rt; answers(rt, alloc, world, &script));
 }
 
 // Whether the drive is lost at a call of the run. The number of the call decides which drive is lost after it.
 fn burns(rt: &impl Abort, alloc: Global, drive: u8, call: u64) -> bool {
-    assert!(rt; drive < 4);
+    check!(rt; drive < 4);
     let mut world = grouped(rt, alloc);
     run(rt, alloc, &mut world, drive, call);
     let burnt = is_lost(&world, drive);
@@ -114,7 +115,7 @@ fn burns(rt: &impl Abort, alloc: Global, drive: u8, call: u64) -> bool {
 // Loses the drive at its first call, at each of the next ones, and at one that never comes.
 fn burns_until_its_last(rt: &impl Abort, alloc: Global, drive: u8) -> bool {
     let mut burnt = burns(rt, alloc, drive, 1);
-    assert!(rt; burnt);
+    check!(rt; burnt);
     for call in 2..CALLS {
         burnt = burns(rt, alloc, drive, call);
     }
@@ -124,6 +125,6 @@ fn burns_until_its_last(rt: &impl Abort, alloc: Global, drive: u8) -> bool {
 #[test]
 fn a_run_answers_alike_whichever_drive_is_lost_at_whichever_call(rt: HostRuntime) {
     for drive in 0..4u8 {
-        assert!(rt; burns_until_its_last(&rt, rt.alloc(), drive));
+        check!(rt; burns_until_its_last(&rt, rt.alloc(), drive));
     }
 }

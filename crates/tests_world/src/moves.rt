@@ -1,4 +1,5 @@
 // Members that go onto other extents: what is refused in which order, and each drive lost at each call of a move.
+use crate::asserts::check;
 use crate::script::{
     Reported, Script, answers, fuse, grouped, push, push_move, push_read, push_write,
 };
@@ -71,7 +72,7 @@ fn a_move_is_refused_in_its_order(rt: HostRuntime) {
     let alloc = rt.alloc();
     let mut world = grouped(&rt, alloc);
     let script = refusals(&rt, alloc);
-    assert!(rt; answers(&rt, alloc, &mut world, &script));
+    check!(rt; answers(&rt, alloc, &mut world, &script));
 }
 
 // A member of the parity group goes onto drive 0, and all blocks are read; a second one where it was lost is refused.
@@ -91,7 +92,7 @@ fn written(rt: &impl Abort, alloc: Global) -> World {
     let mut world = grouped(rt, alloc);
     let mut script = Vec::new(alloc);
     push_blocks(rt, alloc, &mut script);
-    assert!(rt; answers(rt, alloc, &mut world, &script));
+    check!(rt; answers(rt, alloc, &mut world, &script));
     world
 }
 
@@ -100,7 +101,7 @@ fn moves_with(rt: &impl Abort, alloc: Global, drive: u8, call: u64) {
     let mut world = written(rt, alloc);
     fuse(rt, &mut world, drive, call);
     let script = moved(rt, alloc, drive == 0 && call <= 4);
-    assert!(rt; answers(rt, alloc, &mut world, &script));
+    check!(rt; answers(rt, alloc, &mut world, &script));
 }
 
 #[test]
@@ -135,5 +136,5 @@ fn a_lost_drive_is_rebuilt_on_a_new_one(rt: HostRuntime) {
     let alloc = rt.alloc();
     let mut world = grouped(&rt, alloc);
     let script = rebuilt(&rt, alloc);
-    assert!(rt; answers(&rt, alloc, &mut world, &script));
+    check!(rt; answers(&rt, alloc, &mut world, &script));
 }

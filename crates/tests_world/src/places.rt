@@ -1,4 +1,5 @@
 // Blocks that are placed into slots in one call: what is returned for each, and which slots are free after it.
+use crate::asserts::check;
 use crate::script::{Reported, answer, bytes_of, grouped, report};
 use map_join::Record;
 use std::alloc::Global;
@@ -16,7 +17,7 @@ fn write(
 ) -> Result<Placed, NotPlaced> {
     let payload = bytes_of(byte);
     let shape = world.array().shape();
-    assert!(rt; block < shape.blocks && payload.len() == shape.payload as usize);
+    check!(rt; block < shape.blocks && payload.len() == shape.payload as usize);
     world.place(alloc, slot, block, Some(Given::Payload(&payload)))
 }
 
@@ -27,7 +28,7 @@ fn trim(
     slot: u16,
     block: u32,
 ) -> Result<Placed, NotPlaced> {
-    assert!(rt; block < world.array().shape().blocks);
+    check!(rt; block < world.array().shape().blocks);
     world.place(alloc, slot, block, Some(Given::Trim))
 }
 
@@ -39,7 +40,7 @@ fn copy(
     slot: u16,
     block: u32,
 ) -> Result<Placed, NotPlaced> {
-    assert!(rt; block < world.array().shape().blocks);
+    check!(rt; block < world.array().shape().blocks);
     world.place(alloc, slot, block, None)
 }
 
@@ -70,17 +71,17 @@ fn a_block_goes_into_a_free_slot_and_leaves_its_old_one(rt: HostRuntime) {
     let alloc = rt.alloc();
     let mut world = grouped(&rt, alloc);
     let first = write(&rt, alloc, &mut world, 0, 3, 1);
-    assert!(rt; is_placed(first, record(1, 0, 0), None));
+    check!(rt; is_placed(first, record(1, 0, 0), None));
     let second = write(&rt, alloc, &mut world, 2, 3, 9);
-    assert!(rt; is_placed(second, record(2, 0, 2), Some(0)));
-    assert!(rt; world.is_free(0) && !world.is_free(2));
-    assert!(rt; found(&rt, alloc, &mut world) == Reported::Read(2, Some(9)));
+    check!(rt; is_placed(second, record(2, 0, 2), Some(0)));
+    check!(rt; world.is_free(0) && !world.is_free(2));
+    check!(rt; found(&rt, alloc, &mut world) == Reported::Read(2, Some(9)));
     let third = copy(&rt, alloc, &mut world, 128, 3);
-    assert!(rt; is_placed(third, record(2, 1, 128), Some(2)));
+    check!(rt; is_placed(third, record(2, 1, 128), Some(2)));
     let last = trim(&rt, alloc, &mut world, 1, 3);
-    assert!(rt; is_placed(last, record(3, 0, 1), Some(128)));
-    assert!(rt; found(&rt, alloc, &mut world) == Reported::Other);
-    assert!(rt; world.is_free(2) && world.is_free(128) && world.array().record_count() == 4);
+    check!(rt; is_placed(last, record(3, 0, 1), Some(128)));
+    check!(rt; found(&rt, alloc, &mut world) == Reported::Other);
+    check!(rt; world.is_free(2) && world.is_free(128) && world.array().record_count() == 4);
 }
 
 #[test]
@@ -88,14 +89,14 @@ fn a_block_that_is_refused_leaves_the_slot_free(rt: HostRuntime) {
     let alloc = rt.alloc();
     let mut world = grouped(&rt, alloc);
     let first = write(&rt, alloc, &mut world, 0, 3, 1);
-    assert!(rt; is_placed(first, record(1, 0, 0), None));
+    check!(rt; is_placed(first, record(1, 0, 0), None));
     let taken = write(&rt, alloc, &mut world, 0, 6, 2);
-    assert!(rt; matches!(taken, Err(NotPlaced::Taken)));
+    check!(rt; matches!(taken, Err(NotPlaced::Taken)));
     let class = write(&rt, alloc, &mut world, 128, 3, 2);
-    assert!(rt; matches!(class, Err(NotPlaced::Refused(Refusal::WrongClass))));
+    check!(rt; matches!(class, Err(NotPlaced::Refused(Refusal::WrongClass))));
     let group = trim(&rt, alloc, &mut world, 256, 3);
-    assert!(rt; matches!(group, Err(NotPlaced::Refused(Refusal::NoGroup))));
+    check!(rt; matches!(group, Err(NotPlaced::Refused(Refusal::NoGroup))));
     let unwritten = copy(&rt, alloc, &mut world, 128, 6);
-    assert!(rt; matches!(unwritten, Err(NotPlaced::Refused(Refusal::Unwritten))));
-    assert!(rt; world.is_free(128) && world.is_free(256) && world.array().record_count() == 1);
+    check!(rt; matches!(unwritten, Err(NotPlaced::Refused(Refusal::Unwritten))));
+    check!(rt; world.is_free(128) && world.is_free(256) && world.array().record_count() == 1);
 }

@@ -1,4 +1,5 @@
 // Runs of many steps: no count of them, and no length of the log, ends one.
+use crate::asserts::check;
 use crate::script::{is_lost, list_on, new_world, payload_of, records_from};
 use std::alloc::Global;
 use std::process::Abort;
@@ -8,7 +9,7 @@ use step_core::{Answer, Class, Run, Step, World, run_steps};
 const WRITES: u16 = 4_200;
 
 fn push(rt: &impl Abort, steps: &mut Vec<Step>, step: Step) {
-    assert!(rt; steps.push(step).is_ok());
+    check!(rt; steps.push(step).is_ok());
 }
 
 // A group is made.
@@ -51,9 +52,9 @@ fn writes(rt: &impl Abort, alloc: Global) -> Vec<Step> {
 
 // Runs a world over steps to their end.
 fn run(rt: &impl Abort, alloc: Global, world: World, steps: &[Step]) -> Run {
-    assert!(rt; steps.iter().all(|step| world.fits(step)));
+    check!(rt; steps.iter().all(|step| world.fits(step)));
     let Ok(run) = run_steps(alloc, world, steps) else {
-        panic!(rt; "stopped")
+        rt.panic("stopped")
     };
     run
 }
@@ -63,10 +64,10 @@ fn thousands_of_steps_run_to_their_end(rt: HostRuntime) {
     let alloc = rt.alloc();
     let steps = writes(&rt, alloc);
     let run = run(&rt, alloc, new_world(&rt, alloc), &steps);
-    assert!(rt; run.answers.len() == steps.len());
-    assert!(rt; records_from(&rt, alloc, &run.world, 0).len() == usize::from(WRITES));
-    assert!(rt; matches!(run.answers.last(), Some(Answer::Released(0))));
+    check!(rt; run.answers.len() == steps.len());
+    check!(rt; records_from(&rt, alloc, &run.world, 0).len() == usize::from(WRITES));
+    check!(rt; matches!(run.answers.last(), Some(Answer::Released(0))));
     for drive in 0..4u8 {
-        assert!(rt; !is_lost(&run.world, drive));
+        check!(rt; !is_lost(&run.world, drive));
     }
 }

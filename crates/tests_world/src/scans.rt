@@ -1,4 +1,5 @@
 // The map that the headers hold is the running map, with a drive lost too.
+use crate::asserts::check;
 use crate::script::{answers, grouped, lose, push_move, push_write, record_of};
 use header_scan::{ScanFault, scan, scan_world};
 use map_join::BlockMap;
@@ -12,14 +13,14 @@ fn moved(rt: &impl Abort, alloc: Global) -> World {
     let mut script = Vec::new(alloc);
     push_write(rt, alloc, &mut script, 0, 3, 0x11);
     push_move(rt, &mut script, 3, 128, 0x11);
-    assert!(rt; answers(rt, alloc, &mut world, &script));
+    check!(rt; answers(rt, alloc, &mut world, &script));
     world
 }
 
 // The map that a scan of the world's headers returns.
 fn scanned(rt: &impl Abort, alloc: Global, world: &mut World) -> BlockMap {
     let Ok(map) = scan(alloc, world) else {
-        panic!(rt; "no map")
+        rt.panic("no map")
     };
     map
 }
@@ -27,7 +28,7 @@ fn scanned(rt: &impl Abort, alloc: Global, world: &mut World) -> BlockMap {
 /// The map that a scan of the world returns.
 pub(crate) fn world_scanned(rt: &impl Abort, alloc: Global, world: &mut World) -> BlockMap {
     let Ok(map) = scan_world(alloc, world) else {
-        panic!(rt; "no map")
+        rt.panic("no map")
     };
     map
 }
@@ -35,7 +36,7 @@ pub(crate) fn world_scanned(rt: &impl Abort, alloc: Global, world: &mut World) -
 /// The running map.
 pub(crate) fn running(rt: &impl Abort, alloc: Global, world: &World) -> BlockMap {
     let Ok(map) = world.array().map(alloc) else {
-        panic!(rt; "no map")
+        rt.panic("no map")
     };
     map
 }
@@ -55,10 +56,10 @@ fn a_scan_of_a_world_finds_its_map_until_a_slot_is_gone(rt: HostRuntime) {
     let alloc = rt.alloc();
     let mut world = moved(&rt, alloc);
     let before = scanned(&rt, alloc, &mut world);
-    assert!(rt; is_newest_and(&before, &running(&rt, alloc, &world)));
+    check!(rt; is_newest_and(&before, &running(&rt, alloc, &world)));
     lose(&mut world, 1);
     let after = world_scanned(&rt, alloc, &mut world);
-    assert!(rt; is_newest_and(&after, &before));
+    check!(rt; is_newest_and(&after, &before));
     lose(&mut world, 0);
-    assert!(rt; is_gone(alloc, &mut world));
+    check!(rt; is_gone(alloc, &mut world));
 }

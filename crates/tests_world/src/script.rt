@@ -1,4 +1,5 @@
 // Steps of a world, each with what it answers.
+use crate::asserts::check;
 use map_join::Record;
 use std::alloc::Global;
 use std::process::Abort;
@@ -53,10 +54,10 @@ pub(crate) type Script = Vec<(Step, Reported)>;
 /// Four drives, with no group.
 pub(crate) fn new_world(rt: &impl Abort, alloc: Global) -> World {
     let Ok(shape) = Shape::new(8, 2, 8, 16) else {
-        panic!(rt; "no shape")
+        rt.panic("no shape")
     };
     let Ok(world) = World::new(alloc, shape, 4) else {
-        panic!(rt; "no world")
+        rt.panic("no world")
     };
     world
 }
@@ -92,7 +93,7 @@ pub(crate) fn members_on([first, second, third]: [u8; 3], extent: u16) -> [Membe
 /// A list of an extent of this number on each of three drives.
 pub(crate) fn list_on(rt: &impl Abort, alloc: Global, drives: [u8; 3], extent: u16) -> Vec<Member> {
     let Ok(members) = members_on(drives, extent).to_vec(alloc) else {
-        panic!(rt; "no memory")
+        rt.panic("no memory")
     };
     members
 }
@@ -111,7 +112,7 @@ pub(crate) fn bytes_of(byte: u8) -> [u8; 8] {
 /// A payload that this byte names.
 pub(crate) fn payload_of(rt: &impl Abort, alloc: Global, byte: u8) -> Vec<u8> {
     let Ok(payload) = bytes_of(byte).to_vec(alloc) else {
-        panic!(rt; "no memory")
+        rt.panic("no memory")
     };
     payload
 }
@@ -126,7 +127,7 @@ fn make(
     extent: u16,
 ) {
     let members = members_on(drives, extent);
-    assert!(rt; world.make(alloc, class, &members).is_ok());
+    check!(rt; world.make(alloc, class, &members).is_ok());
 }
 
 /// Slots 0 to 5 are mirrored on drives 0 to 2, slots 128 to 135 have parity on drives 1 to 3.
@@ -139,7 +140,7 @@ pub(crate) fn grouped(rt: &impl Abort, alloc: Global) -> World {
 
 /// Makes a drive fail at its `call`-th read or write from now (1 = the next), and at all later ones.
 pub(crate) fn fuse(rt: &impl Abort, world: &mut World, drive: u8, call: u64) {
-    assert!(rt; drive < world.array().drive_count() && call > 0);
+    check!(rt; drive < world.array().drive_count() && call > 0);
     world.fuse(drive, call);
 }
 
@@ -160,14 +161,14 @@ pub(crate) fn records_from(
     first: usize,
 ) -> Vec<Record> {
     let Ok(records) = world.array().records_from(alloc, first) else {
-        panic!(rt; "no memory")
+        rt.panic("no memory")
     };
     records
 }
 
 /// A step, with what it answers.
 pub(crate) fn push(rt: &impl Abort, script: &mut Script, step: Step, expected: Reported) {
-    assert!(rt; script.push((step, expected)).is_ok());
+    check!(rt; script.push((step, expected)).is_ok());
 }
 
 /// A slot is claimed and filled with a payload of one byte throughout.
@@ -260,9 +261,9 @@ pub(crate) fn push_move(rt: &impl Abort, script: &mut Script, block: u32, slot: 
 
 /// What a step answers that fits the world.
 pub(crate) fn answer(rt: &impl Abort, alloc: Global, world: &mut World, step: &Step) -> Answer {
-    assert!(rt; world.fits(step));
+    check!(rt; world.fits(step));
     let Ok(answer) = world.step(alloc, step) else {
-        panic!(rt; "no memory")
+        rt.panic("no memory")
     };
     answer
 }

@@ -1,12 +1,13 @@
 // Sizes and members that are refused.
+use crate::asserts::check;
 use crate::script::new_world;
 use step_core::{Answer, Class, Member, Refusal, Shape, ShapeRefusal, World};
 
 #[test]
 fn sizes_are_refused_by_the_first_that_is_out(rt: HostRuntime) {
-    assert!(rt; matches!(Shape::new(0, 2, 8, 16), Err(ShapeRefusal::Range(1))));
-    assert!(rt; matches!(Shape::new(8, 2, 12, 16), Err(ShapeRefusal::Range(3))));
-    assert!(rt; Shape::new(8, 2, 8, 16).is_ok());
+    check!(rt; matches!(Shape::new(0, 2, 8, 16), Err(ShapeRefusal::Range(1))));
+    check!(rt; matches!(Shape::new(8, 2, 12, 16), Err(ShapeRefusal::Range(3))));
+    check!(rt; Shape::new(8, 2, 8, 16).is_ok());
 }
 
 fn member_at((drive, extent): (u8, u16)) -> Member {
@@ -34,7 +35,7 @@ fn groups_are_refused_in_the_order_of_the_checks(rt: HostRuntime) {
         ([(0, 8), (1, 1), (2, 1)], 18),
     ];
     for (places, number) in cases {
-        assert!(rt; made(&mut world, &rt, places) == number);
+        check!(rt; made(&mut world, &rt, places) == number);
     }
-    assert!(rt; Refusal::Memory.number() == 1);
+    check!(rt; Refusal::Memory.number() == 1);
 }

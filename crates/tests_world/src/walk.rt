@@ -2,6 +2,7 @@
 // step three maps are compared, and every block is read.
 ghost use Rattle.std.specs.Prelude.{◌<◌};
 
+use crate::asserts::check;
 use crate::scans::{running, world_scanned};
 use crate::script::{answer, bytes_of, grouped, is_lost, list_on, payload_of, records_from};
 use map_join::{BlockMap, Record};
@@ -127,8 +128,8 @@ impl Walk {
     }
 
     fn take_record(&mut self, rt: &impl Abort, record: &Record) {
-        assert!(rt; record.version > 0);
-        assert!(rt; self.emitted.take(self.alloc, *record).is_ok());
+        check!(rt; record.version > 0);
+        check!(rt; self.emitted.take(self.alloc, *record).is_ok());
         self.note_record(record);
     }
 
@@ -173,8 +174,8 @@ impl Walk {
     fn take(&mut self, rt: &impl Abort, step: &Step) -> Answer {
         let answer = answer(rt, self.alloc, &mut self.world, step);
         self.follow_log(rt);
-        assert!(rt; self.maps_agree(rt));
-        assert!(rt; self.reads_all(rt));
+        check!(rt; self.maps_agree(rt));
+        check!(rt; self.reads_all(rt));
         self.steps = self.steps.wrapping_add(1);
         answer
     }
@@ -289,7 +290,7 @@ impl Walk {
     // A drive is lost where none is missing and one may be added.
     fn lose(&mut self, rt: &impl Abort) {
         let count = drive_count(&self.world);
-        assert!(rt; count > 0);
+        check!(rt; count > 0);
         if self.lost == None && count < 16 {
             let drive = self.draw(u32::from(count)) as u8;
             self.lost = Some(drive);
@@ -299,7 +300,7 @@ impl Walk {
 
     fn add_drive(&mut self, rt: &impl Abort) -> u8 {
         let Answer::Added(drive) = self.take(rt, &Step::AddDrive) else {
-            panic!(rt; "no drive was added")
+            rt.panic("no drive was added")
         };
         drive
     }
@@ -330,7 +331,7 @@ impl Walk {
             extent: group,
         };
         let step = Step::MoveExtent { group, member, to };
-        assert!(rt; matches!(self.take(rt, &step), Answer::Shifted));
+        check!(rt; matches!(self.take(rt, &step), Answer::Shifted));
     }
 
     fn is_on(&self, group: u16, member: u8, drive: u8) -> bool {
@@ -343,7 +344,7 @@ impl Walk {
 
     fn move_extent(&mut self, rt: &impl Abort) {
         let count = drive_count(&self.world);
-        assert!(rt; count > 0);
+        check!(rt; count > 0);
         let to = Member {
             drive: self.draw(u32::from(count)) as u8,
             extent: self.draw(8) as u16,
@@ -397,7 +398,7 @@ fn after_each_step_of_a_long_walk_three_maps_are_one(rt: HostRuntime) {
     for _turn in 0..TURNS {
         walk.turn(&rt);
     }
-    assert!(rt; walk.steps > TURNS);
-    assert!(rt; walk.unmade > 5);
-    assert!(rt; drive_count(&walk.world) > 8);
+    check!(rt; walk.steps > TURNS);
+    check!(rt; walk.unmade > 5);
+    check!(rt; drive_count(&walk.world) > 8);
 }
