@@ -6,7 +6,7 @@ use crate::create::is_there;
 use crate::disk_vault::DiskVault;
 use crate::folder::{Folder, Name};
 use crate::opened::{
-    Disk, OpenFiles, Use, groups_in, header_of, layout_of, open_array, open_disk_files, open_file,
+    OpenFiles, Use, groups_in, header_of, layout_of, open_array, open_disk_files, open_file,
     open_vault, trouble_of,
 };
 use crate::places::places_with;
@@ -63,17 +63,11 @@ fn settle_files<N: Chronicle, V: Vault + Drop>(
     files: OpenFiles<V>,
     spare: Option<u8>,
     opened: Opened<Saved>,
-) -> Result<(File, Table, u8), Trouble>
+) -> Result<u8, Trouble>
     requires { opened ≡ N.chronicle }
 {
-    let Disk {
-        table,
-        mut store,
-        file,
-        ..
-    } = open_array::<N, V>(rt, folder, files, 0, opened)?;
-    let drives = settle_opened(&mut store, spare)?;
-    Ok((file, table, drives))
+    let mut disk = open_array::<N, V>(rt, folder, files, 0, opened)?;
+    settle_opened(&mut disk.store, spare)
 }
 
 /// Settles a disk of which no drive is lost, but for one that may be. Says how many drives its array has. Keeps the disk locked.
@@ -85,8 +79,10 @@ pub(crate) fn settle_whole<N: Chronicle>(
 ) -> Result<(File, Table, u8), Trouble>
     requires { opened ≡ N.chronicle }
 {
-    let files = open_disk_files(rt, folder, Use::Serves)?;
-    settle_files::<N, DiskVault>(rt, folder, files, spare, opened)
+    let (file, files) = open_disk_files(rt, folder, Use::Serves)?;
+    let table = files.table;
+    let drives = settle_files::<N, DiskVault>(rt, folder, files, spare, opened)?;
+    Ok((file, table, drives))
 }
 
 /// Whether what is at a drive's place is a file of it, whole, as an addition that was stopped may have left it.
@@ -191,14 +187,8 @@ fn add_opened<V: Vault + Drop>(
 }
 
 // Gives the array a drive that has a file.
-fn add_made(
-    rt: &HostRuntime,
-    folder: Folder<'_>,
-    file: File,
-    table: Table,
-    number: u8,
-) -> Result<(), Trouble> {
-    let files = open_vault(rt, folder, Use::Serves, file, table)?;
+fn add_made(rt: &HostRuntime, folder: Folder<'_>, table: Table, number: u8) -> Result<(), Trouble> {
+    let files = open_vault(rt, folder, Use::Serves, table)?;
     add_opened(rt, files, &table, number)
 }
 
@@ -219,7 +209,8 @@ fn print_added(rt: &HostRuntime, number: u8) -> io::Result<()> {
 /// on all of them; in the first case the same command goes on.
 pub(crate) fn add(rt: &HostRuntime, folder: Folder<'_>, path: Option<&str>) -> Result<u8, Trouble> {
     let opened = Opened::new(rt.alloc())?;
-    let (file, table, number) = settle_whole::<Brand>(rt, folder, None, opened)?;
+    // The folder is locked as long as it is open.
+    let (_lock, table, number) = settle_whole::<Brand>(rt, folder, None, opened)?;
     if usize::from(number) >= DRIVES {
         return Err(Trouble::Full);
     }
@@ -232,7 +223,7 @@ pub(crate) fn add(rt: &HostRuntime, folder: Folder<'_>, path: Option<&str>) -> R
     };
     let table = table.with_drives(number + 1);
     say(rt, folder, number);
-    let added = add_prepared(rt, grown, file, table, number, path.is_some());
+    let added = add_prepared(rt, grown, table, number, path.is_some());
     progress::end(rt, folder);
     added?;
     match print_added(rt, number) {
@@ -245,7 +236,6 @@ pub(crate) fn add(rt: &HostRuntime, folder: Folder<'_>, path: Option<&str>) -> R
 fn add_prepared(
     rt: &HostRuntime,
     folder: Folder<'_>,
-    file: File,
     table: Table,
     number: u8,
     is_given: bool,
@@ -254,5 +244,5 @@ fn add_prepared(
     // Before the vault has the drive. Until then the array has the drives of before.
     write_places(rt, folder)?;
     write_table(rt, folder, &table)?;
-    add_made(rt, folder, file, table, number)
+    add_made(rt, folder, table, number)
 }

@@ -57,7 +57,7 @@ fn draw_opened<N: Chronicle>(
 ) -> Result<u8, Trouble>
     requires { opened ≡ N.chronicle }
 {
-    let files = open_disk_files(rt, folder, Use::Looks)?;
+    let (_lock, files) = open_disk_files(rt, folder, Use::Looks)?;
     draw_files::<N, DiskVault>(rt, folder, files, opened)
 }
 

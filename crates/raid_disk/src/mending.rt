@@ -87,7 +87,7 @@ fn mend_opened<V: Vault + Drop>(
 
 /// Mends the units of a disk of which no drive is lost. Returns how many.
 pub(crate) fn mend_disk(rt: &HostRuntime, folder: Folder<'_>) -> Result<u32, Trouble> {
-    let files = open_disk_files(rt, folder, Use::Serves)?;
+    let (_lock, files) = open_disk_files(rt, folder, Use::Serves)?;
     mend_opened(rt, folder, files)
 }
 
@@ -148,6 +148,6 @@ fn accept_opened<V: Vault + Drop>(alloc: Global, files: OpenFiles<V>) -> Result<
 
 /// Takes units that aren't as their digests say, and can't be computed, as they are. Returns how many.
 pub(crate) fn accept_disk(rt: &HostRuntime, folder: Folder<'_>) -> Result<u32, Trouble> {
-    let files = open_disk_files(rt, folder, Use::Serves)?;
+    let (_lock, files) = open_disk_files(rt, folder, Use::Serves)?;
     accept_opened(rt.alloc(), files)
 }

@@ -45,8 +45,6 @@ pub(crate) struct Disk<N: Chronicle, V: Vault + Drop> {
     pub(crate) drives: Drives,
     /// What was found of the state's files, and of the journal's.
     pub(crate) pairs: Pairs,
-    /// The folder, which is locked as long as it is open.
-    pub(crate) file: File,
 }
 
 /// Where units lie in the files of a disk of so many drives.
@@ -263,23 +261,20 @@ pub(crate) struct OpenFiles<V: Vault + Drop> {
     /// What was found of the drives' files.
     pub(crate) drives: Drives,
     pub(crate) pairs: Pairs,
-    /// The folder, which is locked as long as it is open.
-    pub(crate) file: File,
 }
 
-// Locks a disk, and reads its table.
+// Locks a disk, and reads its table. The folder is locked as long as the file is open.
 fn open_table(rt: &HostRuntime, folder: Folder<'_>, usage: Use) -> Result<(File, Table), Trouble> {
     let file = lock_folder(rt, folder, usage)?;
     let table = read_table(rt, folder)?;
     Ok((file, table))
 }
 
-/// Opens the other files of a disk. A drive may have none.
+/// Opens the other files of a disk, whose folder is locked. A drive may have none.
 pub(crate) fn open_vault(
     rt: &HostRuntime,
     folder: Folder<'_>,
     usage: Use,
-    file: File,
     table: Table,
 ) -> Result<OpenFiles<DiskVault>, Trouble> {
     let layout = layout_of(&table.plan, table.drives);
@@ -294,7 +289,6 @@ pub(crate) fn open_vault(
         vault,
         drives,
         pairs,
-        file,
     })
 }
 
@@ -384,18 +378,18 @@ pub(crate) fn open_array<N: Chronicle, V: Vault + Drop>(
             store,
             drives: files.drives,
             pairs: files.pairs,
-            file: files.file,
         }),
         Err((fault, vault)) => Err(unopened(rt, folder, fault, vault, &plan, count, &files.drives)),
     }
 }
 
-/// Opens the files of a disk.
+/// Opens the files of a disk. The folder is locked as long as the file is open.
 pub(crate) fn open_disk_files(
     rt: &HostRuntime,
     folder: Folder<'_>,
     usage: Use,
-) -> Result<OpenFiles<DiskVault>, Trouble> {
+) -> Result<(File, OpenFiles<DiskVault>), Trouble> {
     let (file, table) = open_table(rt, folder, usage)?;
-    open_vault(rt, folder, usage, file, table)
+    let files = open_vault(rt, folder, usage, table)?;
+    Ok((file, files))
 }

@@ -2,7 +2,7 @@
 use crate::add::{is_made, settle_whole};
 use crate::any_vault::remove_from;
 use crate::folder::{Folder, Name};
-use crate::opened::{OpenFiles, Use, groups_in, open_vault, trouble_of};
+use crate::opened::{Use, groups_in, open_vault, trouble_of};
 use crate::progress;
 use crate::table::Table;
 use crate::texts::{write_places, write_table};
@@ -10,7 +10,7 @@ use crate::trouble::{Trouble, unwritten};
 use drive_removal::RemovalFault;
 use history::Opened;
 use std::alloc::Global;
-use std::fs::{self, File};
+use std::fs;
 use std::io;
 use std::marker::Brand;
 use step_core::Refusal;
@@ -46,21 +46,15 @@ fn empty_opened<V: Vault>(
     }
 }
 
-// Takes the last drive out of the array. Keeps the disk locked.
+// Takes the last drive out of the array.
 fn empty_last(
     rt: &HostRuntime,
     folder: Folder<'_>,
-    file: File,
     table: Table,
     number: u8,
-) -> Result<File, Trouble> {
-    let OpenFiles {
-        mut vault,
-        file,
-        ..
-    } = open_vault(rt, folder, Use::Serves, file, table)?;
-    empty_opened(rt.alloc(), &mut vault, &table, number)?;
-    Ok(file)
+) -> Result<(), Trouble> {
+    let mut files = open_vault(rt, folder, Use::Serves, table)?;
+    empty_opened(rt.alloc(), &mut files.vault, &table, number)
 }
 
 // The drives' own places, without the last drive's.
@@ -115,12 +109,10 @@ fn print_removed(rt: &HostRuntime, number: u8) -> io::Result<()> {
 fn remove_last(
     rt: &HostRuntime,
     folder: Folder<'_>,
-    file: File,
     table: Table,
     number: u8,
 ) -> Result<(), Trouble> {
-    // The folder is locked as long as it is open.
-    let _lock = empty_last(rt, folder, file, table, number)?;
+    empty_last(rt, folder, table, number)?;
     let places = places_without(rt, folder, number)?;
     let less = Folder {
         name: folder.name,
@@ -140,7 +132,8 @@ fn remove_last(
 /// before or on those that stay; the same command goes on.
 pub(crate) fn remove(rt: &HostRuntime, folder: Folder<'_>, number: u8) -> Result<u8, Trouble> {
     let opened = Opened::new(rt.alloc())?;
-    let (file, table, _count) = settle_whole::<Brand>(rt, folder, Some(number), opened)?;
+    // The folder is locked as long as it is open.
+    let (_lock, table, _count) = settle_whole::<Brand>(rt, folder, Some(number), opened)?;
     let last = table.drives.saturating_sub(1);
     if number > last {
         return Err(Trouble::NoDrive(number));
@@ -149,7 +142,7 @@ pub(crate) fn remove(rt: &HostRuntime, folder: Folder<'_>, number: u8) -> Result
         return Err(Trouble::NotLast(number, last));
     }
     say(rt, folder, number);
-    let removed = remove_last(rt, folder, file, table, number);
+    let removed = remove_last(rt, folder, table, number);
     progress::end(rt, folder);
     removed?;
     match print_removed(rt, number) {

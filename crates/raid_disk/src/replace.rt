@@ -8,7 +8,7 @@ use crate::disk_vault::DiskVault;
 use crate::drives::Drives;
 use crate::folder::{Folder, Name};
 use crate::opened::{
-    Disk, OpenFiles, Use, file_bytes, groups_in, header_of, layout_of, open_array, open_disk_files,
+    OpenFiles, Use, file_bytes, groups_in, header_of, layout_of, open_array, open_disk_files,
     open_vault,
 };
 use crate::places::places_with;
@@ -122,18 +122,11 @@ fn mark_files<N: Chronicle, V: Vault + Drop>(
     files: OpenFiles<V>,
     number: u8,
     opened: Opened<Saved>,
-) -> Result<(File, Table, Sight), Trouble>
+) -> Result<Sight, Trouble>
     requires { opened ≡ N.chronicle }
 {
-    let Disk {
-        table,
-        mut store,
-        drives,
-        file,
-        ..
-    } = open_array::<N, V>(rt, folder, files, 0, opened)?;
-    let sight = mark_opened(&mut store, &drives, number)?;
-    Ok((file, table, sight))
+    let mut disk = open_array::<N, V>(rt, folder, files, 0, opened)?;
+    mark_opened(&mut disk.store, &disk.drives, number)
 }
 
 // Settles a disk of which this drive alone is lost: the table marks it then. Says what is at its place. Keeps the disk locked.
@@ -145,8 +138,10 @@ fn mark_lost<N: Chronicle>(
 ) -> Result<(File, Table, Sight), Trouble>
     requires { opened ≡ N.chronicle }
 {
-    let files = open_disk_files(rt, folder, Use::Serves)?;
-    mark_files::<N, DiskVault>(rt, folder, files, number, opened)
+    let (file, files) = open_disk_files(rt, folder, Use::Serves)?;
+    let table = files.table;
+    let sight = mark_files::<N, DiskVault>(rt, folder, files, number, opened)?;
+    Ok((file, table, sight))
 }
 
 /// Makes a file of zeros with a drive's header, which isn't the drive's yet.
@@ -321,14 +316,8 @@ fn rebuild_opened<V: Vault + Drop>(
 }
 
 // Replaces a drive that is marked and has a file.
-fn rebuild(
-    rt: &HostRuntime,
-    folder: Folder<'_>,
-    file: File,
-    table: Table,
-    number: u8,
-) -> Result<(), Trouble> {
-    let files = open_vault(rt, folder, Use::Serves, file, table)?;
+fn rebuild(rt: &HostRuntime, folder: Folder<'_>, table: Table, number: u8) -> Result<(), Trouble> {
+    let files = open_vault(rt, folder, Use::Serves, table)?;
     rebuild_opened(rt, folder, files, &table, number)
 }
 
@@ -345,7 +334,8 @@ pub(crate) fn replace(
     path: Option<&str>,
 ) -> Result<u8, Trouble> {
     let opened = Opened::new(rt.alloc())?;
-    let (file, table, sight) = mark_lost::<Brand>(rt, folder, number, opened)?;
+    // The folder is locked as long as it is open.
+    let (_lock, table, sight) = mark_lost::<Brand>(rt, folder, number, opened)?;
     let places = places_with(rt, folder, number, path)?;
     let placed = Folder {
         name: folder.name,
@@ -355,7 +345,7 @@ pub(crate) fn replace(
     };
     let sight = move_place(rt, folder, placed, number, sight)?;
     put_fresh(rt, placed, &table, number, sight)?;
-    let rebuilt = rebuild(rt, placed, file, table, number);
+    let rebuilt = rebuild(rt, placed, table, number);
     progress::end(rt, folder);
     rebuilt?;
     match print_replaced(rt, number) {

@@ -127,7 +127,7 @@ fn test_opened<V: Vault + Drop>(rt: &HostRuntime, files: OpenFiles<V>) -> Result
 
 // Tests a disk.
 fn test_once(rt: &HostRuntime, folder: Folder<'_>) -> Result<Report, Trouble> {
-    let files = open_disk_files(rt, folder, Use::Looks)?;
+    let (_lock, files) = open_disk_files(rt, folder, Use::Looks)?;
     test_opened(rt, files)
 }
 

@@ -239,11 +239,8 @@ fn serve_files<N: Chronicle, V: Vault + Drop>(
         table,
         mut vault,
         drives,
-        file,
         ..
     } = files;
-    // The folder is locked as long as it is open.
-    let _lock = file;
     let plan = table.plan;
     let spelled = groups_in(rt.alloc(), &mut vault, &table)?;
     let count = spelled.drives;
@@ -280,7 +277,8 @@ fn serve_opened<N: Chronicle>(
 ) -> Result<u8, Trouble>
     requires { opened ≡ N.chronicle }
 {
-    let files = open_disk_files(rt, folder, Use::Serves)?;
+    // The folder is locked as long as it is open.
+    let (_lock, files) = open_disk_files(rt, folder, Use::Serves)?;
     // Nothing is left to do where standard error can't be written.
     let _ = name_pair(rt, folder, &files.pairs, Pair::State);
     let _ = name_pair(rt, folder, &files.pairs, Pair::Journal);

@@ -240,7 +240,7 @@ fn show_opened<N: Chronicle>(
 ) -> Result<u8, Trouble>
     requires { opened ≡ N.chronicle }
 {
-    let files = open_disk_files(rt, folder, Use::Looks)?;
+    let (_lock, files) = open_disk_files(rt, folder, Use::Looks)?;
     show_files::<N, DiskVault>(rt, folder, files, json, opened)
 }
 
