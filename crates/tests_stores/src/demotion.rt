@@ -1,6 +1,8 @@
 // Which block is demoted next.
 use crate::asserts::check;
 use crate::set_up::{four_groups, places, took};
+use extent_groups::GroupTable;
+use map_join::BlockMap;
 use migrator::{MarkedAges, Recency, mirror_slots, needs_demotion};
 use std::alloc::Global;
 use std::process::Abort;
@@ -25,23 +27,28 @@ fn mark(rt: &impl Abort, ages: &mut MarkedAges, block: u32, marked: bool) {
     ages.mark(block, marked);
 }
 
+/// Which block is demoted next.
+fn next_of(recency: &Recency, groups: &GroupTable, map: &BlockMap) -> Option<u32> {
+    recency.next_to_demote(groups, map)
+}
+
 #[test]
 fn the_mirrored_block_written_longest_ago_goes_down(rt: HostRuntime) {
     let groups = four_groups(&rt, rt.alloc());
     let mut map = places(&rt, rt.alloc());
     let mut recency = sixteen(&rt, rt.alloc());
     check!(rt; recency.len() == 16);
-    check!(rt; recency.next_to_demote(&groups, &map) == Some(4));
+    check!(rt; next_of(&recency, &groups, &map) == Some(4));
     for block in [0u32, 1, 2, 3, 4, 5] {
         wrote(&rt, &mut recency, block);
     }
-    check!(rt; recency.next_to_demote(&groups, &map) == Some(4));
+    check!(rt; next_of(&recency, &groups, &map) == Some(4));
     wrote(&rt, &mut recency, 4);
-    check!(rt; recency.next_to_demote(&groups, &map) == Some(5));
+    check!(rt; next_of(&recency, &groups, &map) == Some(5));
     took(&rt, &mut map, rt.alloc(), 5, 2, 1, 386);
-    check!(rt; recency.next_to_demote(&groups, &map) == Some(4));
+    check!(rt; next_of(&recency, &groups, &map) == Some(4));
     took(&rt, &mut map, rt.alloc(), 4, 2, 1, 387);
-    check!(rt; recency.next_to_demote(&groups, &map) == None);
+    check!(rt; next_of(&recency, &groups, &map) == None);
 }
 
 #[test]
@@ -52,7 +59,7 @@ fn many_writes_keep_the_order(rt: HostRuntime) {
     for note in 0..100u32 {
         let block = 4 + note % 2;
         wrote(&rt, &mut recency, block);
-        check!(rt; recency.next_to_demote(&groups, &map) == Some(9 - block));
+        check!(rt; next_of(&recency, &groups, &map) == Some(9 - block));
     }
 }
 

@@ -4,6 +4,8 @@
 #[cfg(test)]
 mod asserts;
 #[cfg(test)]
+mod calls;
+#[cfg(test)]
 mod records;
 #[cfg(test)]
 mod rot;

@@ -1,5 +1,6 @@
 //! Records of the journal of which bytes are missing, and what lies after them.
 use crate::asserts::check;
+use crate::calls::{append, count, opened, read};
 use crate::story::{empty_files, fill, layout};
 use extent_groups::Place;
 use file_vault::{FileVault, Files, HEADER, JOURNAL, MemFiles};
@@ -44,15 +45,11 @@ fn files_with(alloc: Global, journal: &[u8]) -> Result<MemFiles, Fail> {
 
 // How many batches a journal of these bytes has, and that each is read.
 fn batches_in(rt: &impl Abort, alloc: Global, journal: &[u8]) -> Result<usize, Fail> {
-    let Ok(mut vault) = FileVault::open(alloc, files_with(alloc, journal)?, layout()) else {
-        rt.panic("not opened");
-    };
-    let Ok(count) = vault.batches() else {
-        rt.panic("no count");
-    };
+    let mut vault = opened(rt, alloc, files_with(alloc, journal)?);
+    let count = count(rt, &mut vault);
     let mut batch = Batch::new(alloc);
     for index in 0..count {
-        check!(rt; vault.read_batch(index, &mut batch).is_ok());
+        read(rt, &mut vault, index, &mut batch);
     }
     Ok(count)
 }
@@ -62,14 +59,12 @@ fn two_records(rt: &impl Abort, alloc: Global) -> Result<(Vec<u8>, usize), Fail>
     let mut vault = made(rt, alloc)?;
     let mut batch = Batch::new(alloc);
     fill(&mut batch, 0)?;
-    check!(rt; vault.append(&batch).is_ok());
+    append(rt, &mut vault, &batch);
     let mut files = vault.into_files().left(Stop::Killed, 0)?;
     let start = bytes_of(rt, alloc, &mut files, JOURNAL)?.len();
-    let Ok(mut vault) = FileVault::open(alloc, files, layout()) else {
-        rt.panic("not opened");
-    };
+    let mut vault = opened(rt, alloc, files);
     fill(&mut batch, 1)?;
-    check!(rt; vault.append(&batch).is_ok());
+    append(rt, &mut vault, &batch);
     let journal = bytes_of(rt, alloc, &mut vault.into_files(), JOURNAL)?;
     Ok((journal, start))
 }
@@ -115,23 +110,21 @@ fn batches_of_zeros_are_found(rt: HostRuntime) -> Result<(), Fail> {
     let mut vault = made(&rt, alloc)?;
     let mut batch = Batch::new(alloc);
     // Without writes its bytes are zeros alone.
-    check!(rt; vault.append(&batch).is_ok());
+    append(&rt, &mut vault, &batch);
     let place = Place {
         drive: 0,
         address: 0,
     };
     batch.push(place, &[0; 5])?;
-    check!(rt; vault.append(&batch).is_ok());
+    append(&rt, &mut vault, &batch);
     check!(rt; vault.sync_journal().is_ok());
     let mut files = vault.into_files().left(Stop::PowerLost, 1)?;
     let journal = bytes_of(&rt, alloc, &mut files, JOURNAL)?;
-    let Ok(mut vault) = FileVault::open(alloc, files, layout()) else {
-        rt.panic("not opened");
-    };
-    check!(rt; vault.batches() == Ok(2));
-    check!(rt; vault.read_batch(0, &mut batch).is_ok());
+    let mut vault = opened(&rt, alloc, files);
+    check!(rt; count(&rt, &mut vault) == 2);
+    read(&rt, &mut vault, 0, &mut batch);
     check!(rt; batch.is_empty());
-    check!(rt; vault.read_batch(1, &mut batch).is_ok());
+    read(&rt, &mut vault, 1, &mut batch);
     check!(rt; batch.len() == 1);
     check!(rt; batch.place(0) == place);
     check!(rt; batch.unit(0) == &[0; 5][..]);
@@ -148,14 +141,12 @@ fn nothing_is_left_of_an_older_longer_record(rt: HostRuntime) -> Result<(), Fail
     // A short record over a long one, of which the rest still lies there.
     let mut mixed = journal.to_vec(alloc)?;
     mixed.extend_from_slice(&[7; 300])?;
-    let Ok(mut vault) = FileVault::open(alloc, files_with(alloc, &mixed)?, layout()) else {
-        rt.panic("not opened");
-    };
-    check!(rt; vault.batches() == Ok(2));
+    let mut vault = opened(&rt, alloc, files_with(alloc, &mixed)?);
+    check!(rt; count(&rt, &mut vault) == 2);
     check!(rt; vault.clear().is_ok());
     let mut batch = Batch::new(alloc);
     fill(&mut batch, 0)?;
-    check!(rt; vault.append(&batch).is_ok());
+    append(&rt, &mut vault, &batch);
     let files = vault.into_files();
     for choice in 0..40 {
         for stop in [Stop::Killed, Stop::PowerLost] {
@@ -180,11 +171,9 @@ fn bytes_after_the_last_record_are_cut_off(rt: HostRuntime) -> Result<(), Fail> 
     let spot = start.saturating_add(3);
     check!(rt; spot < torn.len());
     torn[spot] = 0;
-    let Ok(mut vault) = FileVault::open(alloc, files_with(alloc, &torn)?, layout()) else {
-        rt.panic("not opened");
-    };
-    check!(rt; vault.batches() == Ok(1));
-    check!(rt; vault.append(&Batch::new(alloc)).is_ok());
+    let mut vault = opened(&rt, alloc, files_with(alloc, &torn)?);
+    check!(rt; count(&rt, &mut vault) == 1);
+    append(&rt, &mut vault, &Batch::new(alloc));
     let files = vault.into_files();
     for choice in 0..40 {
         let mut left = files.left(Stop::PowerLost, choice)?;

@@ -1,5 +1,6 @@
 //! Each stop leaves the units of after some first batches: all that were flushed, and after a kill all that were added.
 use crate::asserts::check;
+use crate::calls::{add_batch, count, flush_all, opened, settle_all};
 use crate::story::{
     BATCHES, Reached, empty_files, fill, layout, read_units, recover, run, units_after,
 };
@@ -7,7 +8,7 @@ use file_vault::{FileVault, MemFiles};
 use std::alloc::Global;
 use std::process::Abort;
 use std::test::Fail;
-use vault::{Batch, Stop, Vault, VaultError, add, flush, settle};
+use vault::{Batch, Stop, VaultError, add};
 
 // A new vault.
 fn made(rt: &impl Abort, alloc: Global, files: MemFiles) -> FileVault<MemFiles> {
@@ -64,7 +65,7 @@ fn a_run_that_isnt_stopped_leaves_all(rt: HostRuntime) -> Result<(), Fail> {
     check!(rt; run(alloc, &mut vault, &mut reached).is_ok());
     check!(rt; reached.flushed == BATCHES);
     let mut room = Batch::new(alloc);
-    check!(rt; settle(&mut vault, &mut room, &[false; 16]).is_ok());
+    check!(rt; settle_all(&mut vault, &mut room, &[false; 16]).is_ok());
     let Ok(units) = read_units(alloc, &mut vault) else {
         rt.panic("not read");
     };
@@ -153,21 +154,19 @@ fn a_drive_that_fails_is_named_and_left_out(rt: HostRuntime) -> Result<(), Fail>
     let alloc = rt.alloc();
     let mut files = made(&rt, alloc, empty_files(alloc, 18)?).into_files();
     files.fail_file_after(1, 1);
-    let Ok(mut vault) = FileVault::open(alloc, files, layout()) else {
-        rt.panic("not opened");
-    };
+    let mut vault = opened(&rt, alloc, files);
     let mut batch = Batch::new(alloc);
     let mut room = Batch::new(alloc);
     for number in 0..3 {
         fill(&mut batch, number)?;
-        check!(rt; add(&mut vault, &batch).is_ok());
+        add_batch(&rt, &mut vault, &batch);
     }
-    check!(rt; flush(&mut vault).is_ok());
+    flush_all(&rt, &mut vault);
     let mut lost = [false; 16];
-    check!(rt; settle(&mut vault, &mut room, &lost) == Err(VaultError::Drive(1)));
-    check!(rt; vault.batches() == Ok(3));
+    check!(rt; settle_all(&mut vault, &mut room, &lost) == Err(VaultError::Drive(1)));
+    check!(rt; count(&rt, &mut vault) == 3);
     lost[1] = true;
-    check!(rt; settle(&mut vault, &mut room, &lost) == Ok(()));
+    check!(rt; settle_all(&mut vault, &mut room, &lost) == Ok(()));
     let Some(units) = recover(alloc, vault.into_files().left(Stop::Killed, 1)?).into_units() else {
         rt.panic("not recovered");
     };
@@ -192,6 +191,6 @@ fn a_misfit_is_refused(rt: HostRuntime) -> Result<(), Fail> {
         &[1, 2, 3, 4],
     )?;
     check!(rt; add(&mut vault, &batch) == Err(VaultError::Misfit));
-    check!(rt; vault.batches() == Ok(0));
+    check!(rt; count(&rt, &mut vault) == 0);
     Ok(())
 }
