@@ -223,6 +223,63 @@ fn plan(
     planned
 }
 
+/// Whether a unit has this byte throughout.
+fn is_filled(unit: &[u8], byte: u8) -> bool {
+    unit.len() == SIZE && unit.iter().all(|one| *one == byte)
+}
+
+/// Compares a planned write, with the number that it has, with the last write that its drive took.
+fn check_write(rt: &impl Abort, taken: &Taken, number: usize, address: u32, unit: &[u8]) {
+    check!(rt; taken.tick == number as u64 && taken.at == address);
+    check!(rt; taken.unit.as_slice() == unit);
+}
+
+/// Compares the planned writes with those that the drives took, and with the expected drives and bytes.
+fn check_writes(
+    rt: &impl Abort,
+    drives: &[Recorder<'_>],
+    writes: &[(u8, u32, Vec<u8>)],
+    expected: &[(u8, u8)],
+) {
+    check!(rt; writes.len() == expected.len());
+    for (number, (drive, address, unit)) in writes.iter().enumerate() {
+        check!(rt; number < expected.len());
+        let (wanted, byte) = expected[number];
+        check!(rt; *drive == wanted && *address == 0);
+        check!(rt; is_filled(unit, byte));
+        check!(rt; (*drive as usize) < drives.len());
+        check_write(rt, &drives[*drive as usize].taken, number, *address, unit);
+    }
+}
+
+/// Compares the parity that was planned with its expected byte.
+fn check_parity(rt: &impl Abort, planned: &Option<Vec<u8>>, expected: Option<u8>) {
+    match (planned, expected) {
+        (Some(unit), Some(byte)) => check!(rt; is_filled(unit, byte)),
+        (None, None) => {}
+        _ => rt.panic("one parity alone"),
+    }
+}
+
+/// Plans a write of slot 0, and carries it out: as many writes as these.
+fn planned_and_written(
+    rt: &impl Abort,
+    alloc: Global,
+    clock: &AtomicU64,
+    groups: &GroupTable,
+    drives: &mut [Recorder<'_>],
+    count: usize,
+) -> Planned
+    requires { AreDrives (λ (r : Recorder). r.drive.units) groups.now drives.old }
+{
+    clock.store(0, SeqCst);
+    let planned = plan(rt, alloc, groups, drives, 0, 7);
+    check!(rt; clock.load(SeqCst) == 0);
+    check!(rt; write(rt, groups, drives, 0, 7));
+    check!(rt; clock.load(SeqCst) == count as u64);
+    planned
+}
+
 /// Slot 0 is planned and written, after slot 2: the drives take exactly the plan's writes, in its order, which are these
 /// bytes at the first addresses of these drives.
 fn is_taken(
@@ -236,25 +293,10 @@ fn is_taken(
     let clock = AtomicU64::new(0);
     let (groups, mut drives) = set_up(rt, alloc, &clock, class, lost)?;
     check!(rt; write(rt, &groups, &mut drives, 2, 5));
-    clock.store(0, SeqCst);
-    let planned = plan(rt, alloc, &groups, &mut drives, 0, 7);
-    check!(rt; clock.load(SeqCst) == 0);
-    check!(rt; planned.writes.len() == expected.len());
-    check!(rt; write(rt, &groups, &mut drives, 0, 7));
-    check!(rt; clock.load(SeqCst) == expected.len() as u64);
-    for (k, (drive, address, unit)) in planned.writes.iter().enumerate() {
-        check!(rt; k < expected.len());
-        check!(rt; *drive == expected[k].0 && *address == 0);
-        check!(rt; unit.len() == SIZE && unit.iter().all(|byte| *byte == expected[k].1));
-        check!(rt; (*drive as usize) < drives.len());
-        let taken = &drives[*drive as usize].taken;
-        check!(rt; taken.tick == k as u64 && taken.at == *address);
-        check!(rt; taken.unit.as_slice() == unit.as_slice());
-    }
-    check!(rt; planned.parity.is_some() == parity.is_some());
-    if let (Some(unit), Some(expected)) = (&planned.parity, parity) {
-        check!(rt; unit.len() == SIZE && unit.iter().all(|byte| *byte == expected));
-    }
+    let count = expected.len();
+    let planned = planned_and_written(rt, alloc, &clock, &groups, &mut drives, count);
+    check_writes(rt, &drives, &planned.writes, expected);
+    check_parity(rt, &planned.parity, parity);
     Ok(())
 }
 

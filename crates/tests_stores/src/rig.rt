@@ -249,8 +249,8 @@ impl Rig {
     pub(crate) fn wipe(&mut self, rt: &impl Abort, member: Member) -> bool {
         check!(rt; self.has_buffers());
         let shape = self.groups.shape();
-        check!(rt; (member.drive as usize) < self.drives.len());
-        check!(rt; (member.extent as u32) < shape.extents);
+        assert!(rt; (member.drive as usize) < self.drives.len());
+        assert!(rt; (member.extent as u32) < shape.extents);
         let drives: &mut [MemDrive] = &mut self.drives;
         wipe_extent(drives, &shape, member, &self.unit)
     }
