@@ -2,26 +2,26 @@
 ghost use Rattle.std.specs.Prelude.{None, []};
 
 use crate::any_vault::{VaultFault, open_file_vault};
-use crate::disk_files::DiskFiles;
+use crate::pair_files::PairFiles;
 use crate::trouble::Trouble;
 use extent_groups::Place;
 use extents::DRIVES;
-use file_vault::{FileVault, Layout, PairedFiles, StampedFiles};
+use file_vault::{FileVault, Layout, StampedFiles};
 use std::alloc::Global;
 use vault::{Batch, UnitRead, Vault, VaultError};
 
 /// The vault over a disk's files, as a type with a name of its own. Of a process's files no contract says what they keep, so its
-/// clauses say nothing; spelled out, its type is five deep, and each function over it would take minutes to check.
+/// clauses say nothing; spelled out, its type is eight deep, and each function over it would take minutes to check.
 #[derive(Drop)]
 pub(crate) struct DiskVault {
-    vault: FileVault<StampedFiles<PairedFiles<DiskFiles>>>,
+    vault: FileVault<StampedFiles<PairFiles>>,
 }
 
 impl DiskVault {
     /// The vault that files have.
     pub(crate) fn open(
         alloc: Global,
-        files: PairedFiles<DiskFiles>,
+        files: PairFiles,
         layout: Layout,
     ) -> Result<DiskVault, Trouble> {
         match open_file_vault(alloc, files, layout) {

@@ -13,6 +13,7 @@ mod identity;
 mod mending;
 mod notes;
 mod opened;
+mod pair_files;
 mod pairs;
 mod places;
 mod progress;

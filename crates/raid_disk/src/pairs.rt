@@ -3,13 +3,14 @@ use crate::create::write_zeros;
 use crate::disk_files::DiskFiles;
 use crate::folder::{Folder, Name};
 use crate::opened::{Use, header_of, open_file};
+use crate::pair_files::{JournalFiles, PairFiles};
 use crate::table::Table;
 use crate::trouble::{Trouble, unread};
 use extent_groups::Place;
 use extents::DRIVES;
 use file_vault::{
-    Files, Header, Held, Layout, PairedFiles, Renumbered, TABLE_SECOND, Twin, TwinFiles,
-    read_count, read_header, write_header,
+    Files, Header, Held, Layout, TABLE_SECOND, Twin, TwinFiles, read_count, read_header,
+    write_header,
 };
 use std::fs::{File, OpenOptions};
 use std::io;
@@ -358,13 +359,10 @@ fn join<F: Files + Drop>(
 }
 
 /// Takes both pairs as one file each.
-pub(crate) fn join_pairs(
-    files: DiskFiles,
-    pairs: &mut Pairs,
-) -> Result<PairedFiles<DiskFiles>, Trouble> {
+pub(crate) fn join_pairs(files: DiskFiles, pairs: &mut Pairs) -> Result<PairFiles, Trouble> {
     let files = join(files, Pair::Journal, &mut pairs.journal)?;
-    let files = join(Renumbered::new(files), Pair::State, &mut pairs.state)?;
-    Ok(Renumbered::new(files))
+    let files = join(JournalFiles::of(files), Pair::State, &mut pairs.state)?;
+    Ok(PairFiles::of(files))
 }
 
 /// Opens the files of both pairs.
@@ -375,7 +373,7 @@ pub(crate) fn open_pairs(
     layout: &Layout,
     table: &Table,
     usage: Use,
-) -> Result<(PairedFiles<DiskFiles>, Pairs), Trouble> {
+) -> Result<(PairFiles, Pairs), Trouble> {
     let mut files = files;
     let mut pairs = Pairs {
         state: find_pair(rt, folder, &mut files, layout, table, Pair::State, usage)?,

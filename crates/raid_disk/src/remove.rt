@@ -10,9 +10,8 @@ use crate::trouble::{Trouble, unwritten};
 use drive_removal::RemovalFault;
 use history::Opened;
 use std::alloc::Global;
-use std::fs;
-use std::io;
 use std::marker::Brand;
+use std::{fs, io};
 use step_core::Refusal;
 use vault::Vault;
 
