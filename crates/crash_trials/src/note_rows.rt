@@ -24,6 +24,28 @@ pub(crate) struct NoteRow {
     answer: String,
 }
 
+fn note_of(alloc: Global, slot: &str, unit: &str, parity: &str) -> Result<Note, Trouble> {
+    Ok(Note {
+        slot: short(number(slot)?)?,
+        unit: bytes_of(alloc, unit)?.unwrap_or(Vec::new(alloc)),
+        parity: bytes_of(alloc, parity)?,
+    })
+}
+
+// The row of these cells.
+fn row_of(alloc: Global, cells: &[&str], setup: &Setup) -> Result<NoteRow, Trouble> {
+    let [id, number_of_setup, lost, slot, unit, parity, answer] = cells else {
+        return Err(Trouble::Form);
+    };
+    Ok(NoteRow {
+        id: number(id)?,
+        setup: number(number_of_setup)?,
+        lost: drives_of(alloc, lost, setup.drives)?,
+        note: note_of(alloc, slot, unit, parity)?,
+        answer: found_of(alloc, answer, setup.shape.blocks)?,
+    })
+}
+
 /// What a restart that is refused must leave.
 #[derive(Drop)]
 struct Left {
@@ -42,20 +64,7 @@ impl Row for NoteRow {
 
     fn parse(alloc: Global, line: &str, setup: &Setup) -> Result<NoteRow, Trouble> {
         let cells = cells_of(alloc, line)?;
-        let [id, number_of_setup, lost, slot, unit, parity, answer] = cells.as_slice() else {
-            return Err(Trouble::Form);
-        };
-        Ok(NoteRow {
-            id: number(id)?,
-            setup: number(number_of_setup)?,
-            lost: drives_of(alloc, lost, setup.drives)?,
-            note: Note {
-                slot: short(number(slot)?)?,
-                unit: bytes_of(alloc, unit)?.unwrap_or(Vec::new(alloc)),
-                parity: bytes_of(alloc, parity)?,
-            },
-            answer: found_of(alloc, answer, setup.shape.blocks)?,
-        })
+        row_of(alloc, &cells, setup)
     }
 
     fn id(&self) -> u32 {

@@ -26,6 +26,27 @@ pub(crate) struct PlanRow {
     writes: String,
 }
 
+// The row of these cells.
+fn row_of(alloc: Global, cells: &[&str], setup: &Setup) -> Result<PlanRow, Trouble> {
+    let [id, number_of_setup, intent, answer, unit, parity, writes] = cells else {
+        return Err(Trouble::Form);
+    };
+    let id = number(id)?;
+    let number_of_setup = number(number_of_setup)?;
+    let unit = noted(alloc, unit)?;
+    let parity = noted(alloc, parity)?;
+    let writes = expected_writes(alloc, writes, unit.as_str(), parity.as_str())?;
+    Ok(PlanRow {
+        id,
+        setup: number_of_setup,
+        intent: intent_of(alloc, intent, setup)?,
+        answer: answer_of(alloc, answer)?,
+        unit,
+        parity,
+        writes,
+    })
+}
+
 impl Row for PlanRow {
     fn file() -> &'static str {
         "plans.csv"
@@ -37,20 +58,7 @@ impl Row for PlanRow {
 
     fn parse(alloc: Global, line: &str, setup: &Setup) -> Result<PlanRow, Trouble> {
         let cells = cells_of(alloc, line)?;
-        let [id, number_of_setup, intent, answer, unit, parity, writes] = cells.as_slice() else {
-            return Err(Trouble::Form);
-        };
-        let unit = noted(alloc, unit)?;
-        let parity = noted(alloc, parity)?;
-        Ok(PlanRow {
-            id: number(id)?,
-            setup: number(number_of_setup)?,
-            intent: intent_of(alloc, intent, setup)?,
-            answer: answer_of(alloc, answer)?,
-            writes: expected_writes(alloc, writes, unit.as_str(), parity.as_str())?,
-            unit,
-            parity,
-        })
+        row_of(alloc, &cells, setup)
     }
 
     fn id(&self) -> u32 {

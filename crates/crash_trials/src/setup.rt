@@ -33,19 +33,41 @@ pub(crate) fn read_setup(alloc: Global, file: &str, text: &str) -> Result<Setup,
         Err(trouble) => return Err(trouble.located(alloc, file, 1)),
     };
     let world = setup.world(alloc)?;
+    read_steps(alloc, file, text, &world, &mut setup.steps)?;
+    Ok(setup)
+}
+
+// Reads the lines after the first.
+fn read_steps(
+    alloc: Global,
+    file: &str,
+    text: &str,
+    world: &World,
+    steps: &mut Vec<Answered>,
+) -> Result<(), Trouble> {
     for (at, line) in text.lines().enumerate().skip(1) {
-        match step_in(alloc, &world, line) {
-            Ok(step) => setup.steps.push(step)?,
+        match step_in(alloc, world, line) {
+            Ok(step) => steps.push(step)?,
             Err(trouble) => return Err(trouble.located(alloc, file, at.saturating_add(1))),
         }
     }
-    Ok(setup)
+    Ok(())
 }
 
 // A setup of these sizes, without a step.
 fn sizes_of(alloc: Global, line: &str) -> Result<Setup, Trouble> {
     let (verb, numbers) = verb_of(alloc, line)?;
-    let [drives, extents, segments, payload, blocks] = numbers.as_slice() else {
+    let (drives, shape) = sizes_in(verb, &numbers)?;
+    Ok(Setup {
+        drives,
+        shape,
+        steps: Vec::new(alloc),
+    })
+}
+
+// How many drives a setup has, and its shape.
+fn sizes_in(verb: &str, numbers: &[u32]) -> Result<(u8, Shape), Trouble> {
+    let [drives, extents, segments, payload, blocks] = numbers else {
         return Err(Trouble::Form);
     };
     let drives = byte(*drives)?;
@@ -53,13 +75,15 @@ fn sizes_of(alloc: Global, line: &str) -> Result<Setup, Trouble> {
         return Err(Trouble::Form);
     }
     match Shape::new(*extents, *segments, *payload, *blocks) {
-        Ok(shape) => Ok(Setup {
-            drives,
-            shape,
-            steps: Vec::new(alloc),
-        }),
+        Ok(shape) => Ok((drives, shape)),
         Err(_) => Err(Trouble::Form),
     }
+}
+
+// Tests that an answer has the form of one.
+fn test_form(alloc: Global, answer: &str) -> Result<(), Trouble> {
+    let _form = verb_of(alloc, answer)?;
+    Ok(())
 }
 
 // The step of a line with its answer, which a world of the setup's sizes has to fit. `fits` is tested while lines are read, so
@@ -68,8 +92,8 @@ fn step_in(alloc: Global, world: &World, line: &str) -> Result<Answered, Trouble
     let Some((asked, answer)) = line.split_once(" > ") else {
         return Err(Trouble::Form);
     };
+    test_form(alloc, answer)?;
     let step = step_of(alloc, asked, world.array().shape().payload)?;
-    let _form = verb_of(alloc, answer)?;
     if !world.fits(&step) {
         return Err(Trouble::Form);
     }

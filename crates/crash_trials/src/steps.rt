@@ -69,13 +69,17 @@ fn loss(numbers: &[u32]) -> Result<Step, Trouble> {
 fn make(alloc: Global, class: Class, numbers: &[u32]) -> Result<Step, Trouble> {
     let mut members = Vec::new(alloc);
     for pair in numbers.chunks(2) {
-        match pair {
-            [drive, extent] => members.push(Member {
-                drive: byte(*drive)?,
-                extent: short(*extent)?,
-            })?,
-            _ => return Err(Trouble::Form),
-        }
+        members.push(member(pair)?)?;
     }
     Ok(Step::Make { class, members })
+}
+
+fn member(pair: &[u32]) -> Result<Member, Trouble> {
+    match pair {
+        [drive, extent] => Ok(Member {
+            drive: byte(*drive)?,
+            extent: short(*extent)?,
+        }),
+        _ => Err(Trouble::Form),
+    }
 }

@@ -22,13 +22,78 @@ pub(crate) struct StopRow {
     id: u32,
     setup: u32,
     intent: Intent,
-    between: Vec<u8>,
+    losses: Losses,
     entries: u32,
+    expected: Expected,
+}
+
+/// The drives that are lost before the writes of a step, and after them.
+#[derive(Drop)]
+struct Losses {
+    between: Vec<u8>,
     then: Vec<u8>,
+}
+
+/// Whether there is a note, the map after a restart, and what lies at the records' places.
+#[derive(Drop)]
+struct Expected {
     note: String,
     map: String,
     records: Vec<Record>,
     at: String,
+}
+
+fn losses_of(alloc: Global, between: &str, then: &str, drives: u8) -> Result<Losses, Trouble> {
+    Ok(Losses {
+        between: drives_of(alloc, between, drives)?,
+        then: drives_of(alloc, then, drives)?,
+    })
+}
+
+fn expected_of(
+    alloc: Global,
+    note: &str,
+    map: &str,
+    at: &str,
+    blocks: u32,
+) -> Result<Expected, Trouble> {
+    Ok(Expected {
+        note: String::from_str(alloc, note)?,
+        map: map_of(alloc, map, blocks)?,
+        records: records_of(alloc, at, blocks)?,
+        at: String::from_str(alloc, at)?,
+    })
+}
+
+// The row of these cells.
+fn row_of(alloc: Global, cells: &[&str], setup: &Setup) -> Result<StopRow, Trouble> {
+    let [
+        id,
+        number_of_setup,
+        intent,
+        between,
+        n,
+        then,
+        note,
+        outcome,
+        map,
+        at,
+    ] = cells
+    else {
+        return Err(Trouble::Form);
+    };
+    // The outcome is read for its form alone, since the map shows which it was.
+    if !matches!(*note, "0" | "1") || !matches!(*outcome, "before" | "after") {
+        return Err(Trouble::Form);
+    }
+    Ok(StopRow {
+        id: number(id)?,
+        setup: number(number_of_setup)?,
+        entries: number(n)?,
+        intent: intent_of(alloc, intent, setup)?,
+        losses: losses_of(alloc, between, then, setup.drives)?,
+        expected: expected_of(alloc, note, map, at, setup.shape.blocks)?,
+    })
 }
 
 impl Row for StopRow {
@@ -42,37 +107,7 @@ impl Row for StopRow {
 
     fn parse(alloc: Global, line: &str, setup: &Setup) -> Result<StopRow, Trouble> {
         let cells = cells_of(alloc, line)?;
-        let [
-            id,
-            number_of_setup,
-            intent,
-            between,
-            n,
-            then,
-            note,
-            outcome,
-            map,
-            at,
-        ] = cells.as_slice()
-        else {
-            return Err(Trouble::Form);
-        };
-        // The outcome is read for its form alone, since the map shows which it was.
-        if !matches!(*note, "0" | "1") || !matches!(*outcome, "before" | "after") {
-            return Err(Trouble::Form);
-        }
-        Ok(StopRow {
-            id: number(id)?,
-            setup: number(number_of_setup)?,
-            intent: intent_of(alloc, intent, setup)?,
-            between: drives_of(alloc, between, setup.drives)?,
-            entries: number(n)?,
-            then: drives_of(alloc, then, setup.drives)?,
-            note: String::from_str(alloc, note)?,
-            map: map_of(alloc, map, setup.shape.blocks)?,
-            records: records_of(alloc, at, setup.shape.blocks)?,
-            at: String::from_str(alloc, at)?,
-        })
+        row_of(alloc, &cells, setup)
     }
 
     fn id(&self) -> u32 {
@@ -88,13 +123,13 @@ impl Row for StopRow {
         self.leaves_no_note(alloc, setup)?;
         let parts = self.stop(alloc, setup)?;
         let note = if parts.note.is_some() { "1" } else { "0" };
-        agree(alloc, "note", self.note.as_str(), note)?;
+        agree(alloc, "note", self.expected.note.as_str(), note)?;
         match restarted_whole(alloc, parts)? {
             Ok(array) => self.is_restarted(alloc, array),
             Err((fault, _, _)) => agree(
                 alloc,
                 "map",
-                self.map.as_str(),
+                self.expected.map.as_str(),
                 fault_text(alloc, fault)?.as_str(),
             ),
         }
@@ -118,9 +153,9 @@ impl StopRow {
             }
         };
         let mut parts = stopped(alloc, array)?;
-        lose(&mut parts, &self.between)?;
+        lose(&mut parts, &self.losses.between)?;
         run(&mut parts, list, self.entries as usize)?;
-        lose(&mut parts, &self.then)?;
+        lose(&mut parts, &self.losses.then)?;
         Ok(parts)
     }
 
@@ -137,9 +172,9 @@ impl StopRow {
     fn is_restarted(&self, alloc: Global, array: Memory) -> Result<(), Trouble> {
         let mut array = array;
         let map = map_text(alloc, &mut array)?;
-        agree(alloc, "map", self.map.as_str(), map.as_str())?;
-        let at = at_all(alloc, &mut array, &self.records)?;
-        agree(alloc, "at", self.at.as_str(), at.as_str())?;
+        agree(alloc, "map", self.expected.map.as_str(), map.as_str())?;
+        let at = at_all(alloc, &mut array, &self.expected.records)?;
+        agree(alloc, "at", self.expected.at.as_str(), at.as_str())?;
         let mut parts = stopped(alloc, array)?;
         holds(alloc, "equal copies", are_equal(alloc, &mut parts)?)?;
         holds(alloc, "zero sums", add_up(alloc, &mut parts)?)

@@ -43,13 +43,17 @@ pub(crate) fn short(number: u32) -> Result<u16, Trouble> {
 /// The numbers of a text, with one space between each two; an empty text has none.
 pub(crate) fn numbers_of(alloc: Global, text: &str) -> Result<Vec<u32>, Trouble> {
     let mut numbers = Vec::new(alloc);
-    if text == "" {
-        return Ok(numbers);
+    if text != "" {
+        push_numbers(text, &mut numbers)?;
     }
+    Ok(numbers)
+}
+
+fn push_numbers(text: &str, numbers: &mut Vec<u32>) -> Result<(), Trouble> {
     for word in text.split(' ') {
         numbers.push(number(word)?)?;
     }
-    Ok(numbers)
+    Ok(())
 }
 
 /// The first word of a text, and the numbers after it.
@@ -64,9 +68,13 @@ pub(crate) fn verb_of(alloc: Global, text: &str) -> Result<(&str, Vec<u32>), Tro
 /// The drives of a cell, of which an array has `count`.
 pub(crate) fn drives_of(alloc: Global, cell: &str, count: u8) -> Result<Vec<u8>, Trouble> {
     let mut drives = Vec::new(alloc);
-    if cell == "-" {
-        return Ok(drives);
+    if cell != "-" {
+        push_drives(cell, count, &mut drives)?;
     }
+    Ok(drives)
+}
+
+fn push_drives(cell: &str, count: u8, drives: &mut Vec<u8>) -> Result<(), Trouble> {
     for word in cell.split(' ') {
         let drive = byte(number(word)?)?;
         if drive >= count {
@@ -74,7 +82,7 @@ pub(crate) fn drives_of(alloc: Global, cell: &str, count: u8) -> Result<Vec<u8>,
         }
         drives.push(drive)?;
     }
-    Ok(drives)
+    Ok(())
 }
 
 /// The record that four numbers spell, of one of `blocks` blocks.

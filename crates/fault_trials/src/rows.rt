@@ -54,37 +54,57 @@ fn items(field: &str) -> &str {
     if field == "-" { "" } else { field }
 }
 
-// Whether the row's restart returned a fault.
-fn restart_row(alloc: Global, row: &str) -> Result<bool, Trouble> {
+// The fields of a row after its number: units, drives, answer, steps, and what is left.
+fn fields_of(row: &str) -> Result<[&str; 5], Trouble> {
     let mut fields = row.split(',').skip(1);
     let mut next = || fields.next().ok_or(Trouble::Input);
-    let (units, drives, answer) = (next()?, next()?, next()?);
-    let (steps, left) = (next()?, next()?);
+    Ok([next()?, next()?, next()?, next()?, next()?])
+}
+
+// Whether the row's restart returned a fault.
+fn restart_row(alloc: Global, row: &str) -> Result<bool, Trouble> {
+    let [units, drives, answer, steps, left] = fields_of(row)?;
     match written(alloc, items(units), items(drives))?.restart(alloc)? {
         Err(fault) if is_fault(fault, answer)? => Ok(true),
         Err(_) => Err(Trouble::Wrong),
         Ok(world) => {
-            let world = found(alloc, world, answer)?;
-            let part = steps_of(alloc, items(steps), ';')?;
-            let world = run(alloc, world, &part.steps, &part.expected)?;
-            are_left(alloc, world, items(left))?;
+            go_on(alloc, world, answer, items(steps), items(left))?;
             Ok(false)
         }
     }
 }
 
+// Reads what a restart found, carries out the steps, and compares what they leave.
+fn go_on(
+    alloc: Global,
+    world: World,
+    answer: &str,
+    steps: &str,
+    left: &str,
+) -> Result<(), Trouble> {
+    let world = found(alloc, world, answer)?;
+    let part = steps_of(alloc, steps, ';')?;
+    let world = run(alloc, world, &part.steps, &part.expected)?;
+    are_left(alloc, world, left)
+}
+
 // The two groups with these units, after which these drives are lost.
 fn written(alloc: Global, units: &str, drives: &str) -> Result<Slots, Trouble> {
     let mut slots = Slots::new(alloc)?;
+    write_all(&mut slots, units, drives)?;
+    Ok(slots)
+}
+
+fn write_all(slots: &mut Slots, units: &str, drives: &str) -> Result<(), Trouble> {
     for unit in units.split(';') {
-        write(&mut slots, unit)?;
+        write(slots, unit)?;
     }
     for drive in drives.split(' ') {
         if drive != "" {
             slots.lose(byte(number(drive)?)?)?;
         }
     }
-    Ok(slots)
+    Ok(())
 }
 
 fn write(slots: &mut Slots, unit: &str) -> Result<(), Trouble> {
@@ -117,14 +137,30 @@ fn is_fault(fault: ScanFault, expected: &str) -> Result<bool, Trouble> {
 fn found(alloc: Global, world: World, expected: &str) -> Result<World, Trouble> {
     let mut world = world;
     let mut records = Vec::new(alloc);
-    for block in expected.split(';') {
-        records.push(read_block(alloc, &mut world, block)?)?;
-    }
-    let list = map_of(alloc, world.array())?.to_list(alloc)?;
-    if list.as_slice() != records.as_slice() {
-        return Err(Trouble::Wrong);
-    }
+    read_blocks(alloc, &mut world, expected, &mut records)?;
+    has_map(alloc, &world, &records)?;
     Ok(world)
+}
+
+fn read_blocks(
+    alloc: Global,
+    world: &mut World,
+    expected: &str,
+    records: &mut Vec<Record>,
+) -> Result<(), Trouble> {
+    for block in expected.split(';') {
+        records.push(read_block(alloc, world, block)?)?;
+    }
+    Ok(())
+}
+
+fn has_map(alloc: Global, world: &World, records: &[Record]) -> Result<(), Trouble> {
+    let list = map_of(alloc, world.array())?.to_list(alloc)?;
+    if list.as_slice() == records {
+        Ok(())
+    } else {
+        Err(Trouble::Wrong)
+    }
 }
 
 // The record that a block's numbers spell; the block reads as the content after them.
@@ -171,9 +207,13 @@ fn content(version: u32, content: u32) -> Words<'static> {
 // Whether the slots have these units: 32 bytes of a header, and the payload that its first byte names, or zeros.
 fn are_left(alloc: Global, world: World, units: &str) -> Result<(), Trouble> {
     let mut slots = Slots::of(alloc, world)?;
+    each_is_left(&mut slots, units)
+}
+
+fn each_is_left(slots: &mut Slots, units: &str) -> Result<(), Trouble> {
     for unit in units.split(';') {
         if unit != "" {
-            is_left(&mut slots, unit)?;
+            is_left(slots, unit)?;
         }
     }
     Ok(())
