@@ -4,6 +4,7 @@ use crate::disk_files::DiskFiles;
 use crate::folder::{Folder, Name};
 use crate::identity::new_identity;
 use crate::opened::{file_bytes, groups_of, header_of, layout_of};
+use crate::pair_files::PairFiles;
 use crate::pairs::{Pair, Pairs, join_pairs};
 use crate::table::Table;
 use crate::texts::{write_places, write_table};
@@ -167,6 +168,31 @@ fn trouble_of_blank(fault: BlankFault) -> Trouble {
     }
 }
 
+// Makes the files of a disk.
+fn marked_files(
+    rt: &HostRuntime,
+    folder: Folder<'_>,
+    layout: &Layout,
+    plan: &Plan,
+    identity: Uuid,
+) -> Result<PairFiles, Trouble> {
+    let files = make_files(rt, folder, layout, plan)?;
+    let mut files = DiskFiles::over(rt.alloc(), files, false);
+    mark_files(&mut files, layout, identity, plan.drives)?;
+    let mut pairs = Pairs::new();
+    join_pairs(files, &mut pairs)
+}
+
+// Makes an array of zeros in a new disk's files.
+fn make_array(rt: &HostRuntime, files: PairFiles, plan: &Plan) -> Result<(), Trouble> {
+    let (groups, extents) = groups_of(rt.alloc(), plan)?;
+    match make_zero_array(rt.alloc(), files, &groups, &extents, plan.drives) {
+        Some(Ok(())) => Ok(()),
+        Some(Err(fault)) => Err(trouble_of_blank(fault)),
+        None => Err(Trouble::NoState),
+    }
+}
+
 /// Makes a disk of `size` bytes, all zero, in blocks of `block` bytes. What an attempt that failed or was stopped has made stays, and
 /// is in the way of the next one.
 pub(crate) fn create_disk(
@@ -188,17 +214,8 @@ pub(crate) fn create_disk(
     let layout = layout_of(&plan, plan.drives);
     make_folder(rt, folder)?;
     look(rt, folder, drives)?;
-    let files = make_files(rt, folder, &layout, &plan)?;
-    let mut files = DiskFiles::over(rt.alloc(), files, false);
-    mark_files(&mut files, &layout, identity, drives)?;
-    let mut pairs = Pairs::new();
-    let files = join_pairs(files, &mut pairs)?;
-    let (groups, extents) = groups_of(rt.alloc(), &plan)?;
-    match make_zero_array(rt.alloc(), files, &groups, &extents, drives) {
-        Some(Ok(())) => {}
-        Some(Err(fault)) => return Err(trouble_of_blank(fault)),
-        None => return Err(Trouble::NoState),
-    }
+    let files = marked_files(rt, folder, &layout, &plan, identity)?;
+    make_array(rt, files, &plan)?;
     write_places(rt, folder)?;
     sync_places(rt, folder, drives)?;
     // The table comes last: a folder without one is no disk.
