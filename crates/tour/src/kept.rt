@@ -51,10 +51,16 @@ impl Volume<FileDrive<Disk>> {
 pub(crate) fn keep(alloc: Global, shape: Shape) -> Result<(Option<[u8; 8]>, Option<[u8; 8]>)> {
     let drives = open_disks(alloc, &shape)?;
     let mut volume = Volume::new(alloc, shape, drives, Desk::new())?;
+    write_both(&mut volume)?;
+    let mut volume = volume.crash()?;
+    Ok((volume.find(3)?, volume.find(5)?))
+}
+
+// Writes two blocks, with a sync between them.
+fn write_both(volume: &mut Volume<FileDrive<Disk>>) -> Result<()> {
     volume.make(Class::Mirrored, [0, 1, 2], 0)?;
     volume.write(0, 3, &[7; 8])?;
     volume.array.sync();
     volume.write(1, 5, &[9; 8])?;
-    let mut volume = volume.crash()?;
-    Ok((volume.find(3)?, volume.find(5)?))
+    Ok(())
 }

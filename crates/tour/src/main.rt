@@ -17,11 +17,11 @@ use counted::Counted;
 use desk::Desk;
 use kept::keep;
 use levels::use_levels;
-use map_join::Record;
+use map_join::{BlockMap, Record};
 use maps::{backwards, map_of, merge};
 use std::alloc::Global;
 use std::process::ExitCode;
-use step_core::{Class, MemDrive};
+use step_core::{Class, MemDrive, Shape};
 use volume::{Volume, new_drives};
 
 // The drives that the tour counts the calls of.
@@ -39,11 +39,20 @@ fn main(rt: HostRuntime) -> ExitCode {
 
 fn tour(rt: &impl Print, alloc: Global) -> Result<()> {
     let (shape, drives) = new_drives(alloc)?;
+    use_disks(rt, alloc, shape)?;
+    println!(rt; "drives: {} of {} units", drives.len(), shape.drive_units())?;
+    use_volume(rt, alloc, Volume::new(alloc, shape, drives, Desk::new())?)
+}
+
+// An array over disks crashes, and a block of another one is demoted.
+fn use_disks(rt: &impl Print, alloc: Global, shape: Shape) -> Result<()> {
     let (durable, other) = keep(alloc, shape)?;
     println!(rt; "after a crash: {durable:?}, without a sync: {other:?}")?;
-    report(rt, "demote", use_levels(alloc, shape)?)?;
-    println!(rt; "drives: {} of {} units", drives.len(), shape.drive_units())?;
-    let mut volume = Volume::new(alloc, shape, drives, Desk::new())?;
+    report(rt, "demote", use_levels(alloc, shape)?)
+}
+
+fn use_volume(rt: &impl Print, alloc: Global, volume: Volume<Tested>) -> Result<()> {
+    let mut volume = volume;
     let records = use_all(rt, &mut volume)?;
     let volume = lose_one(rt, volume)?;
     let volume = compare(rt, alloc, volume, &records)?;
@@ -90,6 +99,25 @@ fn lose_one(rt: &impl Print, mut volume: Volume<Tested>) -> Result<Volume<Tested
     Ok(volume)
 }
 
+// Maps of the records in two orders agree, and merged they are the map of the headers.
+fn merge_both(
+    rt: &impl Print,
+    alloc: Global,
+    scanned: &BlockMap,
+    records: &[Record],
+) -> Result<()> {
+    let mut one = map_of(alloc, records)?;
+    let other = map_of(alloc, &backwards(alloc, records)?)?;
+    let same = one.agrees(&other);
+    merge(alloc, &mut one, &other)?;
+    let merged = one.agrees(scanned);
+    println!(rt;
+        "two maps of {} records agree: {same}, merged with the scan: {merged}",
+        records.len()
+    )?;
+    Ok(())
+}
+
 // The map of the headers is the array's, and that of the records in any order.
 fn compare(
     rt: &impl Print,
@@ -101,15 +129,6 @@ fn compare(
     let running = volume.array.map(alloc)?;
     let same = scanned.agrees(&running);
     println!(rt; "a scan of {headers} headers has the array's map: {same}")?;
-
-    let mut one = map_of(alloc, records)?;
-    let other = map_of(alloc, &backwards(alloc, records)?)?;
-    let same = one.agrees(&other);
-    merge(alloc, &mut one, &other)?;
-    let merged = one.agrees(&scanned);
-    println!(rt;
-        "two maps of {} records agree: {same}, merged with the scan: {merged}",
-        records.len()
-    )?;
+    merge_both(rt, alloc, &scanned, records)?;
     Ok(volume)
 }
