@@ -108,31 +108,61 @@ fn read_drive(
     Ok((drive_of(rt.alloc(), shape, &image, file)?, wrong))
 }
 
-/// The parts of the array of a table, its drives those of the images.
-pub(crate) fn load_files(rt: &HostRuntime, files: Files<'_, '_>) -> Result<Loaded, Trouble>
-    ensures { IfOk result (λ loaded. loaded.parts.note ≡ None) }
-{
+// The table, which has as many drives as images are named.
+fn read_table(rt: &HostRuntime, files: Files<'_, '_>) -> Result<Table, Trouble> {
     let text = bytes_of(rt, files, Name::Kept(0))?;
-    let Table {
-        shape,
-        groups,
-        extents,
-        drives: count,
-        sums,
-    } = Table::parse(rt.alloc(), &text)?;
+    let table = Table::parse(rt.alloc(), &text)?;
     // Before any image is read: each is known by its place among the names.
-    if files.images.len() != usize::from(count) {
-        return Err(Trouble::Count(usize::from(count), files.images.len()));
+    if files.images.len() != usize::from(table.drives) {
+        return Err(Trouble::Count(usize::from(table.drives), files.images.len()));
     }
-    let mut drives = Vec::new(rt.alloc());
-    let mut wrong = Vec::new(rt.alloc());
+    Ok(table)
+}
+
+fn read_each(
+    rt: &HostRuntime,
+    files: Files<'_, '_>,
+    shape: &Shape,
+    sums: &[Option<Sum>],
+    drives: &mut Vec<MemDrive>,
+    wrong: &mut Vec<Wrong>,
+) -> Result<(), Trouble> {
     for number in 0..files.images.len() {
-        let (drive, bad) = read_drive(rt, files, number.saturating_add(1), &shape, &sums)?;
+        let (drive, bad) = read_drive(rt, files, number.saturating_add(1), shape, sums)?;
         drives.push(drive)?;
         if let Some(bad) = bad {
             wrong.push(bad)?;
         }
     }
+    Ok(())
+}
+
+// The drives of the images, and what is wrong with some of them.
+fn read_drives(
+    rt: &HostRuntime,
+    files: Files<'_, '_>,
+    shape: &Shape,
+    sums: &[Option<Sum>],
+) -> Result<(Vec<MemDrive>, Vec<Wrong>), Trouble> {
+    let mut drives = Vec::new(rt.alloc());
+    let mut wrong = Vec::new(rt.alloc());
+    read_each(rt, files, shape, sums, &mut drives, &mut wrong)?;
+    Ok((drives, wrong))
+}
+
+/// The parts of the array of a table, its drives those of the images.
+pub(crate) fn load_files(rt: &HostRuntime, files: Files<'_, '_>) -> Result<Loaded, Trouble>
+    ensures { IfOk result (λ loaded. loaded.parts.note ≡ None) }
+{
+    let table = read_table(rt, files)?;
+    let (drives, wrong) = read_drives(rt, files, &table.shape, &table.sums)?;
+    let Table {
+        shape,
+        groups,
+        extents,
+        sums,
+        ..
+    } = table;
     Ok(Loaded {
         parts: Parts {
             shape,

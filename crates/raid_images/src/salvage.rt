@@ -147,6 +147,26 @@ fn put_twins(found: &mut Found) -> Result<(), AllocError> {
     Ok(())
 }
 
+fn read_groups(alloc: Global, found: &mut Found, reader: &mut Reader) -> Result<(), Trouble>
+    requires { CanRead reader.old }
+    ensures { CanRead reader.new }
+{
+    for group in 0..GROUPS as u16 {
+        if reader.parts.groups.class_of(group).is_some() {
+            read_group(alloc, found, reader, group)?;
+        }
+    }
+    Ok(())
+}
+
+// Prints what was found.
+fn say_found(rt: &HostRuntime, found: &mut Found) -> Result<u8, Trouble> {
+    put_twins(found)?;
+    put_map(rt.alloc(), &mut found.text, &found.map)?;
+    say(rt, &found.text)?;
+    Ok(if found.is_whole { FINE } else { WRONG })
+}
+
 /// Prints what was read of each drive and each group, sound or not, and last the map of all records that were read. A block whose
 /// newest place can't be read has an older record in the map, or none.
 pub(crate) fn salvage(rt: &HostRuntime, files: Files<'_, '_>) -> Result<u8, Trouble> {
@@ -166,13 +186,6 @@ pub(crate) fn salvage(rt: &HostRuntime, files: Files<'_, '_>) -> Result<u8, Trou
     let Some(mut reader) = Reader::new(rt.alloc(), parts)? else {
         return Err(Trouble::Misfit);
     };
-    for group in 0..GROUPS as u16 {
-        if reader.parts.groups.class_of(group).is_some() {
-            read_group(rt.alloc(), &mut found, &mut reader, group)?;
-        }
-    }
-    put_twins(&mut found)?;
-    put_map(rt.alloc(), &mut found.text, &found.map)?;
-    say(rt, &found.text)?;
-    Ok(if found.is_whole { FINE } else { WRONG })
+    read_groups(rt.alloc(), &mut found, &mut reader)?;
+    say_found(rt, &mut found)
 }
