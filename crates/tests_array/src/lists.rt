@@ -235,7 +235,7 @@ impl Stop {
     /// Carries out the first `n` entries of a list.
     pub(crate) fn run(&mut self, rt: &impl Abort, list: Vec<Micro>, n: usize) {
         check!(rt; self.is_ready());
-        check!(rt; are_writes(&self.parts, &list));
+        assert!(rt; are_writes(&self.parts, &list));
         run_micro(&mut self.parts, list, n);
     }
 
