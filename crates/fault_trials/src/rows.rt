@@ -54,16 +54,12 @@ fn items(field: &str) -> &str {
     if field == "-" { "" } else { field }
 }
 
-// The fields of a row after its number: units, drives, answer, steps, and what is left.
-fn fields_of(row: &str) -> Result<[&str; 5], Trouble> {
-    let mut fields = row.split(',').skip(1);
-    let mut next = || fields.next().ok_or(Trouble::Input);
-    Ok([next()?, next()?, next()?, next()?, next()?])
-}
-
 // Whether the row's restart returned a fault.
 fn restart_row(alloc: Global, row: &str) -> Result<bool, Trouble> {
-    let [units, drives, answer, steps, left] = fields_of(row)?;
+    let mut fields = row.split(',').skip(1);
+    let mut next = || fields.next().ok_or(Trouble::Input);
+    let (units, drives, answer) = (next()?, next()?, next()?);
+    let (steps, left) = (next()?, next()?);
     match written(alloc, items(units), items(drives))?.restart(alloc)? {
         Err(fault) if is_fault(fault, answer)? => Ok(true),
         Err(_) => Err(Trouble::Wrong),
