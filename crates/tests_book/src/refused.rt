@@ -111,8 +111,8 @@ fn written_parts<R: Abort>(rt: &R, alloc: Global, case: &Refused) -> Parts<MemDr
     let Ok((mut parts, _claims)) = array.into_parts(alloc) else {
         rt.panic("not taken apart")
     };
-    check!(rt; parts.groups.shape().payload == 40 && 0 < parts.groups.slots_of(0));
-    check!(rt; parts.write(0, &case.unit(), &mut [0; 144]) == Ok(()));
+    assert!(rt; parts.groups.shape().payload == 40 && 0 < parts.groups.slots_of(0));
+    assert!(rt; parts.write(0, &case.unit(), &mut [0; 144]) == Ok(()));
     parts
 }
 
@@ -120,7 +120,7 @@ fn written_parts<R: Abort>(rt: &R, alloc: Global, case: &Refused) -> Parts<MemDr
 fn fail_both<N: slot_words::Naming, R: Abort>(rt: &R, array: &mut Array<MemDrive, Claim<N>>)
     ensures { (F : Flat) → ShowsArray array.old F → (G : Flat) × ShowsArray array.new G }
 {
-    check!(rt; array.drive_count() > 1);
+    assert!(rt; array.drive_count() > 1);
     array.fuse(0, 1);
     array.fuse(1, 1);
 }
@@ -148,10 +148,10 @@ fn remade<N: slot_words::Naming, R: Abort>(
         Ok(made) => made,
         Err(_back) => rt.panic("not restarted"),
     };
-    check!(rt; others.is_empty());
+    assert!(rt; others.is_empty());
     others.destroy_empty();
     let shape = array.shape();
-    check!(rt; shape.blocks == 16 && shape.payload == 40);
+    assert!(rt; shape.blocks == 16 && shape.payload == 40);
     array
 }
 
@@ -170,7 +170,7 @@ fn failing<N: slot_words::Naming, R: Abort>(
     let mut array = remade(rt, alloc, words, pass, case);
     fail_both(rt, &mut array);
     let shape = array.shape();
-    check!(rt; shape.blocks == 16 && shape.payload == 40);
+    assert!(rt; shape.blocks == 16 && shape.payload == 40);
     array
 }
 

@@ -251,7 +251,7 @@ fn make_group<C: Hold, R: Abort>(
     let Ok((_group, claims)) = array.make_group(alloc, class, &members) else {
         rt.panic("no group")
     };
-    check!(rt; claims.is_empty());
+    assert!(rt; claims.is_empty());
     claims.destroy_empty();
 }
 
@@ -334,7 +334,7 @@ fn parted<N: slot_words::Naming + Sizes, A: map_words::Naming, B: map_words::Nam
             odd: other,
             hand: hired(rt, history, keeper),
         };
-        check!(rt; all.push(part).is_ok());
+        assert!(rt; all.push(part).is_ok());
     }
     let Shares { pass, even, odd } = shares;
     let last = Ended {
@@ -343,7 +343,7 @@ fn parted<N: slot_words::Naming + Sizes, A: map_words::Naming, B: map_words::Nam
         odd,
         hand,
     };
-    check!(rt; all.push(last).is_ok());
+    assert!(rt; all.push(last).is_ok());
     all
 }
 
