@@ -46,26 +46,6 @@ impl Name {
     pub(crate) fn system_path(&self) -> &'static str {
         "/proc/sys/kernel/random/uuid"
     }
-
-    // What follows the folder's name in the path of a file that isn't a drive's.
-    fn file(&self) -> &'static str {
-        match self {
-            Name::Table => "/table",
-            Name::TableCopy => "/table.copy",
-            Name::Fresh => "/table.new",
-            Name::State(Twin::First) => "/state0",
-            Name::State(Twin::Second) => "/state1",
-            Name::OneState => "/state",
-            Name::OneJournal => "/journal",
-            Name::Journal(Twin::First) => "/journal0",
-            Name::Journal(Twin::Second) => "/journal1",
-            Name::Places => "/places",
-            Name::Progress => "/progress",
-            Name::FreshProgress => "/progress.new",
-            Name::Scrub => "/scrub",
-            _ => "",
-        }
-    }
 }
 
 /// The folder of a disk, and where the files of its drives may be.
@@ -83,15 +63,28 @@ pub(crate) struct Folder<'a> {
 impl<'a> Folder<'a> {
     /// The path of a file.
     pub(crate) fn path(&self, alloc: Global, name: Name) -> Result<String, AllocError> {
+        let folder = self.name;
         match name {
+            Name::Folder => format!(in alloc; "{folder}"),
+            Name::Table => format!(in alloc; "{folder}/table"),
+            Name::TableCopy => format!(in alloc; "{folder}/table.copy"),
+            Name::Fresh => format!(in alloc; "{folder}/table.new"),
+            Name::State(Twin::First) => format!(in alloc; "{folder}/state0"),
+            Name::State(Twin::Second) => format!(in alloc; "{folder}/state1"),
+            Name::OneState => format!(in alloc; "{folder}/state"),
+            Name::OneJournal => format!(in alloc; "{folder}/journal"),
+            Name::Journal(Twin::First) => format!(in alloc; "{folder}/journal0"),
+            Name::Journal(Twin::Second) => format!(in alloc; "{folder}/journal1"),
             Name::Drive(drive) => self.drive_path(alloc, drive, ""),
             Name::FreshDrive(drive) => self.drive_path(alloc, drive, ".new"),
             Name::OldDrive(drive) => self.drive_path(alloc, drive, ".old"),
-            Name::Random => String::from_str(alloc, name.system_path()),
-            _ => {
-                let folder = self.name;
-                let file = name.file();
-                format!(in alloc; "{folder}{file}")
+            Name::Places => format!(in alloc; "{folder}/places"),
+            Name::Progress => format!(in alloc; "{folder}/progress"),
+            Name::FreshProgress => format!(in alloc; "{folder}/progress.new"),
+            Name::Scrub => format!(in alloc; "{folder}/scrub"),
+            Name::Random => {
+                let path = name.system_path();
+                format!(in alloc; "{path}")
             }
         }
     }

@@ -99,16 +99,6 @@ pub(crate) enum Trouble {
     Needed(u8),
 }
 
-// Says a text on standard error.
-fn say(rt: &HostRuntime, text: &str) -> io::Result<()> {
-    eprintln!(rt; "raid_disk: {text}")
-}
-
-// Says a text of a file on standard error, which follows the file's name.
-fn say_of(rt: &HostRuntime, path: &str, text: &str) -> io::Result<()> {
-    eprintln!(rt; "raid_disk: {path}{text}")
-}
-
 impl Trouble {
     /// The trouble of words that can't be read.
     pub(crate) fn of_words(error: io::Error) -> Trouble {
@@ -153,15 +143,17 @@ impl Trouble {
     pub(crate) fn report(&self, rt: &HostRuntime, folder: Folder<'_>) -> io::Result<()> {
         let at = folder.name;
         match self {
-            Trouble::Memory | Trouble::Vault(VaultError::Memory) => say(rt, "out of memory"),
-            Trouble::Size => say(rt, "SIZE is a number of bytes, or a number and K, M or G"),
+            Trouble::Memory | Trouble::Vault(VaultError::Memory) => {
+                eprintln!(rt; "raid_disk: out of memory")
+            }
+            Trouble::Size => eprintln!(rt;
+                "raid_disk: SIZE is a number of bytes, or a number and K, M or G"
+            ),
             Trouble::Shape(fault) => report_shape(rt, fault),
             Trouble::NoDisk => eprintln!(rt; "raid_disk: {at} has no disk: there is no {at}/table"),
-            Trouble::NoTable => say_of(rt, at, "/table isn't the table of a disk"),
-            Trouble::Earlier => say_of(
-                rt,
-                at,
-                " is a disk of an earlier version: copy its bytes to a new disk with the program that made it",
+            Trouble::NoTable => eprintln!(rt; "raid_disk: {at}/table isn't the table of a disk"),
+            Trouble::Earlier => eprintln!(rt;
+                "raid_disk: {at} is a disk of an earlier version: copy its bytes to a new disk with the program that made it"
             ),
             Trouble::NoState => eprintln!(rt;
                 "raid_disk: neither {at}/state0 nor {at}/state1 can be read and written, or the newer one can't: without it nothing can be read"
@@ -169,7 +161,7 @@ impl Trouble {
             Trouble::NoJournal => eprintln!(rt;
                 "raid_disk: neither {at}/journal0 nor {at}/journal1 can be read and written, or the newer one can't: without it nothing can be read"
             ),
-            Trouble::Busy => say_of(rt, at, ": another process has the disk"),
+            Trouble::Busy => eprintln!(rt; "raid_disk: {at}: another process has the disk"),
             Trouble::Words(error) => eprintln!(rt;
                 "raid_disk: the command line can't be read: {error}"
             ),
@@ -179,12 +171,12 @@ impl Trouble {
             Trouble::Stream(end) => eprintln!(rt;
                 "raid_disk: {at}: the client's session ended: {end:?}"
             ),
-            Trouble::Sync => say_of(
-                rt,
-                at,
-                ": the journal can't be written or synced, or two drives are lost: what came since the last flush may be lost",
+            Trouble::Sync => eprintln!(rt;
+                "raid_disk: {at}: the journal can't be written or synced, or two drives are lost: what came since the last flush may be lost"
             ),
-            Trouble::Unsound => say_of(rt, at, ": the drives' files don't fit one another"),
+            Trouble::Unsound => eprintln!(rt;
+                "raid_disk: {at}: the drives' files don't fit one another"
+            ),
             Trouble::Gone(slot) => {
                 let group = slot / SLOTS;
                 let index = slot % SLOTS;
@@ -201,10 +193,8 @@ impl Trouble {
         match self {
             Trouble::Exists(name) => {
                 let path = folder.path(rt.alloc(), *name)?;
-                say_of(
-                    rt,
-                    &path,
-                    " is there already: nothing was made; remove what an earlier attempt has left, or name another folder",
+                eprintln!(rt;
+                    "raid_disk: {path} is there already: nothing was made; remove what an earlier attempt has left, or name another folder"
                 )
             }
             Trouble::Read(name, error) => {
@@ -217,31 +207,29 @@ impl Trouble {
             }
             Trouble::NoNumber(name) => {
                 let path = folder.path(rt.alloc(), *name)?;
-                say_of(rt, &path, " has no number")
+                eprintln!(rt; "raid_disk: {path} has no number")
             }
             Trouble::Unread(number) => {
                 let path = folder.path(rt.alloc(), name_of(*number))?;
-                say_of(rt, &path, " can't be read")
+                eprintln!(rt; "raid_disk: {path} can't be read")
             }
             Trouble::Unwritten(number) => {
                 let path = folder.path(rt.alloc(), name_of(*number))?;
-                say_of(rt, &path, " can't be written")
+                eprintln!(rt; "raid_disk: {path} can't be written")
             }
             Trouble::Foreign(number) => {
                 let path = folder.path(rt.alloc(), name_of(*number))?;
-                say_of(
-                    rt,
-                    &path,
-                    " is of another disk, or another file of this one: take it away",
+                eprintln!(rt;
+                    "raid_disk: {path} is of another disk, or another file of this one: take it away"
                 )
             }
             Trouble::Vault(VaultError::Drive(drive)) => {
                 let path = folder.path(rt.alloc(), Name::Drive(*drive))?;
-                say_of(rt, &path, " can't be read")
+                eprintln!(rt; "raid_disk: {path} can't be read")
             }
             Trouble::Vault(_) => {
                 let path = folder.path(rt.alloc(), Name::Folder)?;
-                say_of(rt, &path, ": the journal can't be read or written")
+                eprintln!(rt; "raid_disk: {path}: the journal can't be read or written")
             }
             _ => self.report_replaced(rt, folder),
         }
@@ -261,15 +249,13 @@ impl Trouble {
             Trouble::NoDrive(drive) => eprintln!(rt; "raid_disk: {at} has no drive {drive}"),
             Trouble::NotLost(drive) => {
                 let path = folder.path(rt.alloc(), Name::Drive(*drive))?;
-                say_of(
-                    rt,
-                    &path,
-                    " isn't lost: a drive is replaced whose file is missing, or that failed before",
+                eprintln!(rt;
+                    "raid_disk: {path} isn't lost: a drive is replaced whose file is missing, or that failed before"
                 )
             }
             Trouble::OtherLost(drive) => {
                 let path = folder.path(rt.alloc(), Name::Drive(*drive))?;
-                say_of(rt, &path, " is lost too: no other drive can be replaced")
+                eprintln!(rt; "raid_disk: {path} is lost too: no other drive can be replaced")
             }
             _ => self.report_place(rt, folder),
         }
@@ -281,16 +267,13 @@ impl Trouble {
     fn report_place(&self, rt: &HostRuntime, folder: Folder<'_>) -> io::Result<()> {
         let at = folder.name;
         match self {
-            Trouble::Path => say(rt, "PATH isn't the path of a file"),
-            Trouble::Places => say(rt, "more paths are given than drives"),
-            Trouble::PathThere => say(
-                rt,
-                "what PATH names is there already: nothing was made or changed",
+            Trouble::Path => eprintln!(rt; "raid_disk: PATH isn't the path of a file"),
+            Trouble::Places => eprintln!(rt; "raid_disk: more paths are given than drives"),
+            Trouble::PathThere => eprintln!(rt;
+                "raid_disk: what PATH names is there already: nothing was made or changed"
             ),
-            Trouble::NoPlaces => say_of(
-                rt,
-                at,
-                "/places isn't a list of places: a line for a drive is drive NUMBER PATH, one at most for each",
+            Trouble::NoPlaces => eprintln!(rt;
+                "raid_disk: {at}/places isn't a list of places: a line for a drive is drive NUMBER PATH, one at most for each"
             ),
             Trouble::Doubled(drive) => eprintln!(rt;
                 "raid_disk: drive {drive} has more than one file: take away all but one, or all"
@@ -321,13 +304,11 @@ impl Trouble {
             }
             Trouble::LostBeside(drive) => {
                 let path = folder.path(rt.alloc(), Name::Drive(*drive))?;
-                say_of(
-                    rt,
-                    &path,
-                    " is lost: replace it before a drive is added or removed",
+                eprintln!(rt;
+                    "raid_disk: {path} is lost: replace it before a drive is added or removed"
                 )
             }
-            Trouble::Full => say(rt, "a disk has 16 drives at most"),
+            Trouble::Full => eprintln!(rt; "raid_disk: a disk has 16 drives at most"),
             Trouble::NotLast(drive, last) => eprintln!(rt;
                 "raid_disk: the last drive alone can be removed: remove drive {last}, and then move drive {drive}'s file to where that one's was"
             ),
@@ -356,10 +337,8 @@ impl Trouble {
             }
             Trouble::RottenAndLost(drive) => {
                 let path = folder.path(rt.alloc(), Name::Drive(*drive))?;
-                say_of(
-                    rt,
-                    &path,
-                    " is lost, and units of other drives aren't as their digests say: scrub --accept takes them as they are",
+                eprintln!(rt;
+                    "raid_disk: {path} is lost, and units of other drives aren't as their digests say: scrub --accept takes them as they are"
                 )
             }
             Trouble::RottenTwice(slot) => {
@@ -406,9 +385,11 @@ fn name_of(number: u8) -> Name {
 
 fn report_shape(rt: &HostRuntime, fault: &ShapeFault) -> io::Result<()> {
     match fault {
-        ShapeFault::Drives => say(rt, "a disk has 3 to 16 drives"),
-        ShapeFault::Block => say(rt, "a block has 8 to 65536 bytes, a multiple of 8"),
-        ShapeFault::Empty => say(rt, "a disk has at least one byte"),
+        ShapeFault::Drives => eprintln!(rt; "raid_disk: a disk has 3 to 16 drives"),
+        ShapeFault::Block => eprintln!(rt;
+            "raid_disk: a block has 8 to 65536 bytes, a multiple of 8"
+        ),
+        ShapeFault::Empty => eprintln!(rt; "raid_disk: a disk has at least one byte"),
         ShapeFault::TooLarge(most) => {
             eprintln!(rt; "raid_disk: the largest disk of these drives and blocks has {most} bytes")
         }
