@@ -1,5 +1,6 @@
 // Loaded before a program: stops it at a write, and records what it writes. Standard input, output and error are left alone.
 // STOP=N: at the N-th write, cut or sync of a file the process is killed, before it; with HALF=1 after the first half of a write's bytes.
+// PAUSE=N: before the N-th the process stops, until it is told to go on.
 // RECORD=FILE: each of them that was made is appended to FILE: a kind (1 write, 2 sync, 3 cut), the length of the file's name, the
 // offset and the length of the bytes, in eight bytes each; then the name and the bytes.
 // UNREAD=NAME: reads of a file of that name, at UNREAD_AT or past it, fail with an input/output error.
@@ -50,7 +51,8 @@ static void record(long kind, int file, off64_t at, const void *from, size_t byt
 // Kills the process, or says that the call fails.
 static int stops(int file, const void *from, size_t bytes, off64_t at) {
     long number = ++count;
-    const char *stop = getenv("STOP"), *broken = getenv("BREAK"), *first = getenv("BREAK_AT");
+    const char *stop = getenv("STOP"), *broken = getenv("BREAK"), *first = getenv("BREAK_AT"), *pause = getenv("PAUSE");
+    if (pause && number == atol(pause)) raise(SIGSTOP);
     if (stop && number == atol(stop)) {
         if (getenv("HALF") && bytes > 1) put(file, from, bytes / 2, at);
         kill(getpid(), SIGKILL);
