@@ -5,11 +5,12 @@ use crate::difference::{agree, holds};
 use crate::payloads::unit_of;
 use crate::reported::fault_text;
 use crate::seen::map_text;
-use crate::setup::Setup;
-use crate::stopped::{Stopped, all_claims, lose, restarted, stopped};
+use crate::setup::{Memory, Setup};
+use crate::stopped::{Stopped, all_claims, lose, restarted_whole, stopped};
 use crate::table::Row;
 use crate::trouble::Trouble;
 use crate::words::{cells_of, drives_of, number, short};
+use header_scan::ScanFault;
 use std::alloc::{AllocError, Global};
 use step_core::Plain;
 use unit_store::Note;
@@ -76,40 +77,75 @@ impl Row for NoteRow {
     }
 
     fn run(&self, alloc: Global, setup: &Setup) -> Result<(), Trouble> {
-        let mut parts = stopped(alloc, setup.built(alloc)?)?;
-        lose(&mut parts, &self.lost)?;
-        parts.note = Some(copy_of(alloc, &self.note)?);
-        // After the losses, since a lost drive's units aren't read. The claims are listed twice, because a restart takes them.
-        let left = Left {
-            units: all_units(alloc, &mut parts)?,
-            claims: all_claims(alloc, &parts.groups)?,
-        };
-        let claims = all_claims(alloc, &parts.groups)?;
-        match restarted(alloc, parts, claims)? {
-            Ok(mut array) => {
-                let map = map_text(alloc, &mut array)?;
-                agree(alloc, "answer", self.answer.as_str(), map.as_str())
-            }
-            Err((fault, parts, claims)) => {
-                let fault_found = fault_text(alloc, fault)?;
-                agree(alloc, "answer", self.answer.as_str(), fault_found.as_str())?;
-                self.is_unchanged(alloc, left, parts, claims)
-            }
+        let mut parts = self.noted(alloc, setup)?;
+        match left_in(alloc, &mut parts) {
+            Ok(left) => self.is_answered(alloc, parts, &left),
+            Err(trouble) => Err(trouble),
         }
     }
 }
 
+// What a restart of the parts must leave if it is refused. After the losses, since a lost drive's units aren't read.
+fn left_in(alloc: Global, parts: &mut Stopped) -> Result<Left, Trouble> {
+    Ok(Left {
+        units: all_units(alloc, parts)?,
+        claims: all_claims(alloc, &parts.groups)?,
+    })
+}
+
 impl NoteRow {
+    // The parts of the array with the losses and the note.
+    fn noted(&self, alloc: Global, setup: &Setup) -> Result<Stopped, Trouble> {
+        let mut parts = stopped(alloc, setup.built(alloc)?)?;
+        match self.put_note(alloc, &mut parts) {
+            Ok(()) => Ok(parts),
+            Err(trouble) => Err(trouble),
+        }
+    }
+
+    fn put_note(&self, alloc: Global, parts: &mut Stopped) -> Result<(), Trouble> {
+        lose(parts, &self.lost)?;
+        parts.note = Some(copy_of(alloc, &self.note)?);
+        Ok(())
+    }
+
+    // Whether a restart of the parts answers as the row says. If it is refused, it must leave what there was.
+    fn is_answered(&self, alloc: Global, parts: Stopped, left: &Left) -> Result<(), Trouble> {
+        match restarted_whole(alloc, parts)? {
+            Ok(mut array) => self.is_mapped(alloc, &mut array),
+            Err((fault, mut parts, claims)) => {
+                self.is_refused(alloc, fault, left, &mut parts, &claims)
+            }
+        }
+    }
+
+    fn is_mapped(&self, alloc: Global, array: &mut Memory) -> Result<(), Trouble> {
+        let map = map_text(alloc, array)?;
+        agree(alloc, "answer", self.answer.as_str(), map.as_str())
+    }
+
+    fn is_refused(
+        &self,
+        alloc: Global,
+        fault: ScanFault,
+        left: &Left,
+        parts: &mut Stopped,
+        claims: &[Plain],
+    ) -> Result<(), Trouble> {
+        let found = fault_text(alloc, fault)?;
+        agree(alloc, "answer", self.answer.as_str(), found.as_str())?;
+        self.is_unchanged(alloc, left, parts, claims)
+    }
+
     // Returns an error unless units, note and claims are as they were.
     fn is_unchanged(
         &self,
         alloc: Global,
-        left: Left,
-        parts: Stopped,
-        claims: Vec<Plain>,
+        left: &Left,
+        parts: &mut Stopped,
+        claims: &[Plain],
     ) -> Result<(), Trouble> {
-        let mut parts = parts;
-        let units = all_units(alloc, &mut parts)?;
+        let units = all_units(alloc, parts)?;
         holds(
             alloc,
             "units unchanged",
@@ -120,11 +156,7 @@ impl NoteRow {
             None => false,
         };
         holds(alloc, "note unchanged", same)?;
-        holds(
-            alloc,
-            "claims unchanged",
-            claims.as_slice() == left.claims.as_slice(),
-        )
+        holds(alloc, "claims unchanged", claims == left.claims.as_slice())
     }
 }
 

@@ -5,11 +5,12 @@ use crate::intents::{intent_of, planned};
 use crate::payloads::unit_of;
 use crate::reported::refusal_text;
 use crate::seen::{join, or_none};
-use crate::setup::Setup;
+use crate::setup::{Memory, Setup};
 use crate::table::Row;
 use crate::trouble::Trouble;
 use crate::words::{byte, cells_of, number};
 use crash_points::Intent;
+use flat_machine::Refusal;
 use std::alloc::Global;
 use unit_store::{Micro, Note};
 
@@ -71,39 +72,52 @@ impl Row for PlanRow {
 
     fn run(&self, alloc: Global, setup: &Setup) -> Result<(), Trouble> {
         let mut array = setup.built(alloc)?;
-        match planned(alloc, &mut array, &self.intent)? {
-            Ok(list) => {
-                agree(alloc, "answer", self.answer.as_str(), "list")?;
-                self.is_list(alloc, &list)
-            }
-            Err(refusal) => {
-                let refused = refusal_text(alloc, &refusal)?;
-                agree(alloc, "answer", self.answer.as_str(), refused.as_str())?;
-                agree(alloc, "unit", self.unit.as_str(), "-")?;
-                agree(alloc, "parity", self.parity.as_str(), "-")?;
-                agree(alloc, "writes", self.writes.as_str(), "-")
-            }
-        }
+        self.is_planned(alloc, &mut array)
     }
 }
 
 impl PlanRow {
+    // Whether the array's plan is the row's.
+    fn is_planned(&self, alloc: Global, array: &mut Memory) -> Result<(), Trouble> {
+        match planned(alloc, array, &self.intent)? {
+            Ok(list) => self.is_list(alloc, &list),
+            Err(refusal) => self.is_refusal(alloc, &refusal),
+        }
+    }
+
+    fn is_refusal(&self, alloc: Global, refusal: &Refusal) -> Result<(), Trouble> {
+        let refused = refusal_text(alloc, refusal)?;
+        agree(alloc, "answer", self.answer.as_str(), refused.as_str())?;
+        agree(alloc, "unit", self.unit.as_str(), "-")?;
+        agree(alloc, "parity", self.parity.as_str(), "-")?;
+        agree(alloc, "writes", self.writes.as_str(), "-")
+    }
+
     // Whether the list is a note, writes, and the note cleared, as the row says.
     fn is_list(&self, alloc: Global, list: &[Micro]) -> Result<(), Trouble> {
+        agree(alloc, "answer", self.answer.as_str(), "list")?;
         let [Micro::NoteSet(note), writes @ .., Micro::NoteClear] = list else {
             return agree(alloc, "answer", "list", "a list of another form");
         };
-        self.is_note(alloc, note)?;
+        self.is_noted_slot(alloc, note)?;
+        self.is_noted_unit(alloc, note)?;
+        self.is_noted_parity(alloc, note)?;
         let writes = found_writes(alloc, writes)?;
         agree(alloc, "writes", self.writes.as_str(), writes.as_str())
     }
 
-    fn is_note(&self, alloc: Global, note: &Note) -> Result<(), Trouble> {
+    fn is_noted_slot(&self, alloc: Global, note: &Note) -> Result<(), Trouble> {
         let slot = format!(in alloc; "{}", note.slot)?;
         let expected = format!(in alloc; "{}", slot_of(&self.intent))?;
-        agree(alloc, "slot of the note", expected.as_str(), slot.as_str())?;
+        agree(alloc, "slot of the note", expected.as_str(), slot.as_str())
+    }
+
+    fn is_noted_unit(&self, alloc: Global, note: &Note) -> Result<(), Trouble> {
         let unit = hex::encode(alloc, note.unit.as_slice())?;
-        agree(alloc, "unit", self.unit.as_str(), unit.as_str())?;
+        agree(alloc, "unit", self.unit.as_str(), unit.as_str())
+    }
+
+    fn is_noted_parity(&self, alloc: Global, note: &Note) -> Result<(), Trouble> {
         let parity = match &note.parity {
             Some(parity) => hex::encode(alloc, parity.as_slice())?,
             None => String::from_str(alloc, "-")?,

@@ -121,18 +121,26 @@ impl Setup {
     /// Each row builds its own, because a stop takes the array apart.
     pub(crate) fn built(&self, alloc: Global) -> Result<Memory, Trouble> {
         let mut world = self.world(alloc)?;
-        for Answered { step, answer } in &self.steps {
-            if !world.fits(step) {
-                return Err(Trouble::Form);
-            }
-            let reported = world.step(alloc, step)?;
-            agree(
-                alloc,
-                "setup",
-                answer.as_str(),
-                answer_text(alloc, &reported)?.as_str(),
-            )?;
+        match take_steps(alloc, &mut world, &self.steps) {
+            Ok(()) => Ok(world.into_array()),
+            Err(trouble) => Err(trouble),
         }
-        Ok(world.into_array())
     }
+}
+
+// Takes the steps. Returns an error unless each is answered as expected.
+fn take_steps(alloc: Global, world: &mut World, steps: &[Answered]) -> Result<(), Trouble> {
+    for answered in steps {
+        take_step(alloc, world, answered)?;
+    }
+    Ok(())
+}
+
+fn take_step(alloc: Global, world: &mut World, answered: &Answered) -> Result<(), Trouble> {
+    if !world.fits(&answered.step) {
+        return Err(Trouble::Form);
+    }
+    let reported = world.step(alloc, &answered.step)?;
+    let found = answer_text(alloc, &reported)?;
+    agree(alloc, "setup", answered.answer.as_str(), found.as_str())
 }

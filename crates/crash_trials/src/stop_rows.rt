@@ -11,8 +11,10 @@ use crate::table::Row;
 use crate::trouble::Trouble;
 use crate::words::{cells_of, drives_of, number};
 use crash_points::Intent;
+use flat_machine::Refusal;
 use map_join::Record;
 use std::alloc::Global;
+use unit_store::Micro;
 
 /// A step, the drives that are lost before its writes, how many entries of its list are carried out, the drives that are
 /// lost after them, and what is expected: whether there is a note, the map after a restart, and what lies at some records'
@@ -123,15 +125,9 @@ impl Row for StopRow {
         self.leaves_no_note(alloc, setup)?;
         let parts = self.stop(alloc, setup)?;
         let note = if parts.note.is_some() { "1" } else { "0" };
-        agree(alloc, "note", self.expected.note.as_str(), note)?;
-        match restarted_whole(alloc, parts)? {
-            Ok(array) => self.is_restarted(alloc, array),
-            Err((fault, _, _)) => agree(
-                alloc,
-                "map",
-                self.expected.map.as_str(),
-                fault_text(alloc, fault)?.as_str(),
-            ),
+        match agree(alloc, "note", self.expected.note.as_str(), note) {
+            Ok(()) => self.is_left(alloc, parts),
+            Err(trouble) => Err(trouble),
         }
     }
 }
@@ -140,23 +136,32 @@ impl StopRow {
     // The parts that the stop and the losses leave.
     fn stop(&self, alloc: Global, setup: &Setup) -> Result<Stopped, Trouble> {
         let mut array = setup.built(alloc)?;
-        let list = match planned(alloc, &mut array, &self.intent)? {
-            Ok(list) => list,
-            Err(refusal) => {
-                agree(
-                    alloc,
-                    "intent",
-                    "list",
-                    refusal_text(alloc, &refusal)?.as_str(),
-                )?;
-                return Err(Trouble::Form);
-            }
-        };
+        match self.list(alloc, &mut array) {
+            Ok(list) => self.stop_in(alloc, array, list),
+            Err(trouble) => Err(trouble),
+        }
+    }
+
+    fn list(&self, alloc: Global, array: &mut Memory) -> Result<Vec<Micro>, Trouble> {
+        match planned(alloc, array, &self.intent)? {
+            Ok(list) => Ok(list),
+            Err(refusal) => no_list(alloc, &refusal),
+        }
+    }
+
+    fn stop_in(&self, alloc: Global, array: Memory, list: Vec<Micro>) -> Result<Stopped, Trouble> {
         let mut parts = stopped(alloc, array)?;
-        lose(&mut parts, &self.losses.between)?;
-        run(&mut parts, list, self.entries as usize)?;
-        lose(&mut parts, &self.losses.then)?;
-        Ok(parts)
+        match self.carry_out(&mut parts, list) {
+            Ok(()) => Ok(parts),
+            Err(trouble) => Err(trouble),
+        }
+    }
+
+    // Carries out the first entries of the list, between the losses.
+    fn carry_out(&self, parts: &mut Stopped, list: Vec<Micro>) -> Result<(), Trouble> {
+        lose(parts, &self.losses.between)?;
+        run(parts, list, self.entries as usize)?;
+        lose(parts, &self.losses.then)
     }
 
     // Whether a restart without a claim, which finishes the note and then is refused, leaves no note.
@@ -168,17 +173,50 @@ impl StopRow {
         }
     }
 
+    // Whether a restart of the parts answers as the row says.
+    fn is_left(&self, alloc: Global, parts: Stopped) -> Result<(), Trouble> {
+        match restarted_whole(alloc, parts)? {
+            Ok(array) => self.is_restarted(alloc, array),
+            Err((fault, _, _)) => {
+                let found = fault_text(alloc, fault)?;
+                agree(alloc, "map", self.expected.map.as_str(), found.as_str())
+            }
+        }
+    }
+
     // Whether the array is as the row says, and its units agree.
     fn is_restarted(&self, alloc: Global, array: Memory) -> Result<(), Trouble> {
         let mut array = array;
-        let map = map_text(alloc, &mut array)?;
-        agree(alloc, "map", self.expected.map.as_str(), map.as_str())?;
-        let at = at_all(alloc, &mut array, &self.expected.records)?;
-        agree(alloc, "at", self.expected.at.as_str(), at.as_str())?;
-        let mut parts = stopped(alloc, array)?;
-        holds(alloc, "equal copies", are_equal(alloc, &mut parts)?)?;
-        holds(alloc, "zero sums", add_up(alloc, &mut parts)?)
+        match self.is_mapped(alloc, &mut array) {
+            Ok(()) => agrees(alloc, array),
+            Err(trouble) => Err(trouble),
+        }
     }
+
+    fn is_mapped(&self, alloc: Global, array: &mut Memory) -> Result<(), Trouble> {
+        let map = map_text(alloc, array)?;
+        agree(alloc, "map", self.expected.map.as_str(), map.as_str())?;
+        let at = at_all(alloc, array, &self.expected.records)?;
+        agree(alloc, "at", self.expected.at.as_str(), at.as_str())
+    }
+}
+
+// Where a list is expected, and the step is refused.
+fn no_list(alloc: Global, refusal: &Refusal) -> Result<Vec<Micro>, Trouble> {
+    let found = refusal_text(alloc, refusal)?;
+    agree(alloc, "intent", "list", found.as_str())?;
+    Err(Trouble::Form)
+}
+
+// Whether copies are equal and rows add up.
+fn agrees(alloc: Global, array: Memory) -> Result<(), Trouble> {
+    let mut parts = stopped(alloc, array)?;
+    agree_in(alloc, &mut parts)
+}
+
+fn agree_in(alloc: Global, parts: &mut Stopped) -> Result<(), Trouble> {
+    holds(alloc, "equal copies", are_equal(alloc, parts)?)?;
+    holds(alloc, "zero sums", add_up(alloc, parts)?)
 }
 
 // What lies at the places of these records.
