@@ -1,13 +1,18 @@
-// Runs of steps over a drive of one's own that a run can add and lose.
+// Steps and a script's commands over a drive of one's own that a run can add and lose.
 ghost use Rattle.std.specs.Prelude.{◌≡◌, true};
 ghost use Rattle.extents.specs.Failures.{no_failures, settled};
 
 use crate::asserts::check;
-use crate::rig::{shape_of, world_of};
+use crate::commands::{
+    four_groups, is_shift, reads_all, small_shape, trim, use_balance, use_plans,
+};
+use crate::rig::{shape_of, world_with};
+use crate::steps::{fill, make, push, run_all};
 use extents::{Drive, DriveLost, HotSwap, MemDrive, Shape};
 use std::alloc::{Alloc, AllocError, Global};
 use std::process::Abort;
-use step_core::{Answer, Class, Member, Refusal, Step, World, run_fixed, run_steps};
+use step_core::{Answer, Class, Refusal, Step, World, run_steps};
+use tiered_array::{Regrouped, Tiers};
 
 // A drive, and how many reads and writes it was asked for.
 #[derive(Drop)]
@@ -69,55 +74,27 @@ impl<D: HotSwap> HotSwap for Counted<D> {
     }
 }
 
-fn counted_world(rt: &impl Abort, alloc: Global) -> World<Counted<MemDrive>> {
-    let shape = shape_of(rt);
+fn counted_drives(rt: &impl Abort, alloc: Global, shape: &Shape) -> Vec<Counted<MemDrive>> {
     let mut drives = Vec::new(alloc);
     for _made in 0..4 {
-        let Ok(drive) = Counted::fresh(alloc, &shape) else {
+        let Ok(drive) = Counted::fresh(alloc, shape) else {
             rt.panic("no drive")
         };
         let pushed = drives.push(drive).is_ok();
         check!(rt; pushed);
     }
-    world_of(rt, alloc, drives)
+    drives
 }
 
-fn push(rt: &impl Abort, steps: &mut Vec<Step>, step: Step) {
-    let pushed = steps.push(step).is_ok();
-    check!(rt; pushed);
-}
-
-fn members(rt: &impl Abort, alloc: Global, numbers: [u8; 3], extent: u16) -> Vec<Member> {
-    let Ok(members) = Vec::from_array(alloc, numbers.map(|drive| Member { drive, extent })) else {
-        rt.panic("no memory")
-    };
-    members
-}
-
-fn payload(rt: &impl Abort, alloc: Global, byte: u8) -> Vec<u8> {
-    let Ok(payload) = Vec::from_array(alloc, [byte, 1, 2, 3, 4, 5, 6, 7]) else {
-        rt.panic("no memory")
-    };
-    payload
+fn counted_world(rt: &impl Abort, alloc: Global, shape: Shape) -> World<Counted<MemDrive>> {
+    world_with(rt, alloc, shape, counted_drives(rt, alloc, &shape))
 }
 
 // A mirrored group; worker 2 writes block 3 into slot 4, worker 5 reads it.
 fn opening(rt: &impl Abort, alloc: Global) -> Vec<Step> {
     let mut steps = Vec::new(alloc);
-    let class = Class::Mirrored;
-    let members = members(rt, alloc, [0, 1, 2], 0);
-    push(rt, &mut steps, Step::Make { class, members });
-    push(rt, &mut steps, Step::Claim { worker: 2, slot: 4 });
-    let payload = payload(rt, alloc, 9);
-    push(
-        rt,
-        &mut steps,
-        Step::Fill {
-            worker: 2,
-            slot: 4,
-            payload,
-        },
-    );
+    make(rt, alloc, &mut steps, Class::Mirrored, [0, 1, 2], 0);
+    fill(rt, alloc, &mut steps, 2, 4, [9, 1, 2, 3, 4, 5, 6, 7]);
     push(
         rt,
         &mut steps,
@@ -143,7 +120,7 @@ fn is_read(answer: Option<&Answer>) -> bool {
 #[test]
 fn a_run_adds_and_loses_drives_of_ones_own(rt: HostRuntime) {
     let alloc = rt.alloc();
-    let world = counted_world(&rt, alloc);
+    let world = counted_world(&rt, alloc, shape_of(&rt));
     let mut steps = opening(&rt, alloc);
     push(&rt, &mut steps, Step::Lose { drive: 1 });
     push(&rt, &mut steps, Step::AddDrive);
@@ -165,18 +142,45 @@ fn a_run_adds_and_loses_drives_of_ones_own(rt: HostRuntime) {
     check!(rt; matches!(answers.get(8), Some(Answer::Refused(Refusal::BadMember))));
 }
 
-// The same steps without a loss run over drives of any kind.
+// The steps without a loss run over drives of any kind.
 #[test]
 fn steps_that_swap_no_drive_run_over_any_kind(rt: HostRuntime) {
     let alloc = rt.alloc();
-    let world = counted_world(&rt, alloc);
-    let steps = opening(&rt, alloc);
-    check!(rt; steps.iter().all(|step| world.fits(step)));
-    check!(rt; steps.iter().all(|step| step.swaps_no_drive()));
-    let Ok(run) = run_fixed(alloc, world, &steps) else {
-        rt.panic("stopped")
-    };
-    check!(rt; is_read(run.answers.get(4)));
-    check!(rt; !Step::AddDrive.swaps_no_drive());
-    check!(rt; !Step::Lose { drive: 0 }.swaps_no_drive());
+    run_all(&rt, alloc, counted_world(&rt, alloc, shape_of(&rt)));
+    check!(&rt; !Step::AddDrive.swaps_no_drive());
+    check!(&rt; !Step::Lose { drive: 0 }.swaps_no_drive());
+}
+
+// A script's commands over drives of one's own: plans, an added drive, a balance, a lost drive, and a rebuild.
+#[test]
+fn commands_of_a_script_work_over_counted_drives(rt: HostRuntime) {
+    let alloc = rt.alloc();
+    let world = counted_world(&rt, alloc, small_shape(&rt));
+    let mut tiers = four_groups(&rt, alloc, world);
+    use_plans(&rt, alloc, &mut tiers);
+    check!(&rt; reads_all(&rt, &mut tiers));
+    swap_drives(&rt, alloc, &mut tiers);
+    check!(&rt; reads_all(&rt, &mut tiers));
+    trim(&rt, alloc, &mut tiers, 2);
+}
+
+fn swap_drives(rt: &impl Abort, alloc: Global, tiers: &mut Tiers<Counted<MemDrive>>) {
+    let none = matches!(tiers.balance(), Ok(Regrouped::Nothing));
+    check!(rt; none);
+    let added = matches!(tiers.add_drive(alloc), Ok(Answer::Added(4)));
+    check!(rt; added);
+    let balanced = is_shift(tiers.balance(), 0, 0, (4, 0));
+    check!(rt; balanced);
+    let lost = matches!(tiers.lose(1), Answer::Lost(1));
+    check!(rt; lost);
+    let rebuilt = is_shift(tiers.rebuild(1), 0, 1, (0, 0));
+    check!(rt; rebuilt);
+    let balanced = is_shift(tiers.balance(), 2, 0, (4, 1));
+    check!(rt; balanced);
+}
+
+#[test]
+fn groups_are_balanced_over_counted_drives(rt: HostRuntime) {
+    let alloc = rt.alloc();
+    use_balance(&rt, alloc, counted_world(&rt, alloc, small_shape(&rt)));
 }

@@ -3,7 +3,9 @@ ghost use Rattle.std.specs.Prelude.{IsTrue};
 ghost use Rattle.unit_store.specs.Fit.{IsFit};
 
 use crate::asserts::check;
-use crate::rig::{demote, grouped, is_record, reads, shape_of, world_of, write};
+use crate::commands::{four_groups, reads_all, small_shape, trim, use_balance, use_plans};
+use crate::rig::{demote, grouped, is_record, reads, shape_of, world_with, write};
+use crate::steps::run_all;
 use extents::{Drive, Shape};
 use file_drive::{FileDrive, OnFile};
 use header_scan::restart;
@@ -149,14 +151,45 @@ fn restarted(
     tiers
 }
 
+// A world over empty files.
+fn filed_world(
+    rt: &(impl Abort + Files<File = File>),
+    alloc: Global,
+    shape: Shape,
+) -> World<Filed> {
+    for name in NAMES {
+        make_file(rt, name, &shape);
+    }
+    world_with(rt, alloc, shape, open_all(rt, alloc, &shape))
+}
+
+// A file may fail by itself, so a run over files neither adds nor loses a drive.
+#[test]
+fn steps_that_swap_no_drive_run_over_files(rt: HostRuntime) {
+    let alloc = rt.alloc();
+    run_all(&rt, alloc, filed_world(&rt, alloc, shape_of(&rt)));
+}
+
+#[test]
+fn commands_of_a_script_work_over_files(rt: HostRuntime) {
+    let alloc = rt.alloc();
+    let world = filed_world(&rt, alloc, small_shape(&rt));
+    let mut tiers = four_groups(&rt, alloc, world);
+    use_plans(&rt, alloc, &mut tiers);
+    check!(&rt; reads_all(&rt, &mut tiers));
+    trim(&rt, alloc, &mut tiers, 2);
+}
+
+#[test]
+fn groups_are_balanced_over_files(rt: HostRuntime) {
+    let alloc = rt.alloc();
+    use_balance(&rt, alloc, filed_world(&rt, alloc, small_shape(&rt)));
+}
+
 #[test]
 fn blocks_of_two_levels_are_read_from_files_that_were_closed(rt: HostRuntime) {
     let alloc = rt.alloc();
-    let shape = shape_of(&rt);
-    for name in NAMES {
-        make_file(&rt, name, &shape);
-    }
-    let world = world_of(&rt, alloc, open_all(&rt, alloc, &shape));
+    let world = filed_world(&rt, alloc, shape_of(&rt));
     let mut tiers = grouped(&rt, alloc, world);
     use_all(&rt, alloc, &mut tiers);
     check!(rt; holds_all(&rt, &mut tiers));

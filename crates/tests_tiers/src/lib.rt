@@ -4,6 +4,8 @@
 #[cfg(test)]
 mod asserts;
 #[cfg(test)]
+mod commands;
+#[cfg(test)]
 mod counted;
 #[cfg(test)]
 mod files;
@@ -11,5 +13,7 @@ mod files;
 mod rig;
 #[cfg(test)]
 mod room;
+#[cfg(test)]
+mod steps;
 #[cfg(test)]
 mod syncs;

@@ -36,7 +36,16 @@ pub(crate) fn world_of<D: Drive + Drop>(
     alloc: Global,
     drives: Vec<D>,
 ) -> World<D> {
-    let shape = shape_of(rt);
+    world_with(rt, alloc, shape_of(rt), drives)
+}
+
+/// A world of this shape over these drives, with nothing in it.
+pub(crate) fn world_with<D: Drive + Drop>(
+    rt: &impl Abort,
+    alloc: Global,
+    shape: Shape,
+    drives: Vec<D>,
+) -> World<D> {
     check!(rt; 3 <= drives.len() && drives.len() <= 16);
     check!(rt; are_sized(&drives, shape.unit_bytes()));
     check!(rt; have_units(&drives, shape.drive_units()));
@@ -75,7 +84,8 @@ pub(crate) fn grouped<D: Drive + Drop>(
     tiers
 }
 
-fn make<D: Drive>(
+/// Makes a group of these members, each by its drive and its extent.
+pub(crate) fn make<D: Drive>(
     rt: &impl Abort,
     alloc: Global,
     tiers: &mut Tiers<D>,
