@@ -4,7 +4,9 @@
 // RECORD=FILE: each of them that was made is appended to FILE: a kind (1 write, 2 sync, 3 cut), the length of the file's name, the
 // offset and the length of the bytes, in eight bytes each; then the name and the bytes.
 // UNREAD=NAME: reads of a file of that name, at UNREAD_AT or past it, fail with an input/output error.
-// BREAK=NAME: from the N-th of them on, N by BREAK_AT, those of a file of that name fail with an input/output error.
+// BREAK=NAME: from the N-th of them on, N by BREAK_AT, those of a file of that name fail with an input/output error; of all files whose
+// names begin so where NAME ends in a star.
+// FULL=N: the device is full from the N-th on: that write is cut short, and later ones fail.
 #define _GNU_SOURCE
 #include <dlfcn.h>
 #include <errno.h>
@@ -48,6 +50,14 @@ static void record(long kind, int file, off64_t at, const void *from, size_t byt
     if (writev(log, parts, 3) < 0) abort();
 }
 
+// Whether a file has this name, or one that begins so.
+static int is_called(int file, const char *name) {
+    char place[4096];
+    size_t length = strlen(name);
+    const char *own = name_of(file, place, sizeof place);
+    return length && name[length - 1] == '*' ? !strncmp(own, name, length - 1) : !strcmp(own, name);
+}
+
 // Kills the process, or says that the call fails.
 static int stops(int file, const void *from, size_t bytes, off64_t at) {
     long number = ++count;
@@ -57,15 +67,25 @@ static int stops(int file, const void *from, size_t bytes, off64_t at) {
         if (getenv("HALF") && bytes > 1) put(file, from, bytes / 2, at);
         kill(getpid(), SIGKILL);
     }
-    char place[4096];
-    if (!broken || number < (first ? atol(first) : 1) || strcmp(name_of(file, place, sizeof place), broken)) return 0;
+    if (!broken || number < (first ? atol(first) : 1) || !is_called(file, broken)) return 0;
     errno = EIO;
     return 1;
 }
 
+// How many bytes of a write the device takes.
+static ssize_t room_for(size_t bytes) {
+    const char *full = getenv("FULL");
+    if (!full || count < atol(full)) return bytes;
+    if (count == atol(full) && bytes > 1) return bytes / 2;
+    errno = ENOSPC;
+    return -1;
+}
+
 ssize_t pwrite64(int file, const void *from, size_t bytes, off64_t at) {
     if (stops(file, from, bytes, at)) return -1;
-    ssize_t done = put(file, from, bytes, at);
+    ssize_t room = room_for(bytes);
+    if (room < 0) return -1;
+    ssize_t done = put(file, from, room, at);
     if (done > 0) record(1, file, at, from, done);
     return done;
 }
@@ -121,8 +141,7 @@ int fsync(int file) {
 
 static int fails(int file, off64_t at, size_t bytes) {
     const char *name = getenv("UNREAD"), *from = getenv("UNREAD_AT");
-    char place[4096];
-    if (!name || at + (off64_t)bytes <= (from ? atol(from) : 0) || strcmp(name_of(file, place, sizeof place), name)) return 0;
+    if (!name || at + (off64_t)bytes <= (from ? atol(from) : 0) || !is_called(file, name)) return 0;
     errno = EIO;
     return 1;
 }

@@ -9,7 +9,7 @@ use crate::opened::{
     OpenFiles, Use, groups_in, header_of, layout_of, open_array, open_disk_files, open_file,
     open_vault, trouble_of,
 };
-use crate::places::places_with;
+use crate::places::{places_with, test_names};
 use crate::progress;
 use crate::replace::{make_fresh, rename};
 use crate::table::Table;
@@ -222,6 +222,7 @@ pub(crate) fn add(rt: &HostRuntime, folder: Folder<'_>, path: Option<&str>) -> R
         without: None,
     };
     let table = table.with_drives(number + 1);
+    test_names(rt, grown, table.drives)?;
     say(rt, folder, number);
     let added = add_prepared(rt, grown, table, number, path.is_some());
     progress::end(rt, folder);

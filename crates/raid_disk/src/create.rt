@@ -6,6 +6,7 @@ use crate::identity::new_identity;
 use crate::opened::{file_bytes, groups_of, header_of, layout_of};
 use crate::pair_files::PairFiles;
 use crate::pairs::{Pair, Pairs, join_pairs};
+use crate::places::test_names;
 use crate::table::Table;
 use crate::texts::{write_places, write_table};
 use crate::trouble::{Trouble, unwritten};
@@ -88,6 +89,7 @@ fn look(rt: &HostRuntime, folder: Folder<'_>, drives: u8) -> Result<(), Trouble>
         Name::Table,
         Name::TableCopy,
         Name::Fresh,
+        Name::FreshCopy,
         Name::OneState,
         Name::State(Twin::First),
         Name::State(Twin::Second),
@@ -213,6 +215,7 @@ pub(crate) fn create_disk(
     let identity = Uuid::from_bytes(number);
     let layout = layout_of(&plan, plan.drives);
     make_folder(rt, folder)?;
+    test_names(rt, folder, drives)?;
     look(rt, folder, drives)?;
     let files = marked_files(rt, folder, &layout, &plan, identity)?;
     make_array(rt, files, &plan)?;

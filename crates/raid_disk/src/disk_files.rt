@@ -2,12 +2,19 @@
 ghost use Rattle.std.specs.Prelude.{◌≡◌, IfSome, length as the_length};
 
 use extents::DRIVES;
-use file_vault::{FileFault, Files, RealFiles};
+use file_vault::{FileFault, Files, JOURNAL, RealFiles, SECOND, TABLE_FILE, TABLE_SECOND};
 use std::alloc::{AllocError, Global};
 use std::fs::File;
+use vault::TABLE;
 
 /// Bytes that are read at once while nothing is written.
 const READ_AHEAD: usize = 65_536;
+
+/// Where a file of the state has its generation, in eight bytes.
+pub(crate) const OF_STATE: u64 = TABLE_FILE - 8;
+
+/// Where a file of the journal has the generation of the state with which it was begun, as a drive's file has its own.
+pub(crate) const OF_JOURNAL: u64 = 128;
 
 /// Bytes of a file from an offset on.
 #[derive(Drop)]
@@ -57,6 +64,10 @@ pub(crate) struct DiskFiles {
     /// What was read of a drive's file, of which more may be asked next. Only where nothing is written: a server that compares its
     /// units reads each one anew.
     ahead: Piece,
+    /// The state's generation, as its bytes; none where it isn't known yet.
+    generation: Option<[u8; 8]>,
+    /// What each file of the journal has of it, as far as that was written here.
+    stamped: [Option<[u8; 8]>; 2],
 }
 
 impl DiskFiles {
@@ -71,7 +82,39 @@ impl DiskFiles {
             files,
             looks,
             ahead,
+            generation: None,
+            stamped: [None; 2],
         }
+    }
+
+    /// Says which generation the state has.
+    pub(crate) fn set_generation(&mut self, bytes: [u8; 8]) {
+        self.generation = Some(bytes);
+    }
+
+    // Notes the generation that was written to the state.
+    fn note_generation(&mut self, bytes: &[u8]) {
+        let mut generation = [0u8; 8];
+        if bytes.len() == generation.len() {
+            generation.copy_from_slice(bytes);
+            self.set_generation(generation);
+        }
+    }
+
+    // Gives a file of the journal the state's generation, durably, unless it has it. Else a loss of power could leave a batch and not the
+    // generation, and the batch would be taken for one of before.
+    fn stamp(&mut self, file: u8) -> Result<(), FileFault> {
+        let spot = if file == SECOND { 1 } else { 0 };
+        let Some(generation) = self.generation else {
+            return Ok(());
+        };
+        if self.stamped[spot] == Some(generation) {
+            return Ok(());
+        }
+        self.files.write_at(file, OF_JOURNAL, &generation)?;
+        self.files.sync(file)?;
+        self.stamped[spot] = Some(generation);
+        Ok(())
     }
 
     /// Whether nothing is written.
@@ -114,7 +157,14 @@ impl Files for DiskFiles {
         if self.looks {
             return Ok(());
         }
-        self.files.write_at(file, at, bytes)
+        if file == JOURNAL || file == SECOND {
+            self.stamp(file)?;
+        }
+        self.files.write_at(file, at, bytes)?;
+        if at == OF_STATE && (file == TABLE || file == TABLE_SECOND) {
+            self.note_generation(bytes);
+        }
+        Ok(())
     }
 
     fn cut(&mut self, file: u8, at: u64) -> Result<(), FileFault> {

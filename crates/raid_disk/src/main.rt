@@ -17,6 +17,7 @@ mod pair_files;
 mod pairs;
 mod places;
 mod progress;
+mod remains;
 mod remove;
 mod replace;
 mod resting;

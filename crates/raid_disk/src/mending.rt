@@ -1,10 +1,14 @@
 //! Units that aren't as their digests say are computed from the others, and written again.
+ghost use Rattle.extent_groups.specs.declared.class.Class.TheVariants.{Mirrored, Parity};
+ghost use Rattle.extent_groups.specs.Stores.{IsSlotOf};
+
 use crate::any_vault::mend_in;
 use crate::folder::{Folder, Name};
 use crate::opened::{OpenFiles, Use, groups_in, open_disk_files, trouble_of};
+use crate::table::Table;
 use crate::trouble::Trouble;
 use array_recovery::{lost_drives, read_marks};
-use extent_groups::Place;
+use extent_groups::{Class, GROUPS, GroupTable, Place, SLOTS};
 use extents::DRIVES;
 use std::alloc::Global;
 use std::io;
@@ -91,7 +95,18 @@ pub(crate) fn mend_disk(rt: &HostRuntime, folder: Folder<'_>) -> Result<u32, Tro
     mend_opened(rt, folder, files)
 }
 
-// Gives each rotten unit of a drive the digest of its own bytes. Takes a buffer of a unit's length. Returns how many.
+// Gives the unit at a place the digest of its own bytes, if it is rotten. Takes a buffer of a unit's length. Returns how many it was.
+fn accept_unit<V: Vault>(vault: &mut V, place: Place, unit: &mut [u8]) -> Result<u32, VaultError> {
+    // Of a rotten unit's bytes a vault promises nothing: not another unit's, if it gives none.
+    unit.fill(0);
+    if vault.read_unit(place, unit)? != UnitRead::Rotten {
+        return Ok(0);
+    }
+    vault.write_unit(place, unit)?;
+    Ok(1)
+}
+
+// Does so with each unit of a drive.
 fn accept_drive<V: Vault>(
     vault: &mut V,
     drive: u8,
@@ -100,15 +115,60 @@ fn accept_drive<V: Vault>(
 ) -> Result<u32, VaultError> {
     let mut count = 0u32;
     for address in 0..units {
-        let place = Place { drive, address };
-        // Of a rotten unit's bytes a vault promises nothing: not another unit's, if it gives none.
-        unit.fill(0);
-        if vault.read_unit(place, unit)? == UnitRead::Rotten {
-            vault.write_unit(place, unit)?;
-            count = count.saturating_add(1);
-        }
+        let more = accept_unit(vault, Place { drive, address }, unit)?;
+        count = count.saturating_add(more);
     }
     Ok(count)
+}
+
+// Does so with both copies of a mirrored slot.
+fn accept_pair<V: Vault>(
+    vault: &mut V,
+    groups: &GroupTable,
+    slot: u16,
+    unit: &mut [u8],
+) -> Result<u32, VaultError>
+    requires { IsSlotOf Mirrored groups.now slot }
+{
+    let (first, second) = groups.pair_of(slot);
+    let count = accept_unit(vault, first, unit)?;
+    Ok(count.saturating_add(accept_unit(vault, second, unit)?))
+}
+
+// Does so with each unit of a parity slot's row.
+fn accept_row<V: Vault>(
+    vault: &mut V,
+    groups: &GroupTable,
+    slot: u16,
+    unit: &mut [u8],
+) -> Result<u32, VaultError>
+    requires { IsSlotOf Parity groups.now slot }
+{
+    let at = groups.row_of(slot);
+    let mut count = 0u32;
+    for member in 0..groups.members(slot / SLOTS).len() as u8 {
+        let place = groups.place(slot / SLOTS, member, at.offset);
+        let more = accept_unit(vault, place, unit)?;
+        count = count.saturating_add(more);
+    }
+    Ok(count)
+}
+
+// Does so with a slot's copies, or the units of its row.
+fn accept_slot<V: Vault>(
+    vault: &mut V,
+    groups: &GroupTable,
+    slot: u16,
+    unit: &mut [u8],
+) -> Result<u32, VaultError> {
+    if slot % SLOTS >= groups.slots_of(slot / SLOTS) {
+        return Ok(0);
+    }
+    match groups.class_of(slot / SLOTS) {
+        Some(Class::Mirrored) => accept_pair(vault, groups, slot, unit),
+        Some(Class::Parity) => accept_row(vault, groups, slot, unit),
+        None => Ok(0),
+    }
 }
 
 // Takes all rotten units of the drives that aren't lost as they are.
@@ -146,8 +206,130 @@ fn accept_opened<V: Vault + Drop>(alloc: Global, files: OpenFiles<V>) -> Result<
     accept_units(alloc, &mut files, &lost)
 }
 
-/// Takes units that aren't as their digests say, and can't be computed, as they are. Returns how many.
-pub(crate) fn accept_disk(rt: &HostRuntime, folder: Folder<'_>) -> Result<u32, Trouble> {
+// Takes the rotten units of a slot's row as they are, of a vault that is settled.
+fn accept_slot_of<V: Vault>(
+    alloc: Global,
+    vault: &mut V,
+    table: &Table,
+    slot: u16,
+) -> Result<u32, Trouble> {
+    let spelled = groups_in(alloc, vault, table)?;
+    let mut unit = vec![in alloc; 0u8; table.plan.shape.unit_bytes()]?;
+    match accept_slot(vault, &spelled.groups, slot, &mut unit) {
+        Ok(count) => Ok(count),
+        Err(error) => Err(Trouble::Vault(error)),
+    }
+}
+
+// Does so with a disk that is open.
+fn accept_slot_opened<V: Vault + Drop>(
+    alloc: Global,
+    files: OpenFiles<V>,
+    slot: u16,
+) -> Result<u32, Trouble> {
+    let mut files = files;
+    let table = files.table;
+    let count = accept_slot_of(alloc, &mut files.vault, &table, slot)?;
+    match files.vault.sync_units(&[false; DRIVES]) {
+        Ok(()) => Ok(count),
+        Err(error) => Err(Trouble::Vault(error)),
+    }
+}
+
+// Takes the rotten units of a slot's row as they are, after `mend_disk` refused for them: it has settled the disk, of which no drive is
+// lost.
+fn accept_slot_of_disk(rt: &HostRuntime, folder: Folder<'_>, slot: u16) -> Result<u32, Trouble> {
+    let (_lock, files) = open_disk_files(rt, folder, Use::Serves)?;
+    accept_slot_opened(rt.alloc(), files, slot)
+}
+
+// Takes all units that aren't as their digests say as they are. Returns how many.
+fn accept_disk(rt: &HostRuntime, folder: Folder<'_>) -> Result<u32, Trouble> {
     let (_lock, files) = open_disk_files(rt, folder, Use::Serves)?;
     accept_opened(rt.alloc(), files)
+}
+
+/// Units that were mended, and that were taken as they are.
+#[derive(Clone, Copy)]
+pub(crate) struct Mended {
+    pub(crate) computed: u32,
+    pub(crate) accepted: u32,
+}
+
+// How many units of a drive aren't as their digests say. Takes a buffer of a unit's length.
+fn count_drive<V: Vault>(
+    vault: &mut V,
+    drive: u8,
+    units: u32,
+    unit: &mut [u8],
+) -> Result<u32, VaultError> {
+    let mut count = 0u32;
+    for address in 0..units {
+        if vault.read_unit(Place { drive, address }, unit)? == UnitRead::Rotten {
+            count = count.saturating_add(1);
+        }
+    }
+    Ok(count)
+}
+
+// How many units of a disk that is open aren't as their digests say.
+fn count_opened<V: Vault + Drop>(alloc: Global, files: OpenFiles<V>) -> Result<u32, Trouble> {
+    let mut files = files;
+    let plan = files.table.plan;
+    let mut unit = vec![in alloc; 0u8; plan.shape.unit_bytes()]?;
+    let mut count = 0u32;
+    for drive in 0..files.table.drives {
+        match count_drive(&mut files.vault, drive, plan.shape.drive_units(), &mut unit) {
+            Ok(more) => count = count.saturating_add(more),
+            Err(error) => return Err(Trouble::Vault(error)),
+        }
+    }
+    Ok(count)
+}
+
+fn count_rotten(rt: &HostRuntime, folder: Folder<'_>) -> Result<u32, Trouble> {
+    let (_lock, files) = open_disk_files(rt, folder, Use::Serves)?;
+    count_opened(rt.alloc(), files)
+}
+
+// Mends the units of a disk after `mend_disk` refused to, and takes the units of those rows as they are for which it does.
+fn accept_rows(rt: &HostRuntime, folder: Folder<'_>) -> Result<Mended, Trouble> {
+    let rotten = count_rotten(rt, folder)?;
+    let mut accepted = 0u32;
+    // A row is accepted at each turn.
+    for _turn in 0..GROUPS as u32 * SLOTS as u32 {
+        match mend_disk(rt, folder) {
+            Err(Trouble::RottenTwice(slot)) => {
+                let more = accept_slot_of_disk(rt, folder, slot)?;
+                if more == 0 {
+                    return Err(Trouble::RottenTwice(slot));
+                }
+                accepted = accepted.saturating_add(more);
+            }
+            // What could be computed is written; rows that were accepted may contradict themselves.
+            Ok(_) | Err(Trouble::RottenAndUnsound(_)) => {
+                return Ok(Mended {
+                    computed: rotten.saturating_sub(accepted),
+                    accepted,
+                });
+            }
+            Err(trouble) => return Err(trouble),
+        }
+    }
+    Err(Trouble::Unsound)
+}
+
+/// Mends the units of a disk, and takes those as they are that can't be computed: two or more of one row, or any if a drive is lost.
+pub(crate) fn mend_or_accept(rt: &HostRuntime, folder: Folder<'_>) -> Result<Mended, Trouble> {
+    match mend_disk(rt, folder) {
+        Err(Trouble::RottenTwice(_)) => accept_rows(rt, folder),
+        Err(Trouble::RottenAndLost(_)) => Ok(Mended {
+            computed: 0,
+            accepted: accept_disk(rt, folder)?,
+        }),
+        mended => Ok(Mended {
+            computed: mended?,
+            accepted: 0,
+        }),
+    }
 }

@@ -2,8 +2,11 @@
 use crate::drives::{Drives, path_at};
 use crate::folder::{Folder, Name};
 use drive_places::{Choice, Sight, Verdict, choose};
+use history::Chronicle;
+use journaled_store::JournaledStore;
 use std::alloc::AllocError;
 use std::io;
+use vault::Vault;
 
 // What was seen at a path.
 fn put_fact(text: &mut String, path: &str, sight: Sight) -> Result<(), AllocError> {
@@ -134,4 +137,20 @@ pub(crate) fn note_marked(rt: &HostRuntime, folder: Folder<'_>, drive: u8) -> io
     eprintln!(rt;
         "raid_disk: {path} is an older copy, failed, or was lost before: drive {drive} is lost until it is replaced"
     )
+}
+
+/// Names the drives whose files are there and that are lost, on standard error.
+pub(crate) fn name_lost<N: Chronicle, V: Vault + Drop>(
+    rt: &HostRuntime,
+    folder: Folder<'_>,
+    store: &JournaledStore<N, V>,
+    drives: &Drives,
+) -> io::Result<()> {
+    let array = store.world().array();
+    for drive in 0..array.drive_count() {
+        if array.is_lost(drive) && drives.verdict(drive) == Verdict::Present {
+            note_marked(rt, folder, drive)?;
+        }
+    }
+    Ok(())
 }

@@ -1,6 +1,6 @@
 //! What a disk has in two files: its state, and its journal.
 use crate::create::write_zeros;
-use crate::disk_files::DiskFiles;
+use crate::disk_files::{DiskFiles, OF_JOURNAL, OF_STATE};
 use crate::folder::{Folder, Name};
 use crate::opened::{Use, header_of, open_file};
 use crate::pair_files::{JournalFiles, PairFiles};
@@ -9,8 +9,8 @@ use crate::trouble::{Trouble, unread};
 use extent_groups::Place;
 use extents::DRIVES;
 use file_vault::{
-    Files, Header, Held, Layout, TABLE_SECOND, Twin, TwinFiles, read_count, read_header,
-    write_header,
+    FileFault, Files, HEADER, Header, Held, Layout, TABLE_SECOND, Twin, TwinFiles, read_count,
+    read_header, write_header,
 };
 use std::fs::{File, OpenOptions};
 use std::io;
@@ -214,7 +214,7 @@ fn make_blank(rt: &HostRuntime, folder: Folder<'_>, name: Name, length: u64) -> 
         .truncate(true)
         .open(rt, &path)?;
     write_zeros(&mut file, length)?;
-    folder.sync(rt)?;
+    folder.sync_above(rt, name)?;
     Ok(file)
 }
 
@@ -343,6 +343,53 @@ fn find_pair(
     Ok(found)
 }
 
+// The number of a file of a pair that is there and as new.
+fn current(pair: Pair, found: &Conditions) -> u8 {
+    if found.first == Condition::Present {
+        pair.number(Twin::First)
+    } else {
+        pair.number(Twin::Second)
+    }
+}
+
+// The number that a generation's bytes are: each is the difference of a digit of base 256 to the digit above it, the lowest first.
+fn generation_of(bytes: &[u8; 8]) -> u64 {
+    let mut digit = 0u8;
+    let mut number = 0u64;
+    for byte in bytes.iter().rev() {
+        digit = digit.wrapping_add(*byte);
+        number = number.wrapping_mul(256).wrapping_add(u64::from(digit));
+    }
+    number
+}
+
+// Whether a journal with batches was begun before the state was raised last but one. One that was begun before the last time is there
+// where a stop came between that and the journal's end; its units are written then, and may be written again.
+fn is_older(files: &mut DiskFiles, journal: u8, state: &[u8; 8]) -> Result<bool, FileFault> {
+    let mut begun = [0u8; 8];
+    files.read_at(journal, OF_JOURNAL, &mut begun)?;
+    let mut batch = [0u8; 1];
+    files.read_at(journal, HEADER, &mut batch)?;
+    // A file of before the journal had a generation has zeros.
+    let is_known = begun != [0; 8] && batch != [0];
+    Ok(is_known && generation_of(&begun).saturating_add(1) < generation_of(state))
+}
+
+// Refuses a journal that was set back, in both files: its units would be written over newer ones.
+fn test_journal(files: &mut DiskFiles, pairs: &Pairs) -> Result<(), Trouble> {
+    let mut state = [0u8; 8];
+    let read = files.read_at(current(Pair::State, &pairs.state), OF_STATE, &mut state);
+    if read.is_err() {
+        return Err(Trouble::NoState);
+    }
+    files.set_generation(state);
+    match is_older(files, current(Pair::Journal, &pairs.journal), &state) {
+        Ok(false) => Ok(()),
+        Ok(true) => Err(Trouble::OlderJournal),
+        Err(_) => Err(Trouble::NoJournal),
+    }
+}
+
 // Takes the two files with the journal's numbers as one, of which the newer one is copied over the other.
 fn join<F: Files + Drop>(
     files: F,
@@ -379,6 +426,7 @@ pub(crate) fn open_pairs(
         state: find_pair(rt, folder, &mut files, layout, table, Pair::State, usage)?,
         journal: find_pair(rt, folder, &mut files, layout, table, Pair::Journal, usage)?,
     };
+    test_journal(&mut files, &pairs)?;
     let found = pairs;
     let files = join_pairs(files, &mut pairs)?;
     // Of a disk that is only looked at nothing is written, and no file fails by that.

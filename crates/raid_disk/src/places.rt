@@ -1,9 +1,28 @@
-//! The disk's own text of the places of its drives' files.
+//! The disk's own text of the places of its drives' files, and that no two files of a disk have one name.
 use crate::folder::{Folder, Name};
 use crate::trouble::{Trouble, unread};
 use drive_places::places_in;
 use extents::DRIVES;
+use file_vault::Twin;
 use std::{fs, io};
+
+// The names of a disk's own files in its folder.
+const OWN: [Name; 14] = [
+    Name::Table,
+    Name::TableCopy,
+    Name::Fresh,
+    Name::FreshCopy,
+    Name::State(Twin::First),
+    Name::State(Twin::Second),
+    Name::OneState,
+    Name::Journal(Twin::First),
+    Name::Journal(Twin::Second),
+    Name::OneJournal,
+    Name::Places,
+    Name::Progress,
+    Name::FreshProgress,
+    Name::Scrub,
+];
 
 /// The places of drives' files: those of the folder's text, or none where it has no such text.
 pub(crate) fn read_places(rt: &HostRuntime, folder: Folder<'_>) -> Result<Vec<String>, Trouble> {
@@ -76,4 +95,61 @@ pub(crate) fn owned(rt: &HostRuntime, words: Option<&[&str]>) -> Result<Vec<Stri
         paths.push(String::from_str(rt.alloc(), words[index])?)?;
     }
     Ok(paths)
+}
+
+// A path from the root on, without the links of its folder if that is there.
+fn whole_path(rt: &HostRuntime, path: &str) -> Result<String, Trouble> {
+    let path = absolute(rt, path)?;
+    let found = match path.rsplit_once("/") {
+        Some((above, own)) if !above.is_empty() => joined(rt, above, own)?,
+        _ => None,
+    };
+    Ok(found.unwrap_or(path))
+}
+
+// A folder's path without links, with a name; none if there is no such folder.
+fn joined(rt: &HostRuntime, above: &str, own: &str) -> Result<Option<String>, Trouble> {
+    match fs::canonicalize(rt, above) {
+        Ok(folder) => {
+            let folder = folder.into_string();
+            Ok(Some(format!(in rt.alloc(); "{folder}/{own}")?))
+        }
+        Err(error) if error.kind() == io::ErrorKind::OutOfMemory => Err(Trouble::Memory),
+        Err(_) => Ok(None),
+    }
+}
+
+// Adds a file's path to those of the other files. Refused where it is one of them.
+fn take(
+    rt: &HostRuntime,
+    folder: Folder<'_>,
+    taken: &mut Vec<String>,
+    name: Name,
+) -> Result<(), Trouble> {
+    let named = folder.path(rt.alloc(), name)?;
+    let path = whole_path(rt, &named)?;
+    if taken.iter().any(|other| other.as_str() == path.as_str()) {
+        return Err(Trouble::Taken(path));
+    }
+    taken.push(path)?;
+    Ok(())
+}
+
+/// Tests that no two files of a disk would have one name, with what the file of a drive is called while it is made, and what was at its
+/// place afterwards.
+pub(crate) fn test_names(rt: &HostRuntime, folder: Folder<'_>, drives: u8) -> Result<(), Trouble> {
+    let mut taken = Vec::new(rt.alloc());
+    for name in OWN {
+        take(rt, folder, &mut taken, name)?;
+    }
+    for drive in 0..drives {
+        for name in [
+            Name::Drive(drive),
+            Name::FreshDrive(drive),
+            Name::OldDrive(drive),
+        ] {
+            take(rt, folder, &mut taken, name)?;
+        }
+    }
+    Ok(())
 }

@@ -11,11 +11,12 @@ use crate::opened::{
     OpenFiles, Use, file_bytes, groups_in, header_of, layout_of, open_array, open_disk_files,
     open_vault,
 };
-use crate::places::places_with;
+use crate::places::{places_with, test_names};
 use crate::progress;
+use crate::remains::fresh_file;
 use crate::table::Table;
-use crate::texts::write_places;
-use crate::trouble::{Trouble, unwritten};
+use crate::texts::{write_places, write_table};
+use crate::trouble::{Trouble, unwritten, unwritten_at};
 use cached_drive::Saved;
 use drive_places::{Sight, Verdict};
 use drive_rebuild::{RebuildFault, Watch};
@@ -23,7 +24,7 @@ use file_vault::{Files, RealFiles, write_header};
 use history::{Chronicle, Opened};
 use journaled_store::JournaledStore;
 use std::alloc::AllocError;
-use std::fs::{self, File, OpenOptions};
+use std::fs::{self, File};
 use std::io;
 use std::marker::Brand;
 use vault::Vault;
@@ -152,24 +153,14 @@ pub(crate) fn make_fresh(
     number: u8,
 ) -> Result<(), Trouble> {
     let layout = layout_of(&table.plan, table.drives);
-    let name = Name::FreshDrive(number);
-    let path = folder.path(rt.alloc(), name)?;
-    let made = OpenOptions::new()
-        .read(true)
-        .write(true)
-        .create(true)
-        .truncate(true)
-        .open(rt, &path);
-    let mut file = match made {
-        Ok(file) => file,
-        Err(error) => return Err(unwritten(error, name)),
-    };
+    let header = header_of(&layout, number, table.identity);
+    let path = folder.path(rt.alloc(), Name::FreshDrive(number))?;
+    let mut file = fresh_file(rt, &path, &header)?;
     if let Err(error) = write_zeros(&mut file, file_bytes(&layout, number)) {
-        return Err(unwritten(error, name));
+        return Err(unwritten_at(rt.alloc(), &path, error));
     }
     let mut files = DiskFiles::over(rt.alloc(), RealFiles::new(rt.alloc()), false);
     files.put(number, file)?;
-    let header = header_of(&layout, number, table.identity);
     if write_header(&mut files, &header).is_err() || files.sync(number).is_err() {
         return Err(Trouble::Unwritten(number));
     }
@@ -221,37 +212,42 @@ fn keep_old(rt: &HostRuntime, folder: Folder<'_>, number: u8, sight: Sight) -> R
     Ok(())
 }
 
-// Lets the own place of a drive that is marked be another one, where nothing may be. Says what is at its place.
-fn move_place(
+// Whether the place of a drive that is marked is to be another one, where nothing may be.
+fn is_moved(
     rt: &HostRuntime,
     folder: Folder<'_>,
     placed: Folder<'_>,
     number: u8,
-    sight: Sight,
-) -> Result<Sight, Trouble> {
+) -> Result<bool, Trouble> {
     let name = Name::Drive(number);
     let old = folder.path(rt.alloc(), name)?;
     let new = placed.path(rt.alloc(), name)?;
     if old.as_str() == new.as_str() {
-        return Ok(sight);
+        return Ok(false);
     }
     if is_there(rt, placed, name)? {
         return Err(Trouble::PathThere);
     }
-    write_places(rt, placed)?;
-    Ok(Sight::Absent)
+    Ok(true)
 }
 
-// Gives a drive that is marked a file of zeros, in one piece.
+// Gives a drive that is marked a file of zeros, in one piece, at its own place, or at another one, which is its own from then on.
 fn put_fresh(
     rt: &HostRuntime,
     folder: Folder<'_>,
     table: &Table,
     number: u8,
     sight: Sight,
+    is_moved: bool,
 ) -> Result<(), Trouble> {
     make_fresh(rt, folder, table, number)?;
-    keep_old(rt, folder, number, sight)?;
+    if is_moved {
+        // Once a file can be made there: else the disk would have a place that can't be. The table's copy may lie beside it.
+        write_places(rt, folder)?;
+        write_table(rt, folder, table)?;
+    } else {
+        keep_old(rt, folder, number, sight)?;
+    }
     rename(rt, folder, Name::FreshDrive(number), Name::Drive(number))?;
     match folder.sync_above(rt, Name::Drive(number)) {
         Ok(()) => Ok(()),
@@ -343,8 +339,9 @@ pub(crate) fn replace(
         others: folder.others,
         without: None,
     };
-    let sight = move_place(rt, folder, placed, number, sight)?;
-    put_fresh(rt, placed, &table, number, sight)?;
+    test_names(rt, placed, table.drives)?;
+    let is_moved = is_moved(rt, folder, placed, number)?;
+    put_fresh(rt, placed, &table, number, sight, is_moved)?;
     let rebuilt = rebuild(rt, placed, table, number);
     progress::end(rt, folder);
     rebuilt?;

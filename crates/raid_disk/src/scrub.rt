@@ -1,7 +1,7 @@
 //! All slots of a disk are tested.
 use crate::any_vault::find_drives;
 use crate::folder::Folder;
-use crate::mending::{accept_disk, mend_disk};
+use crate::mending::{Mended, mend_disk, mend_or_accept};
 use crate::opened::{OpenFiles, Use, groups_in, open_disk_files, trouble_of};
 use crate::trouble::Trouble;
 use array_recovery::{Found, RecoveryFault, tiers_of};
@@ -208,16 +208,17 @@ fn print_json(rt: &HostRuntime, report: &Report) -> io::Result<()> {
 // Writes units again that aren't as their digests say, and tests all slots. What can't be computed is taken as it is, if that was asked
 // for.
 fn test_mended(rt: &HostRuntime, folder: Folder<'_>, accepts: bool) -> Result<Report, Trouble> {
-    let mended = mend_disk(rt, folder);
-    let (mended, accepted) = match mended {
-        Err(Trouble::RottenAndLost(_) | Trouble::RottenTwice(_)) if accepts => {
-            (0, accept_disk(rt, folder)?)
+    let mended = if accepts {
+        mend_or_accept(rt, folder)?
+    } else {
+        Mended {
+            computed: mend_disk(rt, folder)?,
+            accepted: 0,
         }
-        mended => (mended?, 0),
     };
     let mut report = test_once(rt, folder)?;
-    report.mended = mended;
-    report.accepted = accepted;
+    report.mended = mended.computed;
+    report.accepted = mended.accepted;
     Ok(report)
 }
 

@@ -6,7 +6,7 @@ use crate::disk_vault::DiskVault;
 use crate::drives::Drives;
 use crate::folder::{Folder, Name};
 use crate::mending::mend_disk;
-use crate::notes::note_marked;
+use crate::notes::name_lost;
 use crate::opened::{OpenFiles, Use, groups_in, open_disk_files, units_in, unopened};
 use crate::pairs::{Condition, Pair, Pairs};
 use crate::progress;
@@ -17,7 +17,6 @@ use array_recovery::RecoveryFault;
 use byte_store::StoreFault;
 use cached_drive::Saved;
 use disk_shape::Plan;
-use drive_places::Verdict;
 use file_vault::Twin;
 use group_form::Spelled;
 use history::{Chronicle, Opened};
@@ -35,22 +34,6 @@ const SAVE_EVERY: u64 = 4096;
 
 /// Bytes that are read from the client at once.
 const READ_AHEAD: usize = 65_536;
-
-// Names the drives whose files are there and that are lost, on standard error.
-fn name_lost<N: Chronicle, V: Vault + Drop>(
-    rt: &HostRuntime,
-    folder: Folder<'_>,
-    store: &JournaledStore<N, V>,
-    drives: &Drives,
-) -> io::Result<()> {
-    let array = store.world().array();
-    for drive in 0..array.drive_count() {
-        if array.is_lost(drive) && drives.verdict(drive) == Verdict::Present {
-            note_marked(rt, folder, drive)?;
-        }
-    }
-    Ok(())
-}
 
 // Names the drives that are lost when the disk is open and while it is served, and writes it for `status`.
 #[derive(Drop)]

@@ -4,6 +4,7 @@ ghost use Rattle.std.specs.Prelude.{◌≡◌};
 use crate::disk_vault::DiskVault;
 use crate::drives::{Drives, path_at};
 use crate::folder::Folder;
+use crate::notes::name_lost;
 use crate::opened::{Disk, OpenFiles, Use, open_array, open_disk_files};
 use crate::pairs::Pair;
 use crate::progress;
@@ -207,6 +208,8 @@ fn show_disk<N: Chronicle, V: Vault + Drop>(
     } else {
         print(rt, folder, disk)
     };
+    // Nothing is left to do where standard error can't be written.
+    let _ = name_lost(rt, folder, &disk.store, &disk.drives);
     match printed {
         Ok(()) => {
             let missing = missing_in(disk.store.world().array());

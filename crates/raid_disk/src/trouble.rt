@@ -6,7 +6,7 @@ use drive_rebuild::RebuildFault;
 use extent_groups::SLOTS;
 use file_vault::{JOURNAL, SECOND, TABLE_SECOND, Twin};
 use nbd_serve::End;
-use std::alloc::{AllocError, AllocFailed};
+use std::alloc::{AllocError, AllocFailed, Global};
 use std::io;
 use vault::{TABLE, VaultError};
 
@@ -45,6 +45,8 @@ pub(crate) enum Trouble {
     NoState,
     /// Neither file of the journal can be read and written, or the newer one can't.
     NoJournal,
+    /// Both files of the journal are older than the state.
+    OlderJournal,
     /// This file of the system's has no number.
     NoNumber(Name),
     /// A file failed while the journal was read.
@@ -79,6 +81,12 @@ pub(crate) enum Trouble {
     Places,
     /// At the path that was given there is something already.
     PathThere,
+    /// Two files of the disk would have this path.
+    Taken(String),
+    /// What is at this path isn't what an earlier attempt has left.
+    InTheWay(String),
+    /// What is at this path can't be written.
+    WriteAt(String, io::Error),
     /// This slot's units contradict one another: the new ones, too, so that the drive stays lost.
     Contradicts(u16),
     /// The unit of this drive at this address isn't as its digest says.
@@ -128,6 +136,7 @@ impl Trouble {
             Trouble::Words(_)
             | Trouble::Read(_, _)
             | Trouble::Write(_, _)
+            | Trouble::WriteAt(_, _)
             | Trouble::Unread(_)
             | Trouble::Unwritten(_)
             | Trouble::NewFails(_)
@@ -155,12 +164,19 @@ impl Trouble {
             Trouble::Earlier => eprintln!(rt;
                 "raid_disk: {at} is a disk of an earlier version: copy its bytes to a new disk with the program that made it"
             ),
-            Trouble::NoState => eprintln!(rt;
-                "raid_disk: neither {at}/state0 nor {at}/state1 can be read and written, or the newer one can't: without it nothing can be read"
+            Trouble::NoState => report_pair(
+                rt,
+                folder,
+                Name::State(Twin::First),
+                Name::State(Twin::Second),
             ),
-            Trouble::NoJournal => eprintln!(rt;
-                "raid_disk: neither {at}/journal0 nor {at}/journal1 can be read and written, or the newer one can't: without it nothing can be read"
+            Trouble::NoJournal => report_pair(
+                rt,
+                folder,
+                Name::Journal(Twin::First),
+                Name::Journal(Twin::Second),
             ),
+            Trouble::OlderJournal => report_older(rt, folder),
             Trouble::Busy => eprintln!(rt; "raid_disk: {at}: another process has the disk"),
             Trouble::Words(error) => eprintln!(rt;
                 "raid_disk: the command line can't be read: {error}"
@@ -289,12 +305,29 @@ impl Trouble {
                 let own = folder.path(rt.alloc(), Name::Drive(*other))?;
                 eprintln!(rt; "raid_disk: {path} is drive {other}'s file: move it to {own}")
             }
+            _ => self.report_path(rt, folder),
+        }
+    }
+
+    // Says why nothing can be written at a path.
+    fn report_path(&self, rt: &HostRuntime, folder: Folder<'_>) -> io::Result<()> {
+        match self {
+            Trouble::Taken(path) => eprintln!(rt;
+                "raid_disk: {path} would be two files of the disk, or what one of them is called while it is replaced: give another path"
+            ),
+            Trouble::InTheWay(path) => eprintln!(rt;
+                "raid_disk: {path} is there already, and isn't what an earlier attempt has left: take it away"
+            ),
+            Trouble::WriteAt(path, error) => eprintln!(rt;
+                "raid_disk: {path} can't be written: {error}"
+            ),
             _ => self.report_new(rt, folder),
         }
     }
 
     // Says why a new file isn't put at a drive's place, or isn't the drive's, or why there is none.
     fn report_new(&self, rt: &HostRuntime, folder: Folder<'_>) -> io::Result<()> {
+        let at = folder.name;
         match self {
             Trouble::NewFails(drive) => {
                 let path = folder.path(rt.alloc(), Name::Drive(*drive))?;
@@ -310,7 +343,7 @@ impl Trouble {
             }
             Trouble::Full => eprintln!(rt; "raid_disk: a disk has 16 drives at most"),
             Trouble::NotLast(drive, last) => eprintln!(rt;
-                "raid_disk: the last drive alone can be removed: remove drive {last}, and then move drive {drive}'s file to where that one's was"
+                "raid_disk: the last drive alone can be removed: remove drive {last}; then drive {drive}'s file may be moved to where that one's was, if {at}/places has a line drive {drive} PATH"
             ),
             Trouble::Needed(drive) => eprintln!(rt;
                 "raid_disk: drive {drive} can't be removed: the others have no room for what it has, or there would be fewer than 3"
@@ -383,6 +416,22 @@ fn name_of(number: u8) -> Name {
     }
 }
 
+fn report_pair(rt: &HostRuntime, folder: Folder<'_>, first: Name, second: Name) -> io::Result<()> {
+    let one = folder.path(rt.alloc(), first)?;
+    let other = folder.path(rt.alloc(), second)?;
+    eprintln!(rt;
+        "raid_disk: neither {one} nor {other} can be read and written, or the newer one can't: without it nothing can be read"
+    )
+}
+
+fn report_older(rt: &HostRuntime, folder: Folder<'_>) -> io::Result<()> {
+    let one = folder.path(rt.alloc(), Name::Journal(Twin::First))?;
+    let other = folder.path(rt.alloc(), Name::Journal(Twin::Second))?;
+    eprintln!(rt;
+        "raid_disk: {one} and {other} are older copies, and would be written over newer units: put the newer ones back"
+    )
+}
+
 fn report_shape(rt: &HostRuntime, fault: &ShapeFault) -> io::Result<()> {
     match fault {
         ShapeFault::Drives => eprintln!(rt; "raid_disk: a disk has 3 to 16 drives"),
@@ -401,6 +450,14 @@ pub(crate) fn unread(error: io::Error, name: Name) -> Trouble {
     match error.kind() {
         io::ErrorKind::OutOfMemory => Trouble::Memory,
         _ => Trouble::Read(name, error),
+    }
+}
+
+/// The trouble of a path where no file can be written.
+pub(crate) fn unwritten_at(alloc: Global, path: &str, error: io::Error) -> Trouble {
+    match String::from_str(alloc, path) {
+        Ok(path) if error.kind() != io::ErrorKind::OutOfMemory => Trouble::WriteAt(path, error),
+        _ => Trouble::Memory,
     }
 }
 
