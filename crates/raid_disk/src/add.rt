@@ -4,6 +4,7 @@ ghost use Rattle.std.specs.Prelude.{◌≡◌};
 use crate::any_vault::{add_to, settle_store};
 use crate::create::is_there;
 use crate::disk_vault::DiskVault;
+use crate::drives::Drives;
 use crate::folder::{Folder, Name};
 use crate::opened::{
     OpenFiles, Use, groups_in, header_of, layout_of, open_array, open_disk_files, open_file,
@@ -11,6 +12,7 @@ use crate::opened::{
 };
 use crate::places::{places_with, test_names};
 use crate::progress;
+use crate::remains::is_file;
 use crate::replace::{make_fresh, rename};
 use crate::table::Table;
 use crate::texts::{write_places, write_table};
@@ -56,6 +58,16 @@ fn settle_opened<N: Chronicle, V: Vault + Drop>(
     Ok(store.world().array().drive_count())
 }
 
+// Refuses to take the last drive's place away while another drive's file is there, or one is at any place but its own.
+fn test_places(drives: &Drives, count: u8) -> Result<(), Trouble> {
+    for drive in 0..count {
+        if drives.elsewhere(drive).is_some() {
+            return Err(Trouble::Elsewhere(drive));
+        }
+    }
+    Ok(())
+}
+
 // Settles a disk whose files are open.
 fn settle_files<N: Chronicle, V: Vault + Drop>(
     rt: &HostRuntime,
@@ -67,6 +79,9 @@ fn settle_files<N: Chronicle, V: Vault + Drop>(
     requires { opened ≡ N.chronicle }
 {
     let mut disk = open_array::<N, V>(rt, folder, files, 0, opened)?;
+    if spare.is_some() {
+        test_places(&disk.drives, disk.table.drives)?;
+    }
     settle_opened(&mut disk.store, spare)
 }
 
@@ -92,6 +107,10 @@ pub(crate) fn is_made(
     table: &Table,
     number: u8,
 ) -> Result<bool, Trouble> {
+    let path = folder.path(rt.alloc(), Name::Drive(number))?;
+    if !is_file(rt, &path) {
+        return Ok(false);
+    }
     let Some(file) = open_file(rt, folder, Name::Drive(number), Use::Looks)? else {
         return Ok(false);
     };

@@ -89,7 +89,6 @@ fn look(rt: &HostRuntime, folder: Folder<'_>, drives: u8) -> Result<(), Trouble>
         Name::Table,
         Name::TableCopy,
         Name::Fresh,
-        Name::FreshCopy,
         Name::OneState,
         Name::State(Twin::First),
         Name::State(Twin::Second),

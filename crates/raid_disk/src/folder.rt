@@ -13,10 +13,8 @@ pub(crate) enum Name {
     Table,
     /// The table once more.
     TableCopy,
-    /// The table until it is whole, and the places.
+    /// The table until it is whole.
     Fresh,
-    /// The table's copy until it is whole.
-    FreshCopy,
     /// A file of the state: which drives are lost, the groups, and the number of drives.
     State(Twin),
     /// The state of a disk that has one file of it.
@@ -69,15 +67,14 @@ impl<'a> Folder<'a> {
         match name {
             Name::Folder => format!(in alloc; "{folder}"),
             Name::Table => format!(in alloc; "{folder}/table"),
-            Name::TableCopy => self.second_path(alloc, "table.copy"),
+            Name::TableCopy => format!(in alloc; "{folder}/table.copy"),
             Name::Fresh => format!(in alloc; "{folder}/table.new"),
-            Name::FreshCopy => self.second_path(alloc, "table.copy.new"),
             Name::State(Twin::First) => format!(in alloc; "{folder}/state0"),
-            Name::State(Twin::Second) => self.second_path(alloc, "state1"),
+            Name::State(Twin::Second) => format!(in alloc; "{folder}/state1"),
             Name::OneState => format!(in alloc; "{folder}/state"),
             Name::OneJournal => format!(in alloc; "{folder}/journal"),
             Name::Journal(Twin::First) => format!(in alloc; "{folder}/journal0"),
-            Name::Journal(Twin::Second) => self.second_path(alloc, "journal1"),
+            Name::Journal(Twin::Second) => format!(in alloc; "{folder}/journal1"),
             Name::Drive(drive) => self.drive_path(alloc, drive, ""),
             Name::FreshDrive(drive) => self.drive_path(alloc, drive, ".new"),
             Name::OldDrive(drive) => self.drive_path(alloc, drive, ".old"),
@@ -92,28 +89,13 @@ impl<'a> Folder<'a> {
         }
     }
 
-    // A drive's own place; empty where it is in the folder.
-    fn place_of(&self, drive: u8) -> &str {
-        match self.places.get(usize::from(drive)) {
-            Some(place) => place,
-            None => "",
-        }
-    }
-
-    // The path of a second file of what lies in two: beside drive 1, so that the folder's device may be lost, if the drives are on others.
-    fn second_path(&self, alloc: Global, name: &str) -> Result<String, AllocError> {
-        let folder = self.name;
-        if self.place_of(1).is_empty() {
-            return format!(in alloc; "{folder}/{name}");
-        }
-        let drive = self.drive_path(alloc, 1, ".")?;
-        format!(in alloc; "{drive}{name}")
-    }
-
     // The path of a drive's file, with an ending.
     fn drive_path(&self, alloc: Global, drive: u8, ending: &str) -> Result<String, AllocError> {
         let folder = self.name;
-        let place = self.place_of(drive);
+        let place: &str = match self.places.get(usize::from(drive)) {
+            Some(place) => place,
+            None => "",
+        };
         if place.is_empty() {
             format!(in alloc; "{folder}/drive{drive}{ending}")
         } else if place.starts_with("/") {

@@ -13,7 +13,7 @@ use extents::DRIVES;
 use std::alloc::Global;
 use std::io;
 use unit_repair::MendFault;
-use vault::{Batch, UnitRead, Vault, VaultError, settle};
+use vault::{Batch, UnitRead, Vault, VaultError, add, flush, settle};
 
 // Which drives are lost.
 fn lost_of<V: Vault + Drop>(
@@ -81,8 +81,10 @@ fn mend_opened<V: Vault + Drop>(
     let vault = &mut files.vault;
     match mend_in(rt.alloc(), vault, &table.plan.shape, spelled) {
         Ok(count) => {
-            // Nothing is left to do where standard error can't be written.
-            let _ = warn_mended(rt, folder, count);
+            if count > 0 {
+                // Nothing is left to do where standard error can't be written.
+                let _ = warn_mended(rt, folder, count);
+            }
             Ok(count)
         }
         Err(fault) => Err(trouble_of_mending(fault)),
@@ -95,149 +97,182 @@ pub(crate) fn mend_disk(rt: &HostRuntime, folder: Folder<'_>) -> Result<u32, Tro
     mend_opened(rt, folder, files)
 }
 
-// Gives the unit at a place the digest of its own bytes, if it is rotten. Takes a buffer of a unit's length. Returns how many it was.
-fn accept_unit<V: Vault>(vault: &mut V, place: Place, unit: &mut [u8]) -> Result<u32, VaultError> {
+// Puts the unit at a place into a batch, if it is rotten: with its own bytes, whose digest it gets then. Takes a buffer of a unit's length.
+fn accept_unit<V: Vault>(
+    vault: &mut V,
+    batch: &mut Batch,
+    place: Place,
+    unit: &mut [u8],
+) -> Result<(), VaultError> {
     // Of a rotten unit's bytes a vault promises nothing: not another unit's, if it gives none.
     unit.fill(0);
-    if vault.read_unit(place, unit)? != UnitRead::Rotten {
-        return Ok(0);
+    if vault.read_unit(place, unit)? == UnitRead::Rotten {
+        batch.push(place, unit)?;
     }
-    vault.write_unit(place, unit)?;
-    Ok(1)
+    Ok(())
 }
 
 // Does so with each unit of a drive.
 fn accept_drive<V: Vault>(
     vault: &mut V,
+    batch: &mut Batch,
     drive: u8,
     units: u32,
     unit: &mut [u8],
-) -> Result<u32, VaultError> {
-    let mut count = 0u32;
+) -> Result<(), VaultError> {
     for address in 0..units {
-        let more = accept_unit(vault, Place { drive, address }, unit)?;
-        count = count.saturating_add(more);
+        accept_unit(vault, batch, Place { drive, address }, unit)?;
     }
-    Ok(count)
+    Ok(())
 }
 
 // Does so with both copies of a mirrored slot.
 fn accept_pair<V: Vault>(
     vault: &mut V,
+    batch: &mut Batch,
     groups: &GroupTable,
     slot: u16,
     unit: &mut [u8],
-) -> Result<u32, VaultError>
+) -> Result<(), VaultError>
     requires { IsSlotOf Mirrored groups.now slot }
 {
     let (first, second) = groups.pair_of(slot);
-    let count = accept_unit(vault, first, unit)?;
-    Ok(count.saturating_add(accept_unit(vault, second, unit)?))
+    accept_unit(vault, batch, first, unit)?;
+    accept_unit(vault, batch, second, unit)
 }
 
 // Does so with each unit of a parity slot's row.
 fn accept_row<V: Vault>(
     vault: &mut V,
+    batch: &mut Batch,
     groups: &GroupTable,
     slot: u16,
     unit: &mut [u8],
-) -> Result<u32, VaultError>
+) -> Result<(), VaultError>
     requires { IsSlotOf Parity groups.now slot }
 {
     let at = groups.row_of(slot);
-    let mut count = 0u32;
     for member in 0..groups.members(slot / SLOTS).len() as u8 {
         let place = groups.place(slot / SLOTS, member, at.offset);
-        let more = accept_unit(vault, place, unit)?;
-        count = count.saturating_add(more);
+        accept_unit(vault, batch, place, unit)?;
     }
-    Ok(count)
+    Ok(())
 }
 
 // Does so with a slot's copies, or the units of its row.
 fn accept_slot<V: Vault>(
     vault: &mut V,
+    batch: &mut Batch,
     groups: &GroupTable,
     slot: u16,
     unit: &mut [u8],
-) -> Result<u32, VaultError> {
+) -> Result<(), VaultError> {
     if slot % SLOTS >= groups.slots_of(slot / SLOTS) {
-        return Ok(0);
+        return Ok(());
     }
     match groups.class_of(slot / SLOTS) {
-        Some(Class::Mirrored) => accept_pair(vault, groups, slot, unit),
-        Some(Class::Parity) => accept_row(vault, groups, slot, unit),
-        None => Ok(0),
+        Some(Class::Mirrored) => accept_pair(vault, batch, groups, slot, unit),
+        Some(Class::Parity) => accept_row(vault, batch, groups, slot, unit),
+        None => Ok(()),
     }
 }
 
-// Takes all rotten units of the drives that aren't lost as they are.
-fn accept_units<V: Vault + Drop>(
-    alloc: Global,
-    files: &mut OpenFiles<V>,
+// Writes the units of a batch: all of them or, where it is stopped, none, since units that are computed later would build on some of them.
+fn write_accepted<V: Vault>(
+    vault: &mut V,
+    batch: &mut Batch,
     lost: &[bool; DRIVES],
-) -> Result<u32, Trouble> {
-    let plan = files.table.plan;
-    let mut unit = vec![in alloc; 0u8; plan.shape.unit_bytes()]?;
-    let mut count = 0u32;
-    for drive in 0..files.table.drives {
-        if lost[usize::from(drive % 16)] {
-            continue;
-        }
-        match accept_drive(&mut files.vault, drive, plan.shape.drive_units(), &mut unit) {
-            Ok(more) => count = count.saturating_add(more),
-            Err(error) => return Err(Trouble::Vault(error)),
+) -> Result<(), VaultError> {
+    if batch.is_empty() {
+        return Ok(());
+    }
+    add(vault, batch)?;
+    flush(vault)?;
+    settle(vault, batch, lost)
+}
+
+// Puts all rotten units of the drives that aren't lost into a batch.
+fn accept_units<V: Vault>(
+    alloc: Global,
+    vault: &mut V,
+    batch: &mut Batch,
+    table: &Table,
+    lost: &[bool; DRIVES],
+) -> Result<(), VaultError> {
+    let units = table.plan.shape.drive_units();
+    let mut unit = vec![in alloc; 0u8; table.plan.shape.unit_bytes()]?;
+    for drive in 0..table.drives {
+        if !lost[usize::from(drive % 16)] {
+            accept_drive(vault, batch, drive, units, &mut unit)?;
         }
     }
-    match files.vault.sync_units(lost) {
-        Ok(()) => Ok(count),
-        Err(error) => Err(Trouble::Vault(error)),
-    }
+    Ok(())
+}
+
+// Takes all rotten units as they are, of a vault that is settled. Takes an empty batch.
+fn accept_all<V: Vault>(
+    alloc: Global,
+    vault: &mut V,
+    batch: &mut Batch,
+    table: &Table,
+    lost: &[bool; DRIVES],
+) -> Result<u32, VaultError> {
+    batch.clear();
+    accept_units(alloc, vault, batch, table, lost)?;
+    let count = batch.len() as u32;
+    write_accepted(vault, batch, lost)?;
+    Ok(count)
 }
 
 // Takes the rotten units of a disk that is open as they are.
 fn accept_opened<V: Vault + Drop>(alloc: Global, files: OpenFiles<V>) -> Result<u32, Trouble> {
     let mut files = files;
     let mut batch = Batch::new(alloc);
+    let table = files.table;
     let lost = lost_of(&mut files, &mut batch)?;
     if let Err(error) = settle(&mut files.vault, &mut batch, &lost) {
         return Err(Trouble::Vault(error));
     }
-    accept_units(alloc, &mut files, &lost)
-}
-
-// Takes the rotten units of a slot's row as they are, of a vault that is settled.
-fn accept_slot_of<V: Vault>(
-    alloc: Global,
-    vault: &mut V,
-    table: &Table,
-    slot: u16,
-) -> Result<u32, Trouble> {
-    let spelled = groups_in(alloc, vault, table)?;
-    let mut unit = vec![in alloc; 0u8; table.plan.shape.unit_bytes()]?;
-    match accept_slot(vault, &spelled.groups, slot, &mut unit) {
+    match accept_all(alloc, &mut files.vault, &mut batch, &table, &lost) {
         Ok(count) => Ok(count),
         Err(error) => Err(Trouble::Vault(error)),
     }
 }
 
-// Does so with a disk that is open.
+// Puts the rotten units of a slot's row into a batch.
+fn accept_row_of<V: Vault>(
+    alloc: Global,
+    vault: &mut V,
+    batch: &mut Batch,
+    table: &Table,
+    slot: u16,
+) -> Result<(), Trouble> {
+    let spelled = groups_in(alloc, vault, table)?;
+    let mut unit = vec![in alloc; 0u8; table.plan.shape.unit_bytes()]?;
+    match accept_slot(vault, batch, &spelled.groups, slot, &mut unit) {
+        Ok(()) => Ok(()),
+        Err(error) => Err(Trouble::Vault(error)),
+    }
+}
+
+// Takes the rotten units of a slot's row as they are, of a disk that is open and settled, and of which no drive is lost.
 fn accept_slot_opened<V: Vault + Drop>(
     alloc: Global,
     files: OpenFiles<V>,
     slot: u16,
 ) -> Result<u32, Trouble> {
     let mut files = files;
+    let mut batch = Batch::new(alloc);
     let table = files.table;
-    let count = accept_slot_of(alloc, &mut files.vault, &table, slot)?;
-    match files.vault.sync_units(&[false; DRIVES]) {
+    accept_row_of(alloc, &mut files.vault, &mut batch, &table, slot)?;
+    let count = batch.len() as u32;
+    match write_accepted(&mut files.vault, &mut batch, &[false; DRIVES]) {
         Ok(()) => Ok(count),
         Err(error) => Err(Trouble::Vault(error)),
     }
 }
 
-// Takes the rotten units of a slot's row as they are, after `mend_disk` refused for them: it has settled the disk, of which no drive is
-// lost.
+// Takes the rotten units of a slot's row as they are, after `mend_disk` refused for them: it has settled the disk.
 fn accept_slot_of_disk(rt: &HostRuntime, folder: Folder<'_>, slot: u16) -> Result<u32, Trouble> {
     let (_lock, files) = open_disk_files(rt, folder, Use::Serves)?;
     accept_slot_opened(rt.alloc(), files, slot)

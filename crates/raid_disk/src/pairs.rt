@@ -214,7 +214,7 @@ fn make_blank(rt: &HostRuntime, folder: Folder<'_>, name: Name, length: u64) -> 
         .truncate(true)
         .open(rt, &path)?;
     write_zeros(&mut file, length)?;
-    folder.sync_above(rt, name)?;
+    folder.sync(rt)?;
     Ok(file)
 }
 

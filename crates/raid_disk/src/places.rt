@@ -7,11 +7,10 @@ use file_vault::Twin;
 use std::{fs, io};
 
 // The names of a disk's own files in its folder.
-const OWN: [Name; 14] = [
+const OWN: [Name; 13] = [
     Name::Table,
     Name::TableCopy,
     Name::Fresh,
-    Name::FreshCopy,
     Name::State(Twin::First),
     Name::State(Twin::Second),
     Name::OneState,

@@ -1,7 +1,7 @@
 //! The file of a drive until it is whole, and what an earlier attempt may have left of it.
 use crate::trouble::{Trouble, unwritten_at};
 use file_vault::{FileFault, Files, Header, RealFiles};
-use std::fs::{File, OpenOptions};
+use std::fs::{self, File, OpenOptions};
 use std::io;
 
 // Makes the bytes from an index on zeros that are these.
@@ -41,8 +41,19 @@ fn is_blank(files: &mut RealFiles, header: &Header) -> Result<bool, FileFault> {
     Ok(true)
 }
 
+/// Whether a file is at a path, and not a folder, a pipe or a device. Opening a pipe would wait for its other end.
+pub(crate) fn is_file(rt: &HostRuntime, path: &str) -> bool {
+    match fs::metadata(rt, path) {
+        Ok(data) => data.is_file(),
+        Err(_) => false,
+    }
+}
+
 // Whether what is at a path is what an attempt to make a drive's file has left, and nothing else's bytes.
 fn is_remains(rt: &HostRuntime, path: &str, header: &Header) -> Result<bool, Trouble> {
+    if !is_file(rt, path) {
+        return Ok(false);
+    }
     let file = match File::open(rt, path) {
         Ok(file) => file,
         Err(error) => return Err(unwritten_at(rt.alloc(), path, error)),

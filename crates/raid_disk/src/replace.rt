@@ -15,7 +15,7 @@ use crate::places::{places_with, test_names};
 use crate::progress;
 use crate::remains::fresh_file;
 use crate::table::Table;
-use crate::texts::{write_places, write_table};
+use crate::texts::write_places;
 use crate::trouble::{Trouble, unwritten, unwritten_at};
 use cached_drive::Saved;
 use drive_places::{Sight, Verdict};
@@ -242,9 +242,8 @@ fn put_fresh(
 ) -> Result<(), Trouble> {
     make_fresh(rt, folder, table, number)?;
     if is_moved {
-        // Once a file can be made there: else the disk would have a place that can't be. The table's copy may lie beside it.
+        // Once a file can be made there: else the disk would have a place that can't be.
         write_places(rt, folder)?;
-        write_table(rt, folder, table)?;
     } else {
         keep_old(rt, folder, number, sight)?;
     }

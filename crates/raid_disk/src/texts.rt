@@ -7,15 +7,9 @@ use crate::trouble::{Trouble, unwritten};
 use std::fs::OpenOptions;
 use uuid::Uuid;
 
-// Puts a text in place of a file, in one piece, and makes it durable. It is the fresh file until it is whole.
-fn put_text(
-    rt: &HostRuntime,
-    folder: Folder<'_>,
-    fresh: Name,
-    name: Name,
-    text: &str,
-) -> Result<(), Trouble> {
-    let path = folder.path(rt.alloc(), fresh)?;
+// Puts a text in place of a file, in one piece, and makes it durable.
+fn put_text(rt: &HostRuntime, folder: Folder<'_>, name: Name, text: &str) -> Result<(), Trouble> {
+    let path = folder.path(rt.alloc(), Name::Fresh)?;
     let made = OpenOptions::new()
         .write(true)
         .create(true)
@@ -23,13 +17,13 @@ fn put_text(
         .open(rt, &path);
     let mut file = match made {
         Ok(file) => file,
-        Err(error) => return Err(unwritten(error, fresh)),
+        Err(error) => return Err(unwritten(error, Name::Fresh)),
     };
     if let Err(error) = write_text(&mut file, text) {
-        return Err(unwritten(error, fresh));
+        return Err(unwritten(error, Name::Fresh));
     }
-    rename(rt, folder, fresh, name)?;
-    match folder.sync_above(rt, name) {
+    rename(rt, folder, Name::Fresh, name)?;
+    match folder.sync(rt) {
         Ok(()) => Ok(()),
         Err(error) => Err(unwritten(error, Name::Folder)),
     }
@@ -41,7 +35,7 @@ pub(crate) fn write_places(rt: &HostRuntime, folder: Folder<'_>) -> Result<(), T
         return Ok(());
     }
     let places = drive_places::text_of(rt.alloc(), folder.places)?;
-    put_text(rt, folder, Name::Fresh, Name::Places, &places)
+    put_text(rt, folder, Name::Places, &places)
 }
 
 /// Writes the table's copy, and the table: either may be lost later.
@@ -52,6 +46,6 @@ pub(crate) fn write_table(
 ) -> Result<(), Trouble> {
     let identity = Uuid::from_bytes(table.identity);
     let text = text_of(rt.alloc(), identity, &table.plan, table.drives)?;
-    put_text(rt, folder, Name::FreshCopy, Name::TableCopy, &text)?;
-    put_text(rt, folder, Name::Fresh, Name::Table, &text)
+    put_text(rt, folder, Name::TableCopy, &text)?;
+    put_text(rt, folder, Name::Table, &text)
 }
