@@ -177,6 +177,11 @@ fn accept_slot<V: Vault>(
     }
 }
 
+// How many units a batch has.
+fn count_of(batch: &Batch) -> u32 {
+    u32::try_from(batch.len()).unwrap_or(u32::MAX)
+}
+
 // Writes the units of a batch: all of them or, where it is stopped, none, since units that are computed later would build on some of them.
 fn write_accepted<V: Vault>(
     vault: &mut V,
@@ -219,7 +224,7 @@ fn accept_all<V: Vault>(
 ) -> Result<u32, VaultError> {
     batch.clear();
     accept_units(alloc, vault, batch, table, lost)?;
-    let count = batch.len() as u32;
+    let count = count_of(batch);
     write_accepted(vault, batch, lost)?;
     Ok(count)
 }
@@ -265,7 +270,7 @@ fn accept_slot_opened<V: Vault + Drop>(
     let mut batch = Batch::new(alloc);
     let table = files.table;
     accept_row_of(alloc, &mut files.vault, &mut batch, &table, slot)?;
-    let count = batch.len() as u32;
+    let count = count_of(&batch);
     match write_accepted(&mut files.vault, &mut batch, &[false; DRIVES]) {
         Ok(()) => Ok(count),
         Err(error) => Err(Trouble::Vault(error)),
