@@ -76,12 +76,10 @@ pub fn read<D: Drive>(
     drives: &mut [D],
     slot: u16,
     unit: &mut [u8],
-    _scratch: &mut [u8],
 ) -> Result<(), StoreRefusal>
     requires slot { IsSlotOf Mirrored groups.now slot }
     requires drives { AreDrives D.units groups.now drives.old }
     requires unit { length unit.old ≡ unit_bytes groups.now }
-    requires scratch { length _scratch.old ≡ 2 * unit_bytes groups.now }
     ensures ok { OnOk result (unit_of groups.now (cells D.units D.lost drives.new) slot ≡ Some unit.new) }
     ensures gone { IfErr result (NamesGone groups.now (cells D.units D.lost drives.new) slot) }
     ensures leaves { ReadLeaves D.units D.lost D.failures groups.now (slot / 128) drives.old drives.new }

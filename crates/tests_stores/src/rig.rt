@@ -188,13 +188,7 @@ impl Rig {
         check!(rt; self.has_buffers());
         let drives: &mut [MemDrive] = &mut self.drives;
         if is_slot(&self.groups, Class::Mirrored, slot) {
-            return mirrored_store::read(
-                &self.groups,
-                drives,
-                slot,
-                &mut self.unit,
-                &mut self.scratch,
-            );
+            return mirrored_store::read(&self.groups, drives, slot, &mut self.unit);
         }
         check!(rt; is_slot(&self.groups, Class::Parity, slot));
         parity_store::read(

@@ -27,7 +27,7 @@ pub(crate) fn read_slot<D: Drive>(
     ensures leaves { ReadLeaves D.units D.lost D.failures groups.now (slot / 128) drives.old drives.new }
 {
     match groups.class_of(slot / SLOTS) {
-        Some(Class::Mirrored) => mirrored_store::read(groups, drives, slot, unit, scratch),
+        Some(Class::Mirrored) => mirrored_store::read(groups, drives, slot, unit),
         _ => parity_store::read(groups, drives, slot, unit, scratch),
     }
 }
