@@ -1,14 +1,16 @@
 -- What a hand noted of a call that failed.
-use Rattle.std.proofs.Common.{◌≡◌, ◌≢◌, ◌⊎◌, ℕ, inr, refl, sym, subst, Result, Ok, Err}
+use Rattle.std.proofs.Common.{◌≡◌, ◌≢◌, ◌⊎◌, ℕ, inl, inr, refl, sym, subst, Result, Ok, Err}
 use Rattle.std.specs.Prelude.{MatchResult}
 use Rattle.map_join.specs.declared.records.Record.{Record}
 use Rattle.flat_machine.specs.declared.refusal.Refusal.{Refusal}
 use Rattle.flat_machine.specs.declared.refusal.Refusal.TheVariants.{Memory, NoTicket}
-use Rattle.step_core.specs.Placing.{Put}
+use Rattle.step_core.specs.declared.claimed.What.{What}
+use Rattle.step_core.specs.declared.claimed.What.TheVariants as given
+use Rattle.step_core.specs.Placing.{Put, Again, IsWhatOf, block_for, put_for}
 use Rattle.history.specs.Entries.{Carried}
 use Rattle.array_book.specs.declared.fault.WorkFault.{WorkFault}
 use Rattle.array_book.specs.declared.fault.WorkFault.TheVariants.{Core}
-use Rattle.array_book.specs.Acts.{Act, refused_commit}
+use Rattle.array_book.specs.Acts.{Act, refused_commit, unplaced_act}
 use Rattle.array_book.specs.Outcomes.{Noted, GaveUp, HasGivenUp, HasLeft, HasPut, HasFailed, fault_of}
 
 -- each refusal but out of memory is a fault of the array
@@ -34,3 +36,20 @@ put_err of why (Err e) reported v u w what s block is same put = record {
   reported_is = is;
   noted = inr (subst (λ (z : Carried Act). HasLeft v what s block (why e) z) (sym same) put);
 }
+
+-- a put that was refused has failed, whichever block a fresh content is for
+not_put : (v w : Carried Act) (x : What) (s b : ℕ) (q : Refusal) (reported : WorkFault) → IsWhatOf b x → reported ≡ fault_of q
+    → Noted v (unplaced_act (put_for x) s (block_for x) q) w → HasFailed v (put_for x) s b reported w
+not_put v u (given.Fresh x) s b q reported of is noted = record { why = q; reported_is = is; noted = inl noted }
+not_put v u (given.CopyOf n) s b q reported of is noted =
+    record { why = q; reported_is = is; noted = inl (subst (λ m. Noted v (unplaced_act Again s m q) u) of noted) }
+
+pub not_waiting : {T E : Type 0} (why : E → Refusal) (v w : Carried Act) (x : What) (s b : ℕ) (tried : Result T E) (A : T → Type 0) (reported : WorkFault) → IsWhatOf b x
+    → MatchResult tried (λ t. ⊥) (λ e. reported ≡ fault_of (why e)) → MatchResult tried A (λ e. Noted v (unplaced_act (put_for x) s (block_for x) (why e)) w)
+    → HasFailed v (put_for x) s b reported w
+not_waiting why v w x s b (Ok t) A reported of is noted = absurd is
+not_waiting why v w x s b (Err e) A reported of is noted = not_put v w x s b (why e) reported of is noted
+
+-- what is said of an error is said of the result that it is
+pub failed_as : {T : Type 0} (A : T → Type 0) (B : WorkFault → Type 0) (r : Result T WorkFault) (e : WorkFault) → r ≡ Err e → B e → MatchResult r A B
+failed_as A B r e is b = subst (λ x. MatchResult x A B) (sym is) b

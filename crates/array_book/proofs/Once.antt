@@ -1,23 +1,21 @@
 -- A put and its commit in one write: the history goes on by two acts.
-use Rattle.std.proofs.Common.{◌≡◌, ◌≢◌, ℕ, ◌<◌, ◌∷◌, ◌++◌, [], List, refl, sym, ap, ◌∙◌, subst, Option, Some}
+use Rattle.std.proofs.Common.{◌≡◌, ℕ, ◌<◌, sym, ap, ◌∙◌, subst, Option, Some}
 use Rattle.map_join.specs.declared.records.Record.{Record}
 use Rattle.map_join.specs.Record.{record_at}
 use Rattle.extent_groups.specs.Groups.{Groups}
-use Rattle.flat_machine.specs.declared.refusal.Refusal.{Refusal}
-use Rattle.flat_machine.specs.declared.refusal.Refusal.TheVariants.{Memory}
-use Rattle.flat_machine.specs.Flat.{Flat, Content, Waiting, Fresh, IsArrayHeld}
+use Rattle.flat_machine.specs.Flat.{Flat, Content, Fresh, IsArrayHeld}
 use Rattle.flat_machine.specs.Steps as say
 use Rattle.flat_machine.specs.Cases.{Case, FillCase, CommitCase, CommitWith}
 use Rattle.flat_machine.specs.History.{IsHistory, IsValidStep}
 use Rattle.flat_machine.proofs.Pairs.{put_here}
 use Rattle.slot_tables.specs.AtOnce.{ArePutAtOnce}
-use Rattle.slot_tables.specs.Changes.{MayRefuse, IsPlaceOf}
+use Rattle.slot_tables.specs.Changes.{IsPlaceOf}
 use Rattle.slot_tables.specs.Represents.{ShowsArray}
-use Rattle.slot_tables.specs.Views.{ArrayView, key_at}
+use Rattle.slot_tables.specs.Views.{ArrayView}
 use Rattle.slot_tables.proofs.OneMore.{shows_one_more}
 use Rattle.tiered_array.proofs.Emitting.{alike_put, commit_emits}
 use Rattle.step_core.specs.Claimed.{with_claim}
-use Rattle.step_core.specs.Placing.{Put, Fresh as Afresh, Again, IsWhatFor, IsWhatOf, put_for, put_step, put_answer}
+use Rattle.step_core.specs.Placing.{Put, Fresh as Afresh, Again, IsWhatFor, put_for, put_step, put_answer}
 use Rattle.step_core.specs.declared.claimed.What.{What}
 use Rattle.step_core.specs.declared.claimed.What.TheVariants as what
 use Rattle.step_core.specs.declared.place.Given.TheVariants as given

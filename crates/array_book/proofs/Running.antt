@@ -1,6 +1,6 @@
 -- What the jobs of all workers leave.
-use Rattle.std.proofs.Common.{◌≡◌, ℕ, ◌<◌, ◌+◌, suc, List, [], ◌∷◌, length, map, get_or, refl, sym, subst, arith}
-use Rattle.std.specs.Prelude.{Result, Ok, Err, OnOk}
+use Rattle.std.proofs.Common.{◌≡◌, ℕ, ◌<◌, suc, List, [], ◌∷◌, length, map, get_or, subst, arith}
+use Rattle.std.specs.Prelude.{Result, Ok, OnOk}
 use Rattle.history.specs.Entries.{Carried}
 use Rattle.array_book.specs.Acts.{Act}
 use Rattle.array_book.specs.declared.fault.WorkFault.{WorkFault}

@@ -1,5 +1,5 @@
 -- What workers' jobs leave of their hands, and what is returned of those that failed.
-use Rattle.std.specs.Prelude.{ℕ, List, [], ◌∷◌, Result, Ok, Err, OnOk, nat_le, if◌then◌else◌}
+use Rattle.std.specs.Prelude.{ℕ, List, [], ◌∷◌, Result, Ok, Err, nat_le, if◌then◌else◌}
 use Rattle.history.specs.Entries.{Carried}
 use Rattle.array_book.specs.Acts.{Act}
 use Rattle.array_book.specs.declared.fault.WorkFault.{WorkFault}

@@ -8,10 +8,10 @@ ghost use Rattle.flat_machine.specs.Flat.{Payload, Trim};
 ghost use Rattle.flat_machine.specs.declared.refusal.Refusal.{Refusal};
 ghost use Rattle.flat_machine.specs.declared.refusal.Refusal.TheVariants as refusal;
 ghost use Rattle.slot_words.specs.Places.{table_slots};
-ghost use Rattle.step_core.specs.Placing.{Fresh, Again, content_of, IsGivenFor};
+ghost use Rattle.step_core.specs.Placing.{Fresh, content_of, put_for, IsGivenFor, IsWhatFor, IsWhatOf};
 ghost use Rattle.array_book.specs.Acts.{unplaced_act};
 ghost use Rattle.array_book.specs.Takes.{controller_of, taker_of, other_of, AreSame, HasAsked, HasMigrated, Took, Learnt, IsReadRecord};
-ghost use Rattle.array_book.specs.Outcomes.{HasFailed, HasPut, HasWritten, fault_of};
+ghost use Rattle.array_book.specs.Outcomes.{HasFailed, HasHop, HasPut, HasWritten, fault_of};
 ghost use Rattle.array_book.specs.Outcomes.{WasPlanned, IsTried, HadNoRoom, HasMoved, HasReadBlock};
 ghost use Rattle.array_book.specs.declared.fault.WorkFault.TheVariants.{Core};
 
@@ -22,7 +22,7 @@ use crate::deed::Deed;
 use crate::ended::Ended;
 use crate::fault::WorkFault;
 use crate::gate::{Gate, Point};
-use crate::held::{Refused, end_fresh_in, end_moved_in, move_in, place_in, put_in};
+use crate::held::{end_in, put_and_end_in, wait_in};
 use crate::kept::{Kept, read_in};
 use crate::plan::{Plan, plan_in, slot_after};
 use extents::Drive;
@@ -33,7 +33,7 @@ use map_words::Taker;
 use slot_words::{Pass, SlotWords};
 use std::alloc::Global;
 use std::sync::{Mutex, Wait};
-use step_core::{Done, Emitted, Given, Reading, What};
+use step_core::{Denied, Done, Emitted, Given, Reading, What};
 
 /// One thread's hands on a Book: a Pass, a Taker of each controller, and a hand of the history.
 #[derive(Drop)]
@@ -193,7 +193,7 @@ impl<
             return Err(WorkFault::NoRoom);
         };
         gate.reach(Point::Claimed, rt);
-        let ended = self.put_claimed(rt, alloc, claim, block, given, gate)?;
+        let ended = self.put_claimed(rt, alloc, claim, What::Fresh(given), block, false, gate)?;
         let done = self.or_released(ended)?;
         gate.reach(Point::Committed, rt);
         let emitted = self.acknowledge(done);
@@ -212,67 +212,73 @@ impl<
         }
     }
 
-    // Fills the claimed slot and commits it: under one hold of the lock and in one write where the gate doesn't wait, since
-    // nobody is to see the slot between them. The slot of a refused fill is released here, that of a refused commit is left to
-    // the caller.
+    // Puts a payload, a trim or a copy into the claimed slot and commits it: under one hold of the lock and in one write where the
+    // gate doesn't wait, since nobody is to see the slot between them. The slot of a refused put is released here, that of a
+    // refused commit is left to the caller. Where `appends` says so, the write log goes on after the slot.
     fn put_claimed<R: Wait, G: Gate>(
         &mut self,
         rt: &R,
         alloc: Global,
         claim: slot_words::Claim<N>,
+        what: What,
         block: u32,
-        given: Given,
+        appends: bool,
         gate: &G,
-    ) -> Result<Result<Done<Claim<N>>, Refused<N>>, WorkFault>
+    ) -> Result<Result<Done<Claim<N>>, Denied<Claim<N>>>, WorkFault>
+        requires what { IsWhatFor self.old.book.now.blocks self.old.book.now.payload what }
+        requires of { IsWhatOf block what }
         requires block { block < self.old.book.now.blocks }
-        requires given { IsGivenFor self.old.book.now.payload given }
-        ensures ok { IfOk result (λ ended. IfOk ended (λ done. (done.emitted.block ≡ block) × (0 < done.emitted.version) × (done.emitted.hop ≡ 0))) }
+        ensures ok { IfOk result (λ ended. IfOk ended (λ done.
+            (done.emitted.block ≡ block) × (0 < done.emitted.version) × HasHop (put_for what.entry) done.emitted)) }
         ensures called { MatchResult result
-            (λ ended. HasPut (λ done. done.emitted) (λ e. e.refusal) self.old.hand (Fresh (content_of given.entry)) claim.slot block ended self.new.hand)
-            (λ e. HasFailed self.old.hand (Fresh (content_of given.entry)) claim.slot block e self.new.hand) }
+            (λ ended. HasPut (λ done. done.emitted) (λ e. e.refusal) self.old.hand (put_for what.entry) claim.slot block ended self.new.hand)
+            (λ e. HasFailed self.old.hand (put_for what.entry) claim.slot block e self.new.hand) }
         ensures fault { result ≢ Err (Core refusal.Memory) }
         ensures rest { (self.new.number ≡ self.old.number) × (self.new.book ≡ self.old.book) × (self.new.even ≡ self.old.even) × (self.new.odd ≡ self.old.odd) }
     {
         let book = self.book;
         let claim = Claim(claim);
         if !gate.waits() {
-            let put = put_in(
+            let put = put_and_end_in(
                 &mut *book.kept.lock(rt),
                 &book.history,
                 &mut self.hand,
                 &book.words,
                 alloc,
                 claim,
+                what,
                 block,
-                given,
+                appends,
             );
             let ended = self.or_released(put)?;
             gate.reach(Point::Put, rt);
             return Ok(ended);
         }
-        let placed = place_in(
+        let waiting = wait_in(
             &mut *book.kept.lock(rt),
             &book.history,
             &mut self.hand,
             &book.words,
             claim,
-            What::Fresh(given),
+            what,
         );
-        let ticket = self.or_released(placed)?;
+        let ticket = self.or_released(waiting)?;
         gate.reach(Point::Put, rt);
-        let ended = end_fresh_in(
+        let ended = end_in(
             &mut *book.kept.lock(rt),
             &book.history,
             &mut self.hand,
             alloc,
             ticket,
+            what,
             block,
+            appends,
         );
         Ok(ended)
     }
 
     // The outcome of a step. If the step was refused, the claim that it left is released: a claim can't be dropped.
-    fn or_released<T>(&mut self, tried: Result<T, Refused<N>>) -> Result<T, WorkFault>
+    fn or_released<T>(&mut self, tried: Result<T, Denied<Claim<N>>>) -> Result<T, WorkFault>
         ensures ok { IfOk result (λ done. tried ≡ Ok done) }
         ensures err { IfErr result (λ fault. MatchResult tried (λ done. ⊥) (λ e. fault ≡ fault_of e.refusal)) }
         ensures fault { result ≢ Err (Core refusal.Memory) }
@@ -281,7 +287,7 @@ impl<
     {
         match tried {
             Ok(done) => Ok(done),
-            Err(Refused { refusal, claim }) => {
+            Err(Denied { refusal, claim }) => {
                 if let Some(Claim(claim)) = claim {
                     self.book.words.release(&mut self.pass, claim);
                 }
@@ -363,7 +369,8 @@ impl<
             return Ok(Migration::NoRoom);
         };
         gate.reach(Point::Claimed, rt);
-        let ended = self.move_claimed(rt, alloc, claim, &plan, gate)?;
+        let copy = What::CopyOf(plan.block);
+        let ended = self.put_claimed(rt, alloc, claim, copy, plan.block, plan.appends, gate)?;
         match self.or_released(ended) {
             Ok(done) => {
                 gate.reach(Point::Committed, rt);
@@ -384,62 +391,6 @@ impl<
     {
         let book = self.book;
         plan_in(&mut *book.kept.lock(rt), &book.mirrors, low)
-    }
-
-    // Copies the block into the claimed slot and commits it: under one hold of the lock and in one write where the gate
-    // doesn't wait, since nobody is to see the slot between them. The slot of a refused copy is released here, that of a
-    // refused commit is left to the caller.
-    fn move_claimed<R: Wait, G: Gate>(
-        &mut self,
-        rt: &R,
-        alloc: Global,
-        claim: slot_words::Claim<N>,
-        plan: &Plan,
-        gate: &G,
-    ) -> Result<Result<Done<Claim<N>>, Refused<N>>, WorkFault>
-        requires { plan.now.block < self.old.book.now.blocks }
-        ensures ok { IfOk result (λ ended. IfOk ended (λ done. (done.emitted.block ≡ plan.now.block) × (0 < done.emitted.version))) }
-        ensures called { MatchResult result
-            (λ ended. HasPut (λ done. done.emitted) (λ e. e.refusal) self.old.hand Again claim.slot plan.now.block ended self.new.hand)
-            (λ e. HasFailed self.old.hand Again claim.slot plan.now.block e self.new.hand) }
-        ensures fault { result ≢ Err (Core refusal.Memory) }
-        ensures rest { (self.new.number ≡ self.old.number) × (self.new.book ≡ self.old.book) × (self.new.even ≡ self.old.even) × (self.new.odd ≡ self.old.odd) }
-    {
-        let book = self.book;
-        let claim = Claim(claim);
-        if !gate.waits() {
-            let moved = move_in(
-                &mut *book.kept.lock(rt),
-                &book.history,
-                &mut self.hand,
-                &book.words,
-                alloc,
-                claim,
-                plan,
-            );
-            let ended = self.or_released(moved)?;
-            gate.reach(Point::Put, rt);
-            return Ok(ended);
-        }
-        let copied = place_in(
-            &mut *book.kept.lock(rt),
-            &book.history,
-            &mut self.hand,
-            &book.words,
-            claim,
-            What::CopyOf(plan.block),
-        );
-        let ticket = self.or_released(copied)?;
-        gate.reach(Point::Put, rt);
-        let ended = end_moved_in(
-            &mut *book.kept.lock(rt),
-            &book.history,
-            &mut self.hand,
-            alloc,
-            ticket,
-            plan,
-        );
-        Ok(ended)
     }
 
     /// Reads a block by the newest record of it in the controller's words, or where that is stale by the array's newest, which

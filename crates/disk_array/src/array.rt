@@ -153,12 +153,6 @@ impl<D: Drive, C: Hold> Array<D, C> {
         ensures value { result ≡ is_kept (kept_at self.now slot) }
         ensures flat { (F : Flat) → ShowsArray self.now F → IsTrue result ↔ IsArrayHeld F slot }
     {
-        self.keeps(slot)
-    }
-
-    pub(crate) fn keeps(&self, slot: u16) -> bool
-        ensures { result ≡ is_kept (kept_at self.now slot) }
-    {
         match state_at(&self.places, slot) {
             Some(SlotState::Free) => false,
             Some(SlotState::Pending(_, _)) => true,

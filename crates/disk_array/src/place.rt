@@ -11,7 +11,7 @@ ghost use Rattle.flat_machine.specs.Flat.{Flat, Worker, IsSized, content_under};
 ghost use Rattle.flat_machine.specs.Cases.{CopyCase, CopyPasses, FillCase, FillPasses, next_version};
 ghost use Rattle.unit_store.specs.Views.{WasPut, WasMoved, placed_unit};
 ghost use Rattle.slot_tables.specs.AtOnce.{ArePutAtOnce};
-ghost use Rattle.slot_tables.specs.Changes.{fill_view, copy_view, commit_view, without_old, full_reason, version_reason, IsPlaceOf, MayRefuse};
+ghost use Rattle.slot_tables.specs.Changes.{fill_view, copy_view, commit_view, fill_reason, without_old, full_reason, version_reason, IsPlaceOf, MayRefuse};
 ghost use Rattle.slot_tables.specs.Counted.{AreCounts};
 ghost use Rattle.slot_tables.specs.Kept.{kepts_of, AreOf};
 ghost use Rattle.slot_tables.specs.Represents.{ShowsArray};
@@ -30,8 +30,9 @@ use std::alloc::Global;
 
 impl<D: Drive, C: Hold> Array<D, C> {
     /// Fills a mirrored slot with a payload or a trim and commits it to the block, in one write: what `fill` or `trim`
-    /// leaves, and then `commit`. A trim's payload isn't looked at. Refused as `fill` is. Where the commit would be refused,
-    /// or an allocation fails, there is no refusal, and nothing was done: the caller fills and commits, and learns why.
+    /// leaves, and then `commit`. A trim's payload isn't looked at. The slot is open to it: `fill_fault` says whether it is, so
+    /// that a caller who has chosen an open slot asks once. Refused with `Gone` alone. Where the commit would be refused, or an
+    /// allocation fails, there is no refusal, and nothing was done: the caller fills and commits, and learns why.
     pub fn place(
         &mut self,
         alloc: Global,
@@ -42,6 +43,7 @@ impl<D: Drive, C: Hold> Array<D, C> {
     ) -> Result<Done<C>, (Option<Refusal>, C)>
         requires block { block < self.old.parts.groups.blocks }
         requires payload { IsSized self.old.parts.groups.payload (content_under kind payload.now) }
+        requires open { fill_reason self.old (C.names claim) ≡ None }
         ensures done { IfOk result (λ done.
             (self.new ≡ commit_view (fill_view (with_parts self.old self.new.parts) (C.names claim) kind) (C.names claim) block (record_at block (key_at self.old block)) done.emitted)
             × (done.emitted ≡ record { block = block; version = next_version (record_at block (key_at self.old block)); hop = 0; place = C.names claim })
@@ -57,10 +59,6 @@ impl<D: Drive, C: Hold> Array<D, C> {
             ((G : Flat) × FillCase F w (C.names claim) (content_under kind payload.now) (say.Refused refusal) G × ShowsArray self.new G))) }
     {
         let slot = claim.slot();
-        // In the order of `fill` and then `commit`, so that the answers are theirs.
-        if let Some(refusal) = self.fill_fault(slot) {
-            return Err((Some(refusal), claim));
-        }
         let found = self.reported(block);
         let Some(stamp) = self.fresh_record(slot, block, found) else {
             return Err((None, claim));

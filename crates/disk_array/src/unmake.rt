@@ -64,7 +64,7 @@ impl<D: Drive, C: Hold> Array<D, C> {
         };
         for index in 0..count {
             let slot = SLOTS * group + index;
-            if !marks[usize::from(index)] || self.keeps(slot) {
+            if !marks[usize::from(index)] || self.is_held(slot) {
                 return Some(Refusal::SlotsHeld(slot));
             }
         }

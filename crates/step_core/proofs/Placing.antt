@@ -1,11 +1,17 @@
 -- A block is put into a free slot: what each of the array's calls leaves of the world. The hands in between are those of a worker
 -- that does the steps one by one; before the first and after the last nobody has the slots in hand.
-use Rattle.std.proofs.Common.{◌≡◌, ◌≢◌, ℕ, ◌<◌, Bool, true, false, not, ◌&&◌, ◌||◌, List, ◌∷◌, length, refl, sym, ap, ◌∙◌, subst, arith, inl, inr, Option, Some, None, Result, Ok, Err, MatchResult, IfOk, IfErr, IfSome}
+use Rattle.std.proofs.Common.{◌≡◌, ◌≢◌, ℕ, ◌/◌, ◌%◌, ◌<◌, nat_lt, cond, Bool, true, false, not, ◌&&◌, ◌||◌, List, ◌∷◌, length, refl, sym, ap, ◌∙◌, subst, arith, inl, inr, Option, Some, None, Result, Ok, Err, MatchResult, IfOk, IfErr, IfSome}
 use Rattle.std.proofs.Math.ListN.{set}
+use Rattle.std.proofs.lemmas.Bool.Decides.{nat_tests}
+use Rattle.std.proofs.lemmas.Option.{same_Some}
 use Rattle.std.proofs.lemmas.List.{length-set, get_or-set_same, get_or-set_other, set-get_or}
 use Rattle.map_join.specs.declared.records.Record.{Record}
 use Rattle.map_join.specs.Record.{record_at}
-use Rattle.extent_groups.specs.Groups.{Groups}
+use Rattle.extent_groups.specs.declared.class.Class.{Class}
+use Rattle.extent_groups.specs.declared.class.Class.TheVariants.{Mirrored, Parity}
+use Rattle.extent_groups.specs.Geometry.{slot_count}
+use Rattle.extent_groups.specs.Groups.{Group, Groups, class_in, group_at, slots_in}
+use Rattle.extent_groups.specs.Stores.{IsSlotOf}
 use Rattle.flat_machine.specs.declared.refusal.Refusal.{Refusal}
 use Rattle.flat_machine.specs.declared.refusal.Refusal.TheVariants.{Memory, Gone, DriveLost}
 use Rattle.flat_machine.specs.Flat.{Flat, Content, Stored, Holder, Worker, Ticket, Block, IsNewest, same_holder, turned}
@@ -19,12 +25,14 @@ use Rattle.flat_machine.proofs.Pairs.{Any, IsOnce, equal, itself, turned_here}
 use Rattle.flat_machine.proofs.Passing.{Passes, passed}
 use Rattle.slot_tables.specs.declared.hand.Hand.{Hand}
 use Rattle.slot_tables.specs.declared.hand.Hand.TheVariants.{Empty, Holds, Waits}
-use Rattle.slot_tables.specs.Changes.{IsPlaceOf, MayRefuse, passed_hands, fill_view, copy_view}
+use Rattle.slot_tables.specs.Changes.{IsPlaceOf, MayRefuse, passed_hands, fill_reason_of, fill_view, copy_view}
+use Rattle.flat_machine.specs.Groups.{class_at, class_below}
 use Rattle.disk_array.specs.Refused.{IsRefused, IsUnplaced}
 use Rattle.extents.specs.declared.header.Kind.{Kind}
 use Rattle.unit_store.specs.Views.{WasPut, WasCopied}
-use Rattle.slot_tables.specs.Views.{Kept, ArrayView, WorldView, kept_at, hand_at, key_at, has_no_holder, with_parts, SameSizes}
+use Rattle.slot_tables.specs.Views.{Kept, Nothing, Pending, Moving, Newest, Unmade, ArrayView, WorldView, kept_at, hand_at, key_at, has_no_holder, with_parts, SameSizes}
 use Rattle.slot_tables.specs.Represents.{HandSlot, ShowsArray, Represents, is_claim, is_ticket}
+use Rattle.slot_tables.proofs.Fills.{fill_refused}
 use Rattle.slot_tables.proofs.Hands.{claim_case, release_case, with_hand}
 use Rattle.flat_machine.proofs.Newest as flat
 use Rattle.flat_machine.proofs.Keeps.{step_keeps}
@@ -37,7 +45,7 @@ use Rattle.step_core.specs.declared.place.Given.{Given}
 use Rattle.step_core.specs.declared.place.Given.TheVariants as given
 use Rattle.step_core.specs.declared.claimed.What.{What}
 use Rattle.step_core.specs.declared.claimed.What.TheVariants as what
-use Rattle.step_core.specs.Placing.{Put, Fresh, Again, IsNotPlaced, IsRelocated, IsSizedFor, IsStill, IsWhatFor, IsWhatOf, Places, PutReports, Puts, PutsAtOnce, Denies, Commits, block_for, record_slot, put_for, put_of, what_of, put_step, put_answer, back_steps, back_answers}
+use Rattle.step_core.specs.Placing.{Put, Fresh, Again, IsClosedFor, IsLevelFor, IsNotPlaced, IsOpenFor, IsRelocated, IsSizedFor, IsStill, IsWhatFor, IsWhatOf, Places, PutReports, Puts, PutsAtOnce, Denies, Commits, block_for, content_of, record_slot, put_for, put_of, what_of, put_step, put_answer, back_steps, back_answers}
 use Rattle.step_core.proofs.Worlds.{Matches, fill_hands, fill_world, copy_hands, copy_world, commit_matches, discard_world, refused_world}
 
 -- a slot that nobody holds is in nobody's hand
@@ -45,6 +53,16 @@ pub free_hand : (k : Kept) (h : Hand) → has_no_holder k h ≡ true → h ≡ E
 free_hand k Empty free = refl
 free_hand k (Holds w) free = absurd (cc)
 free_hand k (Waits w) free = absurd (cc)
+
+-- and the array keeps nothing of it
+pub free_kept : (k : Kept) (h : Hand) → has_no_holder k h ≡ true → k ≡ Nothing
+free_kept Nothing Empty free = refl
+free_kept (Pending x) Empty free = absurd (cc)
+free_kept (Moving r x) Empty free = absurd (cc)
+free_kept (Newest b) Empty free = absurd (cc)
+free_kept Unmade Empty free = absurd (cc)
+free_kept k (Holds w) free = absurd (cc)
+free_kept k (Waits w) free = absurd (cc)
 
 -- nor is one that is a block's newest place
 block_hand : (h : Hand) (held : Holder → Bool) (b : ℕ) → HandSlot h held → IsOnce Any held → held (Block b) ≡ true → h ≡ Empty
@@ -459,6 +477,29 @@ less_reported A W P (Err e) y = less e.0 y
     less None y = y
     less (Some q) y = may_less q W (P q) y
 
+-- a content that can't go into the slot is refused, and the array stays
+pub closed_case : (a : ArrayView) (v : What) (F : Flat) (w s b : ℕ) (q : Refusal) → IsClosedFor a s v q → ShowsArray a F → F.held s (Worker w) ≡ true
+    → MayRefuse q (Unit {0}) ((G : Flat) × (Case F (put_step (put_for v) w s b) (Refused q) G) × (ShowsArray a G))
+closed_case a (what.Fresh x) F w s b q closed shows held =
+    may_less q _ ((G : Flat) × (FillCase F w s (content_of x) (Refused q) G) × (ShowsArray a G)) (fill_refused a F w s (content_of x) q closed shows held)
+closed_case a (what.CopyOf n) F w s b q closed shows held = absurd closed
+
+pub closed_refused : (a : ArrayView) (v : What) (s : ℕ) (q : Refusal) → IsClosedFor a s v q → IsRefused a a q × (q ≢ Memory)
+closed_refused a (what.CopyOf n) s q closed = absurd closed
+closed_refused a (what.Fresh x) s q closed = go (class_at a.parts.groups s) (kept_at a s) closed
+  where
+    P : Refusal → Type 0
+    P r = IsRefused a a r × (r ≢ Memory)
+
+    go : (c : Option Class) (k : Kept) → fill_reason_of c k ≡ Some q → P q
+    go None k e = subst P (same_Some _ _ e) (refl, (λ is. absurd (cc)))
+    go (Some Parity) k e = subst P (same_Some _ _ e) (refl, (λ is. absurd (cc)))
+    go (Some Mirrored) Nothing e = absurd (cc)
+    go (Some Mirrored) (Pending x) e = subst P (same_Some _ _ e) (refl, (λ is. absurd (cc)))
+    go (Some Mirrored) (Moving r x) e = subst P (same_Some _ _ e) (refl, (λ is. absurd (cc)))
+    go (Some Mirrored) (Newest b) e = subst P (same_Some _ _ e) (refl, (λ is. absurd (cc)))
+    go (Some Mirrored) Unmade e = subst P (same_Some _ _ e) (refl, (λ is. absurd (cc)))
+
 -- an array in which a content was put at once, or wasn't, has the sizes that it had
 still_sizes : (a b : ArrayView) → IsStill a b → SameSizes a b
 still_sizes a b still = record { payload = ap (λ (z : Groups). z.payload) still.groups; blocks = ap (λ (z : Groups). z.blocks) still.groups }
@@ -502,6 +543,21 @@ given_not_placed None n v a e s b q is y = subst (λ (p : What). IsNotPlaced a e
 pub given_of : (x : Option Given) (b : ℕ) (v : What) → v ≡ what_of x b → IsWhatOf b v
 given_of (Some g) b v is = subst (IsWhatOf b) (sym is) tt
 given_of None b v is = subst (IsWhatOf b) (sym is) refl
+
+-- the class of a mirrored group's slot
+class_is : (groups : Groups) (s : ℕ) → IsSlotOf Mirrored groups s → class_at groups s ≡ Some Mirrored
+class_is groups s is = there (group_at groups (s / 128)) is.made is.below
+  where
+    there : (group : Option Group) → class_in group ≡ Some Mirrored → s % 128 < slots_in groups.segments group → class_below groups.segments group (s % 128) ≡ Some Mirrored
+    there None made below = absurd (cc)
+    there (Some group) made below =
+        let inside : nat_lt (s % 128) (slot_count group.class (length group.members) groups.segments) ≡ true = grind (arith, nat_tests) in
+        ap (λ q. cond q (Some group.class) None) inside ∙ made
+
+-- a slot where it can go, of which the array keeps nothing, is open to it
+pub given_open : (a : ArrayView) (x : Option Given) (s b : ℕ) → IsLevelFor x a.parts.groups s → kept_at a s ≡ Nothing → IsOpenFor a s (what_of x b)
+given_open a (Some g) s b level kept = λ i. fill_reason_of (class_is a.parts.groups s level i) (kept i)
+given_open a None s b level kept = tt
 
 -- refused, before or after something waited in the slot
 pub refused_then : (v : WorldView) (F : Flat) (e : ArrayView) (what : Put) (w s b : ℕ) (q : Refusal) → IsOpen v what s b → Represents v F → IsNotPlaced v.array e what s b q

@@ -8,7 +8,10 @@ use Rattle.flat_machine.specs.Flat.{Flat, Content, Payload, Trim, IsNewest, Work
 use Rattle.flat_machine.specs.Steps.{FlatStep, FlatAnswer, Claimed, Taken, Released, Filled, Copied, Committed, Discarded}
 use Rattle.flat_machine.specs.Steps as step
 use Rattle.flat_machine.specs.Cases.{Case, CommitCase, DiscardCase, IsAllocating, Runs}
-use Rattle.slot_tables.specs.Changes.{MayRefuse}
+use Rattle.extent_groups.specs.declared.class.Class.TheVariants.{Mirrored}
+use Rattle.extent_groups.specs.Groups.{Groups}
+use Rattle.extent_groups.specs.Stores.{IsSlotOf}
+use Rattle.slot_tables.specs.Changes.{MayRefuse, fill_reason}
 use Rattle.slot_tables.specs.AtOnce.{ArePutAtOnce}
 use Rattle.slot_tables.specs.Represents.{ShowsArray}
 use Rattle.slot_tables.specs.Views.{ArrayView, SameSizes}
@@ -67,6 +70,22 @@ IsWhatOf block (what.CopyOf b) = b ≡ block
 abbrev pub what_of : Option Given → ℕ → What
 what_of (Some x) b = what.Fresh x
 what_of None b = what.CopyOf b
+
+-- the slot is open to it: a fresh content goes into a mirrored slot of which the array keeps nothing; whether a copy can go there
+-- depends on its block, too, and is found out by the copy
+abbrev pub IsOpenFor : ArrayView → ℕ → What → Type 0
+IsOpenFor a s (what.Fresh x) = fill_reason a s ≡ None
+IsOpenFor a s (what.CopyOf b) = Unit {0}
+
+-- and why it isn't open
+abbrev pub IsClosedFor : ArrayView → ℕ → What → Refusal → Type 0
+IsClosedFor a s (what.Fresh x) q = fill_reason a s ≡ Some q
+IsClosedFor a s (what.CopyOf b) q = ⊥
+
+-- the slot is of a group where it can go: what is given goes into mirrored groups alone
+abbrev pub IsLevelFor : Option Given → Groups → ℕ → Type 0
+IsLevelFor (Some x) groups s = IsSlotOf Mirrored groups s
+IsLevelFor None groups s = Unit {0}
 
 -- the step that puts it there, and its answer where it isn't refused
 abbrev pub put_step : Put → ℕ → ℕ → ℕ → FlatStep
@@ -180,3 +199,8 @@ Places F w s b what (Ok placed) G = (is : IsRelocated F w s b what placed.newest
 Places F w s b what (Err denied.Taken) G = Runs F (step.Claim w s ∷ []) (Taken s ∷ []) G
 Places F w s b what (Err (denied.Refused k)) G =
     MayRefuse k (PlaceStops F w s b what G) (IsRefusedAtOnce F w s b what k G ⊎ IsRefusedLate F w s b what k G)
+
+-- the same of a slot that nobody holds
+abbrev pub PlacesFree : Flat → ℕ → ℕ → ℕ → Put → Result Placed Refusal → Flat → Type 0
+PlacesFree F w s b what (Ok placed) G = Places F w s b what (Ok placed) G
+PlacesFree F w s b what (Err k) G = Places F w s b what (Err (denied.Refused k)) G

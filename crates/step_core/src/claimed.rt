@@ -1,6 +1,6 @@
 // A block goes into a claimed slot of any array: in two calls, between which others may call the array, `put` and `finish`; or in one,
 // `put_and_finish`.
-ghost use Rattle.std.specs.Prelude.{◌≡◌, ◌≢◌, ℕ, ◌<◌, IfOk, IfErr, IfSome, MatchResult, true, Some};
+ghost use Rattle.std.specs.Prelude.{◌≡◌, ◌≢◌, ℕ, ◌<◌, IfOk, IfErr, IfNone, IfSome, MatchResult, true, Some};
 ghost use Rattle.map_join.specs.Record.{record_at};
 ghost use Rattle.flat_machine.specs.Flat.{Flat, Worker};
 ghost use Rattle.slot_tables.specs.Changes.{IsPlaceOf};
@@ -12,7 +12,7 @@ ghost use Rattle.flat_machine.specs.Steps.{Refused};
 ghost use Rattle.slot_tables.specs.AtOnce.{ArePutAtOnce};
 ghost use Rattle.slot_tables.specs.Changes.{MayRefuse};
 ghost use Rattle.disk_array.specs.Refused.{IsUnplaced};
-ghost use Rattle.step_core.specs.Placing.{Commits, Discards, GivesUp, IsNotPlaced, IsStill, IsWhatFor, IsWhatOf, PutReports, PutsAtOnce, block_for, put_answer, put_for, put_step};
+ghost use Rattle.step_core.specs.Placing.{Commits, Discards, GivesUp, IsClosedFor, IsNotPlaced, IsOpenFor, IsStill, IsWhatFor, IsWhatOf, PutReports, PutsAtOnce, block_for, put_answer, put_for, put_step};
 
 use crate::place::Given;
 use disk_array::{Array, Done, Ticket};
@@ -84,6 +84,49 @@ pub fn place_at_once<D: Drive, C: Hold>(
         ((G : Flat) × Case F (put_step (put_for what.entry) w (C.names claim) block) (Refused refusal) G × ShowsArray array.new G))) }
     ensures room { SameSizes array.old array.new }
 {
+    match fresh_fault(array, claim.slot(), what) {
+        Some(refusal) => Err((Some(refusal), claim)),
+        None => place_open(array, alloc, claim, what, block),
+    }
+}
+
+/// Why a payload or a trim can't go into the slot; of a copy nothing is said, because its block counts, too.
+pub(crate) fn fresh_fault<D: Drive, C: Hold>(
+    array: &Array<D, C>,
+    slot: u16,
+    what: What,
+) -> Option<Refusal>
+    ensures open { IfNone result (IsOpenFor array.now slot what.entry) }
+    ensures closed { IfSome result (IsClosedFor array.now slot what.entry) }
+{
+    match what {
+        What::Fresh(_) => array.fill_fault(slot),
+        What::CopyOf(_) => None,
+    }
+}
+
+// Puts it there at once where the slot is known to be open to it, so that nobody asks twice.
+fn place_open<D: Drive, C: Hold>(
+    array: &mut Array<D, C>,
+    alloc: Global,
+    claim: C,
+    what: What,
+    block: u32,
+) -> Result<Done<C>, (Option<Refusal>, C)>
+    requires what { IsWhatFor array.old.parts.groups.blocks array.old.parts.groups.payload what }
+    requires of { IsWhatOf block what }
+    requires open { IsOpenFor array.old (C.names claim) what }
+    requires block { block < array.old.parts.groups.blocks }
+    ensures place { IfOk result (λ done. IsPlaceOf C.names done.old (record_at block (key_at array.old block))) }
+    ensures err { IfErr result (λ e. (e.1 ≡ claim) × IsUnplaced array.old array.new e.0) }
+    ensures memory { IfErr result (λ e. e.0 ≢ Some Refusal.Memory) }
+    ensures flat { (F : Flat) (w : ℕ) → ShowsArray array.old F → F.held (C.names claim) (Worker w) ≡ true
+        → MatchResult result
+        (λ done. ArePutAtOnce F (put_step (put_for what.entry) w (C.names claim) block) (put_answer (put_for what.entry) (C.names claim)) w (C.names claim) block done.emitted array.new)
+        (λ e. IfSome e.0 (λ refusal. MayRefuse refusal (Unit {0})
+        ((G : Flat) × Case F (put_step (put_for what.entry) w (C.names claim) block) (Refused refusal) G × ShowsArray array.new G))) }
+    ensures room { SameSizes array.old array.new }
+{
     match what {
         What::Fresh(given) => match given {
             Given::Payload(payload) => array.place(alloc, claim, block, Kind::Data, payload),
@@ -94,7 +137,8 @@ pub fn place_at_once<D: Drive, C: Hold>(
     }
 }
 
-/// Puts a payload, a trim or a copy into a claimed slot and commits it for the block. If either is refused the claim comes back.
+/// Puts a payload, a trim or a copy into a claimed slot that is open to it, and commits it for the block. If either is refused the
+/// claim comes back.
 pub(crate) fn put_and_finish<D: Drive, C: Hold>(
     array: &mut Array<D, C>,
     alloc: Global,
@@ -104,6 +148,7 @@ pub(crate) fn put_and_finish<D: Drive, C: Hold>(
 ) -> Result<Done<C>, Denied<C>>
     requires what { IsWhatFor array.old.parts.groups.blocks array.old.parts.groups.payload what }
     requires of { IsWhatOf block what }
+    requires open { IsOpenFor array.old (C.names claim) what }
     requires block { block < array.old.parts.groups.blocks }
     ensures place { IfOk result (λ done. IsPlaceOf C.names done.old (record_at block (key_at array.old block))) }
     ensures claim { IfErr result (λ e. IfSome e.claim (λ back. C.names back ≡ C.names claim)) }
@@ -112,7 +157,7 @@ pub(crate) fn put_and_finish<D: Drive, C: Hold>(
         (λ e. IsNotPlaced array.old array.new (put_for what.entry) (C.names claim) block e.refusal) }
     ensures room { SameSizes array.old array.new }
 {
-    let claim = match place_at_once(array, alloc, claim, what, block) {
+    let claim = match place_open(array, alloc, claim, what, block) {
         Ok(done) => return Ok(done),
         // Nothing was done: the two calls below say why, or succeed.
         Err((None, claim)) => claim,

@@ -20,7 +20,7 @@ pub use disk_array::{
 pub use extent_groups::GroupTable;
 pub use extents::{Drive, DriveLost, ExtentTable, HotSwap, MemDrive, Shape, ShapeRefusal};
 pub use flat_machine::{Class, Member, Refusal};
-pub use place::{Given, NotPlaced, Placed};
+pub use place::{Given, NotPlaced, Placed, is_mirror};
 pub use run::{Run, Stopped, represented_matches, run_fixed, run_steps};
 pub use step::{Answer, Step};
 pub use unit_store::Units;

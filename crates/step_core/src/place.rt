@@ -1,16 +1,19 @@
 // A block goes into a slot that nobody holds.
-ghost use Rattle.std.specs.Prelude.{◌≡◌, ℕ, ◌<◌, Option};
+ghost use Rattle.std.specs.Prelude.{◌≡◌, ◌↔◌, ℕ, ◌<◌, IsTrue, Option, true};
+ghost use Rattle.extent_groups.specs.declared.class.Class.TheVariants.{Mirrored};
+ghost use Rattle.extent_groups.specs.Stores.{IsSlotOf};
 ghost use Rattle.map_join.specs.declared.records.Record.{Record};
 ghost use Rattle.flat_machine.specs.Flat.{Flat};
 ghost use Rattle.slot_tables.specs.Changes.{IsPlaceOf};
 ghost use Rattle.slot_tables.specs.Represents.{Represents};
-ghost use Rattle.slot_tables.specs.Views.{SameSizes};
+ghost use Rattle.slot_tables.specs.Views.{SameSizes, hand_at, has_no_holder, kept_at};
 ghost use Rattle.step_core.specs.Placing as what;
-ghost use Rattle.step_core.specs.Placing.{IsSizedFor, Places, record_slot, put_of};
+ghost use Rattle.step_core.specs.Placing.{IsOpenFor, IsSizedFor, Places, PlacesFree, record_slot, put_of};
 
-use crate::claimed::{What, put_and_finish};
+use crate::claimed::{What, fresh_fault, put_and_finish};
 use crate::world::World;
 use disk_array::Done;
+use extent_groups::{Class, GroupTable, SLOTS};
 use extents::Drive;
 use flat_machine::Refusal;
 use map_join::Record;
@@ -63,6 +66,32 @@ impl<D: Drive> World<D> {
         if !self.is_free(slot) {
             return Err(NotPlaced::Taken);
         }
+        if let Some(refusal) = fresh_fault(&self.array, slot, what_of(block, given)) {
+            return Err(NotPlaced::Refused(refusal));
+        }
+        match self.place_free(alloc, slot, block, given) {
+            Ok(placed) => Ok(placed),
+            Err(refusal) => Err(NotPlaced::Refused(refusal)),
+        }
+    }
+
+    /// `place` for a caller that has found the slot free, as `is_free` says, and of a mirrored group if something is given
+    /// (`is_mirror`): neither is asked again. Refused as the fill or the copy, or the commit, is.
+    pub fn place_free(
+        &mut self,
+        alloc: Global,
+        slot: u16,
+        block: u32,
+        given: Option<Given>,
+    ) -> Result<Placed, Refusal>
+        requires free { has_no_holder (kept_at self.old.array slot) (hand_at self.old.hands slot) ≡ true }
+        requires open { IsOpenFor self.old.array slot (what.what_of given block) }
+        requires block { block < self.old.array.parts.groups.blocks }
+        requires given { IsSizedFor self.old.array.parts.groups.payload given }
+        ensures flat { (F : Flat) (w : ℕ) → Represents self.old F
+            → (G : Flat) × PlacesFree F w slot block (put_of given.entry) result G × Represents self.new G }
+        ensures room { SameSizes self.old.array self.new.array }
+    {
         let done = match put_and_finish(
             &mut self.array,
             alloc,
@@ -71,10 +100,20 @@ impl<D: Drive> World<D> {
             block,
         ) {
             Ok(done) => done,
-            Err(denied) => return Err(NotPlaced::Refused(denied.refusal)),
+            Err(denied) => return Err(denied.refusal),
         };
         Ok(placed_by(done))
     }
+}
+
+/// Whether the slot is one of a mirrored group, where payloads and trims go.
+pub fn is_mirror(groups: &GroupTable, slot: u16) -> bool
+    ensures { IsTrue result ↔ IsSlotOf Mirrored groups.now slot }
+{
+    // Called for its clause, which says that these are groups.
+    let _members = groups.members(slot / SLOTS);
+    groups.class_of(slot / SLOTS) == Some(Class::Mirrored)
+        && slot % SLOTS < groups.slots_of(slot / SLOTS)
 }
 
 // What is given, else a copy of the block's last write.

@@ -1,6 +1,6 @@
 -- Steps after which what is kept next to the world is as it was.
 use Rattle.std.proofs.Common.{◌≡◌, ℕ, refl, sym, ap, subst, Result, Ok, Err, inl, inr}
-use Rattle.std.specs.Prelude.{IfOk, OnOk}
+use Rattle.std.specs.Prelude.{IfOk, OnErr, OnOk}
 use Rattle.flat_machine.specs.Flat.{Flat}
 use Rattle.flat_machine.specs.Steps.{FlatStep, FlatAnswer, MovedExtent}
 use Rattle.flat_machine.specs.Steps as step
@@ -23,6 +23,12 @@ use Rattle.tiered_array.specs.declared.regrouped.Regrouped.TheVariants.{Moved, R
 use Rattle.tiered_array.proofs.Emitting.{IsCalm}
 use Rattle.tiered_array.proofs.Moving.{matches_shifted}
 use Rattle.tiered_array.proofs.Standing.{matches_with, matches_left}
+
+-- what a failed allocation says of the world's states it says of the whole's
+pub still_needs : {A E : Type 0} (t : TiersView) (r : Result A E) (P : Flat → Type 0) → OnErr r ((F : Flat) → Represents t.world F → P F)
+    → OnErr r ((T : Tiered) → RepresentsTiers t T → P T.flat)
+still_needs t (Ok a) P needs = tt
+still_needs t (Err e) P needs = λ T matches. needs T.flat matches.world
 
 -- a step of the world is one of the whole
 pub steps_with : (t : TiersView) (v : WorldView) (taken : FlatStep) (answer : FlatAnswer) → IsCalm taken

@@ -1,6 +1,6 @@
 -- The block that makes room, and the slots that are open, as the tables show them.
 use Rattle.std.proofs.Common.{◌≡◌, ◌↔◌, ◌⊎◌, inl, inr, ℕ, ◌/◌, ◌%◌, ◌<◌, Bool, false, true, IsTrue, refl, ap, sym, ◌∙◌, subst, Option, Some, None}
-use Rattle.std.specs.Prelude.{MatchOption}
+use Rattle.std.specs.Prelude.{IfSome, MatchOption}
 use Rattle.extent_groups.specs.declared.class.Class.{Class}
 use Rattle.extent_groups.specs.declared.class.Class.TheVariants.{Mirrored, Parity}
 use Rattle.extent_groups.specs.Groups.{Groups, group_at, class_in, slots_in}
@@ -23,7 +23,7 @@ use Rattle.migrator.specs.Slots.{IsMirrored}
 use Rattle.tiered_array.specs.Tiered.{Tiered}
 use Rattle.tiered_array.specs.Matches.{RepresentsTiers}
 use Rattle.tiered_array.specs.Marking.{AreMarked}
-use Rattle.tiered_array.specs.Inside.{IsFreeHere, IsThereHere}
+use Rattle.tiered_array.specs.Inside.{IsFreeHere, IsFreeOf, IsThereHere}
 use Rattle.tiered_array.specs.Planning.{IsNextAppend, IsDueHere}
 use Rattle.tiered_array.specs.Room.{IsFirstOf, IsOpen, IsNextOpen, IsReadable, IsDueOf, IsDue}
 use Rattle.tiered_array.specs.Views.{TiersView}
@@ -100,6 +100,12 @@ open_iff t T s matches = (
 pub next_is : (t : TiersView) (p : Planner) (a : ArrayView) (T : Tiered) (slot : Option ℕ) → a ≡ t.world.array → p ≡ t.planner → RepresentsTiers t T
     → IsNextAppend a p (IsOpenHere t) slot → IsNextOpen T (key_at t.world.array) slot
 next_is t p a T slot array planner matches h = append_by (IsOpenHere t) (IsOpen T) t p a T slot (λ s. open_iff t T s matches) array planner matches h
+
+-- what the tables show as open is free
+pub open_found : (class : Class) (m : TiersView) (z : Groups) (slot : Option ℕ) → z ≡ m.world.array.parts.groups
+    → IsFirst (λ s. IsSlotOf class z s × IsOpenHere m s) slot → IfSome slot (IsFreeOf class m.world)
+open_found class m z None groups first = tt
+open_found class m z (Some s) groups first = (subst (λ g. IsSlotOf class g s) groups first.holds.0, first.holds.1.0)
 
 -- the lowest open slot of a class
 module _ (class : Class) where

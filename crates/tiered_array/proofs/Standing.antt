@@ -1,7 +1,7 @@
 -- What represents a flat state with what is kept next to it, after each part of a step.
-use Rattle.std.proofs.Common.{◌≡◌, ◌≢◌, ◌⊎◌, ℕ, ◌+◌, ◌/◌, ◌%◌, ◌<◌, if◌then◌else◌, arith, ◌↔◌, inl, inr, List, length, slice_set, Contains, refl, sym, ap, ◌∙◌, subst, Option, Some, None, Result, Ok, Err}
+use Rattle.std.proofs.Common.{◌≡◌, ◌≢◌, ◌⊎◌, ℕ, false, ◌+◌, ◌/◌, ◌%◌, ◌<◌, if◌then◌else◌, arith, ◌↔◌, inl, inr, List, length, slice_set, Contains, refl, sym, ap, ◌∙◌, subst, Option, Some, None, Result, Ok, Err}
 use Rattle.std.specs.declared.alloc.AllocError.{AllocError}
-use Rattle.std.specs.Prelude.{IfOk, OnErr, MatchOption}
+use Rattle.std.specs.Prelude.{IfOk, IfSome, OnErr, MatchOption}
 use Rattle.std.proofs.lemmas.List.{length-set}
 use Rattle.std.proofs.lemmas.List.FromFn.{length-range_with_len}
 use Rattle.map_join.specs.declared.records.Record.{Record}
@@ -21,10 +21,10 @@ use Rattle.flat_machine.proofs.Unmakes.{number_within}
 use Rattle.flat_machine.specs.Steps as step
 use Rattle.flat_machine.specs.Cases.{Case, CommitWith, Leaves, made}
 use Rattle.flat_machine.specs.Steps.{FlatStep, FlatAnswer}
-use Rattle.slot_tables.specs.Views.{ArrayView, WorldView, key_at}
+use Rattle.slot_tables.specs.Views.{ArrayView, WorldView, hand_at, has_no_holder, kept_at, key_at}
 use Rattle.slot_tables.specs.Represents.{Represents}
 use Rattle.flat_machine.proofs.Pairs.{put_here, unequal}
-use Rattle.slot_tables.proofs.Hands.{free_iff}
+use Rattle.slot_tables.proofs.Hands.{free_iff, taken_case}
 use Rattle.migrator.specs.Ages.{Marked, by_number, written, IsOldest}
 use Rattle.migrator.specs.Slots.{End, at_start, class_of_record, IsMirrored}
 use Rattle.migrator.specs.First.{IsLowest, IsFirst, IsFirstAppend, IsFreeFollowing, IsFreeFresh}
@@ -35,9 +35,8 @@ use Rattle.step_core.specs.declared.step.Answer.TheVariants as answer
 use Rattle.step_core.specs.Reported.{flat_answer}
 use Rattle.tiered_array.specs.Tiered.{Tiered, begun}
 use Rattle.step_core.specs.declared.place.Placed.{Placed}
-use Rattle.step_core.specs.declared.place.NotPlaced.{NotPlaced}
+use Rattle.step_core.specs.Placing.{Places, PlacesFree}
 use Rattle.step_core.specs.declared.place.NotPlaced.TheVariants as denied
-use Rattle.step_core.specs.Placing.{Places}
 use Rattle.flat_machine.specs.declared.refusal.Refusal.{Refusal}
 use Rattle.flat_machine.specs.declared.refusal.Refusal.TheVariants.{Memory}
 use Rattle.tiered_array.specs.Placing.{Put, Fresh, Again, PlaceCase, record_slot, put_step, put_answer}
@@ -68,8 +67,8 @@ pub map_of : (t : TiersView) (T : Tiered) → RepresentsTiers t T → IsMapOf T.
 map_of t T matches = matches.world.array.history.map
 
 -- what a placing does for each state that the world represents
-abbrev pub PlacesTo : WorldView → WorldView → ℕ → ℕ → ℕ → Put → Result Placed NotPlaced → Type 0
-PlacesTo u v w s b what result = (F : Flat) → Represents u F → (G : Flat) × Places F w s b what result G × Represents v G
+abbrev pub PlacesTo : WorldView → WorldView → ℕ → ℕ → ℕ → Put → Result Placed Refusal → Type 0
+PlacesTo u v w s b what result = (F : Flat) → Represents u F → (G : Flat) × PlacesFree F w s b what result G × Represents v G
 
 -- the order has a place for the block
 block_there : (t : TiersView) (T : Tiered) (b : ℕ) → RepresentsTiers t T → b < t.world.array.parts.groups.blocks → b < length t.planner.ages.order
@@ -227,13 +226,14 @@ puts_none t v w s b what o other places T matches =
       stands_alike t v T p.0 matches p.2 (place_alike T.flat p.0 w s b what o other p.1) (place_keeps T.flat p.0 w s b what o other p.1),
     )
 
-pub puts_nowhere : (t : TiersView) (v : WorldView) (w s b : ℕ) (what : Put) → PlacesTo t.world v w s b what (Err denied.Taken)
-    → PutsTo t (record t { world = v }) w s b what NoRoom
-puts_nowhere t v w s b what places = puts_none t v w s b what NoRoom (λ r is. absurd (cc)) places
+-- where somebody holds the slot
+pub puts_nowhere : (t : TiersView) (w s b : ℕ) (what : Put) → has_no_holder (kept_at t.world.array s) (hand_at t.world.hands s) ≡ false → PutsTo t t w s b what NoRoom
+puts_nowhere t w s b what held =
+    puts_none t t.world w s b what NoRoom (λ r is. absurd (cc)) (λ F rep. (F, (F, taken_case t.world F w s held rep, refl), rep))
 
 -- a placing that was refused, and one that ran out of memory
 puts_refused : (t : TiersView) (v : WorldView) (w s b : ℕ) (what : Put) (k : Refusal) (o : Outcome) → o ≡ outcome.Refused k → k ≢ Memory
-    → PlacesTo t.world v w s b what (Err (denied.Refused k)) → PutsTo t (record t { world = v }) w s b what o
+    → PlacesTo t.world v w s b what (Err k) → PutsTo t (record t { world = v }) w s b what o
 puts_refused t v w s b what k o is some places =
     puts_none t v w s b what o (λ r placed. let both : outcome.Refused k ≡ outcome.Placed r = sym is ∙ placed in absurd (cc)) (λ F rep.
     let p = places F rep in
@@ -243,7 +243,7 @@ puts_refused t v w s b what k o is some places =
     reported F G Memory ne case = absurd (ne refl)
     reported F G j ne case = case
 
-puts_stop : (t : TiersView) (v : WorldView) (w s b : ℕ) (what : Put) (k : Refusal) → k ≡ Memory → PlacesTo t.world v w s b what (Err (denied.Refused k))
+puts_stop : (t : TiersView) (v : WorldView) (w s b : ℕ) (what : Put) (k : Refusal) → k ≡ Memory → PlacesTo t.world v w s b what (Err k)
     → (T : Tiered) → RepresentsTiers t T → (U : Tiered) × PutStops T w what b s U × RepresentsTiers (record t { world = v }) U
 puts_stop t v w s b what k is places T matches =
     let p = places T.flat matches.world in
@@ -255,13 +255,13 @@ puts_stop t v w s b what k is places T matches =
 
 -- the same of what the call returns then
 pub refused_puts : (t : TiersView) (v : WorldView) (w s b : ℕ) (what : Put) (k : Refusal) (result : Result Outcome AllocError)
-    → IfOk result (λ o. (o ≡ outcome.Refused k) × (k ≢ Memory)) → PlacesTo t.world v w s b what (Err (denied.Refused k))
+    → IfOk result (λ o. (o ≡ outcome.Refused k) × (k ≢ Memory)) → PlacesTo t.world v w s b what (Err k)
     → IfOk result (λ o. PutsTo t (record t { world = v }) w s b what o)
 refused_puts t v w s b what k (Ok o) is places = puts_refused t v w s b what k o is.0 is.1 places
 refused_puts t v w s b what k (Err e) is places = tt
 
 pub refused_stops : (t : TiersView) (v : WorldView) (w s b : ℕ) (what : Put) (k : Refusal) (result : Result Outcome AllocError)
-    → OnErr result (k ≡ Memory) → PlacesTo t.world v w s b what (Err (denied.Refused k))
+    → OnErr result (k ≡ Memory) → PlacesTo t.world v w s b what (Err k)
     → OnErr result ((T : Tiered) → RepresentsTiers t T → (U : Tiered) × PutStops T w what b s U × RepresentsTiers (record t { world = v }) U)
 refused_stops t v w s b what k (Ok o) is places = tt
 refused_stops t v w s b what k (Err e) is places = puts_stop t v w s b what k is places
@@ -741,6 +741,16 @@ module _ (class : Class) (t : TiersView) (hints : List ℕ) (T : Tiered) (matche
 
   pub still_hinted : (is : List ℕ) → ((s : ℕ) → IsHinted hints s → Found s → IsHinted is s) → AreHinted class T.flat is
   still_hinted is keeps s free = let h = (hinted_free s).1 free in keeps s h.0 h.1
+
+-- what was found is free
+pub found_free : (P A B : ℕ → Type 0) (slot : Option ℕ) → IsFirst (λ s. P s × (A s × B s)) slot → IfSome slot (λ s. A s × B s)
+found_free P A B None first = tt
+found_free P A B (Some s) first = first.holds.1
+
+-- so is a slot where the log goes on
+pub append_free : (end : End) (groups : Groups) (keys : ℕ → ℕ) (P : ℕ → Type 0) (s : ℕ) → IsFirstAppend end groups keys P (Some s) → P s
+append_free end groups keys P s (inl following) = following.holds.1
+append_free end groups keys P s (inr fresh) = fresh.1.holds.1
 
 pub finds_free : (t : TiersView) (hints : List ℕ) (slot : Option ℕ)
     → IsFirst (λ s. IsHinted t.hints s × (IsSlotOf Mirrored t.world.array.parts.groups s × IsFreeHere t.world s)) slot

@@ -4,7 +4,7 @@ use Rattle.flat_machine.specs.Flat.{Flat}
 use Rattle.flat_machine.specs.Steps.{Taken}
 use Rattle.flat_machine.specs.Steps as step
 use Rattle.flat_machine.specs.Cases.{Runs}
-pub use Rattle.step_core.specs.Placing.{Put, Fresh, Again, content_of, put_of, put_step, put_answer, back_steps, back_answers, IsRelocated, IsRefusedAtOnce, IsRefusedLate, PlaceStops, record_slot, IsGivenFor, IsSizedFor}
+pub use Rattle.step_core.specs.Placing.{Put, Fresh, Again, content_of, put_of, put_step, put_answer, back_steps, back_answers, IsRelocated, IsRefusedAtOnce, IsRefusedLate, PlaceStops, record_slot, IsGivenFor, IsLevelFor, IsSizedFor}
 use Rattle.tiered_array.specs.declared.outcome.Outcome.{Outcome}
 use Rattle.tiered_array.specs.declared.outcome.Outcome.TheVariants.{Placed, Refused, NoRoom, Nothing}
 

@@ -12,7 +12,7 @@ use crate::gone::is_gone;
 use extent_groups::{Class, GroupTable, SLOTS};
 use map_join::Live;
 use migrator::{Free, PicksBlocks};
-use step_core::{Array, Drive, Hold, World};
+use step_core::{Array, Drive, Hold, World, is_mirror};
 
 // The tables of an array.
 #[derive(Drop)]
@@ -128,15 +128,6 @@ impl<'a, D: Drive> Free for Mirrors<'a, D> {
     fn is_free(&self, slot: u16) -> bool {
         is_mirror(self.world.array().groups(), slot) && self.world.is_free(slot)
     }
-}
-
-// Whether the slot is one of a mirrored group. `members` is called for its clause, which says that these are groups.
-pub(crate) fn is_mirror(groups: &GroupTable, slot: u16) -> bool
-    ensures { IsTrue result ↔ IsSlotOf Mirrored groups.now slot }
-{
-    let _members = groups.members(slot / SLOTS);
-    groups.class_of(slot / SLOTS) == Some(Class::Mirrored)
-        && slot % SLOTS < groups.slots_of(slot / SLOTS)
 }
 
 // The free slots of parity groups.

@@ -6,9 +6,9 @@ ghost use Rattle.extent_groups.specs.Stores.{IsSlotOf};
 ghost use Rattle.unit_store.specs.Shifting.{HasOtherMissing};
 ghost use Rattle.unit_store.specs.Views.{IsLost, lost_of};
 
-use crate::asks::{is_mirror, is_parity};
+use crate::asks::is_parity;
 use extent_groups::{Member, SLOTS};
-use step_core::{Array, Drive, Hold};
+use step_core::{Array, Drive, Hold, is_mirror};
 
 // Whether no drives are left from which the slot's unit could be read or written. A slot of no group isn't gone.
 pub(crate) fn is_gone<D: Drive, C: Hold>(array: &Array<D, C>, slot: u16) -> bool

@@ -1,6 +1,7 @@
 //! Moving blocks to the parity level, or from one place in it to another.
 ghost use Rattle.std.specs.Prelude.{◌<◌, IfOk, OnErr, ℕ};
 ghost use Rattle.slot_tables.specs.Views.{SameSizes};
+ghost use Rattle.tiered_array.specs.Inside.{IsFreeHere};
 ghost use Rattle.tiered_array.specs.Placing.{Again};
 ghost use Rattle.tiered_array.specs.Matches.{RepresentsTiers};
 ghost use Rattle.tiered_array.specs.Steps.{AppendsAt, PutStops, TierCase, TierStops};
@@ -42,8 +43,8 @@ impl<D: Drive> Tiers<D> {
         ensures room { SameSizes self.old.world.array self.new.world.array }
     {
         match self.planner.plug(self.world.array()) {
-            // By `put`, not `append`: a plug's target is never the write group, so the log's end stays.
-            Some(plan) => self.put(alloc, plan.to, plan.block, None),
+            // By `copy_if_free`, not `append`: a plug's target is never the write group, so the log's end stays.
+            Some(plan) => self.copy_if_free(alloc, plan.block, plan.to),
             None => Ok(Outcome::Nothing),
         }
     }
@@ -57,19 +58,25 @@ impl<D: Drive> Tiers<D> {
         ensures room { SameSizes self.old.world.array self.new.world.array }
     {
         match self.planner.clean(self.world.array()) {
-            Some(plan) => self.append(alloc, plan.block, plan.to),
+            Some(plan) => {
+                if !self.world.is_free(plan.to) {
+                    return Ok(Outcome::NoRoom);
+                }
+                self.append(alloc, plan.block, plan.to)
+            }
             None => Ok(Outcome::Nothing),
         }
     }
 
-    // Copies the block into the slot, after which the log goes on.
+    // Copies the block into a slot that nobody holds, after which the log goes on.
     pub(crate) fn append(
         &mut self,
         alloc: Global,
         block: u32,
         slot: u16,
     ) -> Result<Outcome, AllocError>
-        requires { block < self.old.world.array.parts.groups.blocks }
+        requires free { IsFreeHere self.old.world slot }
+        requires block { block < self.old.world.array.parts.groups.blocks }
         ensures ok { (w : ℕ) → IfOk result (λ outcome. (T : Tiered) → RepresentsTiers self.old T
             → (U : Tiered) × AppendsAt T w block slot outcome U × RepresentsTiers self.new U) }
         ensures err { (w : ℕ) → OnErr result ((T : Tiered) → RepresentsTiers self.old T

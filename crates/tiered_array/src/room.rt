@@ -1,11 +1,13 @@
 //! Writing while there is room at all: a block that has to leave the mirrored level goes into a hole where the log goes on nowhere.
-ghost use Rattle.std.specs.Prelude.{◌≡◌, ℕ, ◌<◌, IfOk, OnErr, List, Option, Some};
+ghost use Rattle.std.specs.Prelude.{◌≡◌, ℕ, ◌<◌, IfOk, IfSome, OnErr, List, Option, Some};
+ghost use Rattle.extent_groups.specs.declared.class.Class.TheVariants.{Mirrored, Parity};
 ghost use Rattle.slot_tables.specs.Views.{SameSizes};
 ghost use Rattle.flat_machine.specs.declared.refusal.Refusal.TheVariants.{Gone};
 ghost use Rattle.flat_machine.specs.Flat.{IsUnheld};
 ghost use Rattle.migrator.specs.Ages.{IsOldest};
 ghost use Rattle.migrator.specs.First.{IsFirst, IsFirstAppend};
 ghost use Rattle.migrator.specs.Slots.{IsMirrored};
+ghost use Rattle.tiered_array.specs.Inside.{IsFreeOf};
 ghost use Rattle.tiered_array.specs.Placing.{Fresh, IsGivenFor, content_of};
 ghost use Rattle.tiered_array.specs.Matches.{RepresentsTiers};
 ghost use Rattle.tiered_array.specs.Steps.{IsFreeMirror, PutStops};
@@ -122,6 +124,7 @@ impl<D: Drive> Tiers<D> {
     // that the refusal names a slot.
     fn any_mirror(&mut self) -> Option<u16>
         ensures first { (T : Tiered) → RepresentsTiers self.old T → IsFirstOf (IsFreeMirror T.flat) (IsOpenMirror T) result × RepresentsTiers self.new T }
+        ensures found { IfSome result (IsFreeOf Mirrored self.new.world) }
         ensures same { self.new.world ≡ self.old.world }
     {
         match self.open_mirror() {
@@ -134,6 +137,7 @@ impl<D: Drive> Tiers<D> {
     // hints are asked first, because with no drive lost the lowest free slot is the answer.
     fn open_mirror(&mut self) -> Option<u16>
         ensures first { (T : Tiered) → RepresentsTiers self.old T → IsFirst (IsOpenMirror T) result × RepresentsTiers self.new T }
+        ensures found { IfSome result (IsFreeOf Mirrored self.new.world) }
         ensures same { self.new.world ≡ self.old.world }
     {
         let Some(lowest) = self.free_mirror() else {
@@ -149,6 +153,7 @@ impl<D: Drive> Tiers<D> {
     // that the refusal names a slot.
     fn any_hole(&mut self) -> Option<u16>
         ensures first { (T : Tiered) → RepresentsTiers self.old T → IsFirstOf (IsHole T) (IsOpenHole T) result × RepresentsTiers self.new T }
+        ensures found { IfSome result (IsFreeOf Parity self.new.world) }
         ensures same { self.new.world ≡ self.old.world }
     {
         match self.open_hole() {
@@ -161,6 +166,7 @@ impl<D: Drive> Tiers<D> {
     // hints are asked first, because with no drive lost the lowest free slot is the answer.
     fn open_hole(&mut self) -> Option<u16>
         ensures first { (T : Tiered) → RepresentsTiers self.old T → IsFirst (IsOpenHole T) result × RepresentsTiers self.new T }
+        ensures found { IfSome result (IsFreeOf Parity self.new.world) }
         ensures same { self.new.world ≡ self.old.world }
     {
         let Some(lowest) = self.free_hole() else {
@@ -175,6 +181,7 @@ impl<D: Drive> Tiers<D> {
     // The lowest free slot of parity groups.
     fn free_hole(&mut self) -> Option<u16>
         ensures first { (T : Tiered) → RepresentsTiers self.old T → IsFirst (IsHole T) result × RepresentsTiers self.new T }
+        ensures found { IfSome result (IsFreeOf Parity self.new.world) }
         ensures same { self.new.world ≡ self.old.world }
     {
         let holes = Holes { world: &self.world };

@@ -1,13 +1,15 @@
 // The steps of a world after which its planner and its free slots are as they were.
-ghost use Rattle.std.specs.Prelude.{◌≡◌, ◌<◌, ◌++◌, ℕ, length, IfOk, OnOk, OnErr, IsOk, true};
-ghost use Rattle.flat_machine.specs.Cases.{Leaves};
+ghost use Rattle.std.specs.Prelude.{◌≡◌, ◌+◌, ◌<◌, ◌≤◌, ◌++◌, ℕ, length, IfOk, OnOk, OnErr, IsOk, Some, true};
+ghost use Rattle.flat_machine.specs.Cases.{IsAllocating, Leaves};
 ghost use Rattle.flat_machine.specs.Flat.{Flat, Payload};
 ghost use Rattle.flat_machine.specs.Shortened.{IsShortened};
 ghost use Rattle.flat_machine.specs.Steps as f;
 ghost use Rattle.slot_tables.specs.Views.{SameSizes};
 ghost use Rattle.step_core.specs.Reported.{flat_answer, read_answer};
 ghost use Rattle.tiered_array.specs.Matches.{RepresentsTiers};
-ghost use Rattle.tiered_array.specs.Regrouping.{BalanceCase, RebuildCase};
+ghost use Rattle.rebalancer.specs.Balancing.{sum_of_squares};
+ghost use Rattle.rebalancer.specs.declared.shift.Shift.{Shift};
+ghost use Rattle.tiered_array.specs.Regrouping.{BalanceCase, IfMoved, IsBalanceOf, IsRebuildOf, RebuildCase};
 ghost use Rattle.tiered_array.specs.Steps.{StepAlone};
 ghost use Rattle.tiered_array.specs.Tiered.{Tiered};
 
@@ -109,6 +111,7 @@ impl<D: Drive> Tiers<D> {
         ensures ok { IfOk result (λ answer. (T : Tiered) → RepresentsTiers self.old T
             → (U : Tiered) × StepAlone T (f.ReadAt asked) (flat_answer answer) U × RepresentsTiers self.new U) }
         ensures err { OnErr result (self.new ≡ self.old) }
+        ensures needs { OnErr result ((T : Tiered) → RepresentsTiers self.old T → IsAllocating T.flat (f.ReadAt asked)) }
         ensures room { SameSizes self.old.world.array self.new.world.array }
     {
         self.world.read_at(alloc, asked)
@@ -119,6 +122,10 @@ impl<D: Drive> Tiers<D> {
         ensures ok { IfOk result (λ outcome. (T : Tiered) → RepresentsTiers self.old T
             → (G : Flat) × BalanceCase T.flat outcome G × RepresentsTiers self.new (record T { flat = G })) }
         ensures err { OnErr result (self.new ≡ self.old) }
+        ensures evens { IfOk result (λ outcome. IfMoved outcome
+            (sum_of_squares self.new.world.array.parts.owners + 2 ≤ sum_of_squares self.old.world.array.parts.owners)) }
+        ensures needs { OnErr result ((T : Tiered) → RepresentsTiers self.old T
+            → (s : Shift) × IsBalanceOf T.flat (Some s) × IsAllocating T.flat (f.MoveExtent s.group s.member s.to)) }
         ensures room { SameSizes self.old.world.array self.new.world.array }
     {
         balance(&mut self.world)
@@ -129,6 +136,8 @@ impl<D: Drive> Tiers<D> {
         ensures ok { IfOk result (λ outcome. (T : Tiered) → RepresentsTiers self.old T
             → (G : Flat) × RebuildCase T.flat drive outcome G × RepresentsTiers self.new (record T { flat = G })) }
         ensures err { OnErr result (self.new ≡ self.old) }
+        ensures needs { OnErr result ((T : Tiered) → RepresentsTiers self.old T
+            → (s : Shift) × IsRebuildOf T.flat drive (Some s) × IsAllocating T.flat (f.MoveExtent s.group s.member s.to)) }
         ensures room { SameSizes self.old.world.array self.new.world.array }
     {
         rebuild(&mut self.world, drive)
@@ -152,6 +161,7 @@ impl<D: HotSwap + Drop> Tiers<D> {
         ensures ok { IfOk result (λ answer. (T : Tiered) → RepresentsTiers self.old T
             → (U : Tiered) × StepAlone T f.AddDrive (flat_answer answer) U × RepresentsTiers self.new U) }
         ensures err { OnErr result (self.new ≡ self.old) }
+        ensures needs { OnErr result ((T : Tiered) → RepresentsTiers self.old T → IsAllocating T.flat f.AddDrive) }
         ensures room { SameSizes self.old.world.array self.new.world.array }
     {
         self.world.add_drive(alloc)

@@ -1,7 +1,9 @@
 //! Blocks that are written into the mirrored level.
-ghost use Rattle.std.specs.Prelude.{◌≡◌, ℕ, ◌<◌, IfOk, OnErr, Option, Some};
+ghost use Rattle.std.specs.Prelude.{◌≡◌, ℕ, ◌<◌, IfOk, IfSome, OnErr, Option, Some};
+ghost use Rattle.extent_groups.specs.declared.class.Class.TheVariants.{Mirrored};
 ghost use Rattle.slot_tables.specs.Views.{SameSizes};
 ghost use Rattle.migrator.specs.First.{IsFirst};
+ghost use Rattle.tiered_array.specs.Inside.{IsFreeOf};
 ghost use Rattle.tiered_array.specs.Placing.{Fresh, IsGivenFor, content_of};
 ghost use Rattle.tiered_array.specs.Matches.{RepresentsTiers};
 ghost use Rattle.tiered_array.specs.Steps.{IsFreeMirror, PutStops, TierCase, TierStops, WritesIn};
@@ -60,6 +62,7 @@ impl<D: Drive> Tiers<D> {
     // The lowest free slot of mirrored groups.
     pub(crate) fn free_mirror(&mut self) -> Option<u16>
         ensures first { (T : Tiered) → RepresentsTiers self.old T → IsFirst (IsFreeMirror T.flat) result × RepresentsTiers self.new T }
+        ensures found { IfSome result (IsFreeOf Mirrored self.new.world) }
         ensures same { self.new.world ≡ self.old.world }
     {
         let mirrors = Mirrors { world: &self.world };

@@ -1,5 +1,4 @@
 use Rattle.std.proofs.Common.{◌≡◌, true, false, map, sym, ◌∙◌, rules}
-use Rattle.array_book.specs.Whole.{has_number}
 use Rattle.array_book.proofs.Wholes.{has_map, up_to}
 use Rattle.array_book.proofs.ended.lowest_missing.Goals as goal
 

@@ -1,4 +1,4 @@
-use Rattle.std.proofs.Common.{◌≡◌, ◌≢◌, ℕ, ◌<◌, length, rules, refl, sym, ap, ◌∙◌, subst, IfSome}
+use Rattle.std.proofs.Common.{◌≡◌, ℕ, ◌<◌, length, rules, refl, sym, ap, ◌∙◌, subst, IfSome}
 use Rattle.map_join.specs.declared.records.Record.{Record}
 use Rattle.map_join.specs.Record.{record_at}
 use Rattle.flat_machine.specs.Cases.{Case}
@@ -18,7 +18,7 @@ use Rattle.array_book.specs.Acts.{IsLed, placed_act, committed_act, claim_slot}
 use Rattle.array_book.specs.Kept.{KeptView}
 use Rattle.array_book.specs.Kept as book
 use Rattle.array_book.proofs.Going.{Goes, GoesOn, refused_put_goes, led_more, led_note, noted_as, kept_as}
-use Rattle.array_book.proofs.Once.{claimed_shows, fits_kept, between, between_history, between_groups, after_groups, first, second, of_block, written, has_hop}
+use Rattle.array_book.proofs.Once.{claimed_shows, fits_kept, between_history, between_groups, after_groups, first, second, of_block, written, has_hop}
 use Rattle.array_book.proofs.Shown.{kept_with, kept_then, noted_then, still_of}
 use Rattle.step_core.proofs.Placing.{refused_still}
 use Rattle.array_book.proofs.kept.place_in.Given as given

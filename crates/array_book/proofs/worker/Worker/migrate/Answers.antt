@@ -21,6 +21,6 @@ returns-in_err-ended-clause-called g c =
     let mirrors = c.args.self.now.book.now.mirrors.items in
     let chosen : WasChosen g.N.Sizes.blocks g.N.Sizes.payload mirrors low plan slot = record { planned = search rules; tried = search rules } in
     let reported = c.in_err-ended.field-0.0 in
-    let failed : HasFailed c.args.self.now.hand Again slot plan.block reported c.move_claimed.new.self.hand = search rules in
+    let failed : HasFailed c.args.self.now.hand Again slot plan.block reported c.put_claimed.new.self.hand = search rules in
     let is : c.from_residual.result ≡ Err reported = search rules in
-    subst (λ r. HasMoved g.N.Sizes.blocks g.N.Sizes.payload mirrors low c.args.self.now.hand r c.move_claimed.new.self.hand) (sym is) (plan, slot, chosen, failed)
+    subst (λ r. HasMoved g.N.Sizes.blocks g.N.Sizes.payload mirrors low c.args.self.now.hand r c.put_claimed.new.self.hand) (sym is) (plan, slot, chosen, failed)

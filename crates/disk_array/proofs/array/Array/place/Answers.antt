@@ -17,19 +17,15 @@ use Rattle.slot_tables.specs.Views.{ArrayView, Nothing, Pending, Newest, kept_at
 use Rattle.slot_tables.specs.Kept.{kepts_of}
 use Rattle.slot_tables.proofs.AtOnce.{fresh_whole, fresh_at_once}
 use Rattle.slot_tables.proofs.Commits.{place_kept, place_apart}
-use Rattle.slot_tables.proofs.Fills.{CanFill, can_fill, fill_slot, fill_gone, fill_refused, as_whole}
+use Rattle.slot_tables.proofs.Fills.{CanFill, can_fill, fill_slot, fill_gone, as_whole}
 use Rattle.slot_tables.proofs.Placing.{placed_slot}
 use Rattle.disk_array.specs.Inside.{seen}
 use Rattle.disk_array.proofs.Placed.{shown, placed_is, as_put, kind_back}
 use Rattle.disk_array.proofs.Ready.{either_way, Keeps, keeps, gone_keeps, still_whole, still_ready, as_many, as_refused}
-use Rattle.disk_array.proofs.Refusing.{gone_reported, unfilled_reported}
+use Rattle.disk_array.proofs.Refusing.{gone_reported}
 use Rattle.disk_array.proofs.array.Array.place.Given as given
 use Rattle.disk_array.proofs.array.Array.place.Goals.{After-of}
 use Rattle.disk_array.proofs.array.Array.place.Goals as goal
-
-pub returns-in-Some-clause-flat : goal.returns-in-Some-clause-flat
-returns-in-Some-clause-flat g c F w shows held =
-    fill_refused c.args.self.now F w (g.C.Hold.names c.args.claim) (content_under c.args.kind c.args.payload.now) c.in-Some.refusal (search rules) shows held
 
 pub put_placed-requires-clause-slot : goal.put_placed-requires-clause-slot
 put_placed-requires-clause-slot g c =
@@ -88,22 +84,22 @@ stamp g c = emitted_by c.args.block (g.C.Hold.names c.args.claim) (next_version 
 abbrev parts : (g : given.Over) (c : After-of g) → PartsView
 parts g c = view_of g.D.Drive.units g.D.Drive.lost g.D.Drive.failures c.put_placed.new.self
 
-reported : (g : given.Over) (c : After-of g) → c.in-Some-fresh_record.stamp ≡ stamp g c
-reported g c = c.in-Some-fresh_record.ensures.2 ∙ (λ i. emitted_by c.args.block (c.slot-slot.ensures i) (next_version (c.reported-found.ensures.value i)) 0)
+reported : (g : given.Over) (c : After-of g) → c.in-Some.stamp ≡ stamp g c
+reported g c = c.in-Some.ensures.2 ∙ (λ i. emitted_by c.args.block (c.slot-slot.ensures i) (next_version (c.reported-found.ensures.value i)) 0)
 
 none : (g : given.Over) (c : After-of g) → fill_reason c.args.self.now (g.C.Hold.names c.args.claim) ≡ None
 none g c = search rules
 
 left : (g : given.Over) (c : After-of g) → version_reason (record_at c.args.block (key_at c.args.self.now c.args.block)) ≡ None
-left g c = ap version_reason (sym c.reported-found.ensures.value) ∙ c.in-Some-fresh_record.ensures.0
+left g c = ap version_reason (sym c.reported-found.ensures.value) ∙ c.in-Some.ensures.0
 
 was : (g : given.Over) (c : After-of g)
     → WasPut c.args.self.now.parts (parts g c) (g.C.Hold.names c.args.claim) (placed_unit (stamp g c) c.args.self.now.parts.groups.payload (content_under c.args.kind c.args.payload.now))
 was g c =
     let x = content_under c.args.kind c.args.payload.now in
     subst (λ r. WasPut c.args.self.now.parts (parts g c) (g.C.Hold.names c.args.claim) (placed_unit r c.args.self.now.parts.groups.payload x)) (reported g c)
-    (subst (λ n. WasPut c.args.self.now.parts (parts g c) n (placed_unit c.in-Some-fresh_record.stamp c.args.self.now.parts.groups.payload x)) c.slot-slot.ensures
-    (subst (λ (v : ArrayView). WasPut v.parts (parts g c) c.slot-slot.result (placed_unit c.in-Some-fresh_record.stamp v.parts.groups.payload x)) c.self.view_is c.in_default-put_placed.ensures.ok))
+    (subst (λ n. WasPut c.args.self.now.parts (parts g c) n (placed_unit c.in-Some.stamp c.args.self.now.parts.groups.payload x)) c.slot-slot.ensures
+    (subst (λ (v : ArrayView). WasPut v.parts (parts g c) c.slot-slot.result (placed_unit c.in-Some.stamp v.parts.groups.payload x)) c.self.view_is c.in_default-put_placed.ensures.ok))
 
 apart : (g : given.Over) (c : After-of g) (q : Record) → record_at c.args.block (key_at c.args.self.now c.args.block) ≡ Some q → q.place ≡ g.C.Hold.names c.args.claim → ⊥
 apart g c = place_apart c.args.self.now (g.C.Hold.names c.args.claim) c.args.block c.reported-found.ensures.whole (can_fill c.args.self.now _ (none g c)).free
@@ -169,9 +165,6 @@ returns-clause-flat g c F w shows held =
     (fresh_at_once c.args.self.now (parts g at) s c.args.block (search rules) (search rules)
     (view_drives d.units d.lost d.failures c.put_placed.new.self c.put_placed.ensures.fit.drives) c.reported-found.ensures.whole
     x (none g at) (left g at) (was g at) F w (search rules) c.requires.payload shows held)
-
-pub returns-in-Some-clause-memory : goal.returns-in-Some-clause-memory
-returns-in-Some-clause-memory g c is = unfilled_reported c.args.self.now (g.C.Hold.names c.args.claim) c.in-Some.refusal (search rules) (same_Some _ _ is)
 
 pub returns-in-Err-clause-memory : goal.returns-in-Err-clause-memory
 returns-in-Err-clause-memory g c is = gone_reported _ _ _ c.in-Err.refusal c.in-Err.ensures.err (same_Some _ _ is)

@@ -1,7 +1,8 @@
 use Rattle.std.proofs.Common.{sym}
 use Rattle.flat_machine.specs.Steps as f
 use Rattle.tiered_array.specs.Views.{TiersView}
-use Rattle.tiered_array.proofs.Calm.{steps_if}
+use Rattle.tiered_array.proofs.Calm.{steps_if, still_needs}
+use Rattle.flat_machine.specs.Cases.{IsAllocating}
 use Rattle.tiered_array.proofs.tiers.Tiers.add_drive.Goals as goal
 
 pub returns-clause-ok : goal.returns-clause-ok
@@ -9,3 +10,8 @@ returns-clause-ok g c =
     let a = c.args in
     let t : TiersView = record { world = c.self.inside.world; planner = c.self.inside.planner; hints = c.self.inside.hints; holes = c.self.inside.holes } in
     rw (sym c.self.view_is) (steps_if t c.add_drive.new.self f.AddDrive c.add_drive.result tt c.add_drive.ensures.ok)
+
+pub returns-clause-needs : goal.returns-clause-needs
+returns-clause-needs g c =
+    let t : TiersView = record { world = c.self.inside.world; planner = c.self.inside.planner; hints = c.self.inside.hints; holes = c.self.inside.holes } in
+    rw (sym c.self.view_is) (still_needs t c.add_drive.result (λ F. IsAllocating F f.AddDrive) c.add_drive.ensures.needs)

@@ -1,5 +1,9 @@
 use Rattle.std.proofs.Common.{sym, Some, None}
+use Rattle.unit_store.specs.Views.{IsLost}
+use Rattle.slot_tables.specs.Views.{key_at}
+use Rattle.tiered_array.specs.Inside.{IsFreeHere}
 use Rattle.tiered_array.specs.Views.{TiersView}
+use Rattle.tiered_array.proofs.Standing.{append_free}
 use Rattle.tiered_array.proofs.Due.{due_is}
 use Rattle.tiered_array.proofs.Rooms.{rooms_on, rooms_aside, rooms_nowhere, rooms_nothing, stops_on, stops_aside}
 use Rattle.tiered_array.proofs.tiers.Tiers.make_room.Goals as goal
@@ -51,3 +55,10 @@ returns-clause-err g c w =
     (due_is t array.result.now (Some c.in-Some.block) array.ensures c.in-Some.ensures.due)
     c.any_hole.new.self c.put.new.self c.in-Some-any_hole.slot c.put.result c.in_default-next_append.ensures c.in-Some-any_hole.ensures.first
     (c.put.ensures.err w))
+
+pub append-requires-clause-free : goal.append-requires-clause-free
+append-requires-clause-free g c =
+    let array = c.array-array in
+    let world = c.self.inside.world in
+    (append_free c.due.new.self.end array.result.now.parts.groups (key_at array.result.now) (λ slot. IsFreeHere world slot × (IsLost world.array.parts slot → ⊥))
+    c.in-Some-next_append.slot c.in-Some-next_append.ensures).0

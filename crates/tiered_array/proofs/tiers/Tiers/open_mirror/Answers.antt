@@ -2,7 +2,7 @@ use Rattle.std.proofs.Common.{ap, sym, ◌∙◌}
 use Rattle.extent_groups.specs.declared.class.Class.TheVariants.{Mirrored}
 use Rattle.slot_tables.specs.Views.{ArrayView}
 use Rattle.tiered_array.specs.Views.{TiersView}
-use Rattle.tiered_array.proofs.Due.{open_none, open_lowest, open_shown}
+use Rattle.tiered_array.proofs.Due.{open_found, open_none, open_lowest, open_shown}
 use Rattle.tiered_array.proofs.tiers.Tiers.open_mirror.Goals as goal
 
 pub returns-in_default-clause-first : goal.returns-in_default-clause-first
@@ -19,3 +19,8 @@ returns-clause-first g c =
     let m : TiersView = record { world = c.self.inside.world; planner = c.self.inside.planner; hints = c.self.inside.hints; holes = c.self.inside.holes } in
     rw (sym c.self.view_is) (open_shown Mirrored c.args.self.now m c.groups.result.now c.in-Some.lowest c.first_mirror.result
     (c.groups.ensures ∙ ap (λ (x : ArrayView). x.parts.groups) c.array-2.ensures) (rw (sym c.self.view_is) at c.in-Some.ensures.first) c.first_mirror.ensures)
+
+pub returns-clause-found : goal.returns-clause-found
+returns-clause-found g c =
+    let m : TiersView = record { world = c.self.inside.world; planner = c.self.inside.planner; hints = c.self.inside.hints; holes = c.self.inside.holes } in
+    rw (sym c.self.view_is) (open_found Mirrored m c.groups.result.now c.first_mirror.result (c.groups.ensures ∙ ap (λ (x : ArrayView). x.parts.groups) c.array-2.ensures) c.first_mirror.ensures)

@@ -7,12 +7,12 @@ use Rattle.tiered_array.proofs.tiers.Tiers.plug.Goals as goal
 pub returns-in-Some-clause-ok : goal.returns-in-Some-clause-ok
 returns-in-Some-clause-ok g c w =
     let t : TiersView = record { world = c.self.inside.world; planner = c.self.inside.planner; hints = c.self.inside.hints; holes = c.self.inside.holes } in
-    rw (sym c.self.view_is) (plugs t c.put.new.self c.array.result.now w c.in-Some.plan c.put.result c.array.ensures c.in-Some.ensures.plan (rw (sym c.self.view_is) at (c.put.ensures.ok w)))
+    rw (sym c.self.view_is) (plugs t c.copy_if_free.new.self c.array.result.now w c.in-Some.plan c.copy_if_free.result c.array.ensures c.in-Some.ensures.plan (rw (sym c.self.view_is) at (c.copy_if_free.ensures.ok w)))
 
 pub returns-in-Some-clause-err : goal.returns-in-Some-clause-err
 returns-in-Some-clause-err g c w =
     let t : TiersView = record { world = c.self.inside.world; planner = c.self.inside.planner; hints = c.self.inside.hints; holes = c.self.inside.holes } in
-    rw (sym c.self.view_is) (stops_plug t c.put.new.self c.array.result.now w c.in-Some.plan c.put.result c.array.ensures c.in-Some.ensures.plan (rw (sym c.self.view_is) at (c.put.ensures.err w)))
+    rw (sym c.self.view_is) (stops_plug t c.copy_if_free.new.self c.array.result.now w c.in-Some.plan c.copy_if_free.result c.array.ensures c.in-Some.ensures.plan (rw (sym c.self.view_is) at (c.copy_if_free.ensures.err w)))
 
 pub returns-in-None-clause-ok : goal.returns-in-None-clause-ok
 returns-in-None-clause-ok g c w =
