@@ -6,3 +6,4 @@ mod Verified
 mod Replacing
 mod Settling
 mod Mended
+mod Scrubbing

@@ -1,9 +1,14 @@
 // All slots of an array are tested.
-ghost use Rattle.std.specs.Prelude.{◌≡◌, ◌≢◌, length, true, IfOk, OnOk};
+ghost use Rattle.std.specs.Prelude.{◌≡◌, ◌≢◌, ◌+◌, ◌*◌, ◌≤◌, ℕ, List, [], length, true, IfOk, OnOk};
+ghost use Rattle.extent_groups.specs.declared.place.Place.{Place};
+ghost use Rattle.extent_groups.specs.Calls.{FadesAt};
+ghost use Rattle.extent_groups.specs.Cells.{Cells};
+ghost use Rattle.extent_groups.specs.Groups.{AreGroups};
 ghost use Rattle.extent_groups.specs.Stores.{AreSound, unit_bytes};
 ghost use Rattle.unit_store.specs.Fit.{IsFit};
 ghost use Rattle.unit_store.specs.Losses.{LosesOnly};
 ghost use Rattle.unit_store.specs.Slots.{cells_in};
+ghost use Rattle.drive_rebuild.specs.Scrubbed.{Tells, TellsBelow, TellsUnsound, slot_total, with_tested};
 
 use crate::fault::RebuildFault;
 use consistency_check::{find_unsound, is_sound};
@@ -27,7 +32,9 @@ pub struct Findings {
 }
 
 // How many slots the groups have.
-fn slots_in(groups: &GroupTable) -> u32 {
+fn slots_in(groups: &GroupTable) -> u32
+    ensures { AreGroups groups.now → result ≡ slot_total groups.now }
+{
     let mut slots = 0u32;
     for group in 0..GROUPS as u16 {
         slots = slots.saturating_add(u32::from(groups.slots_of(group)));
@@ -37,7 +44,9 @@ fn slots_in(groups: &GroupTable) -> u32 {
 
 // Notes a slot that was tested, if it isn't sound.
 fn note(findings: &mut Findings, slot: u16, is_sound: bool) -> Result<(), RebuildFault>
-    ensures { OnOk result (findings.new.unsound ≡ 0 → is_sound ≡ true) }
+    ensures none { OnOk result (findings.new.unsound ≡ 0 → is_sound ≡ true) }
+    ensures told { (total : ℕ) (slots : List ℕ) → length slots ≤ slot → Tells total slots findings.old
+        → OnOk result (Tells total (with_tested slots slot is_sound) findings.new) }
 {
     if is_sound {
         return Ok(());
@@ -62,6 +71,9 @@ fn scrub_group<D: Drive>(
     requires other { length other.old ≡ unit_bytes parts.old.groups }
     ensures fit { IsFit D.units parts.new }
     ensures only { LosesOnly D.units D.lost D.failures parts.old parts.new }
+    ensures told { (before : Cells) (total : ℕ) → ((x : Place) → FadesAt before (cells_in D.units D.lost parts.old) x)
+        → TellsBelow parts.old.groups before (cells_in D.units D.lost parts.old) total (128 * group) findings.old
+        → OnOk result (TellsBelow parts.old.groups before (cells_in D.units D.lost parts.new) total (128 * group + 128) findings.new) }
 {
     for index in 0..parts.groups.slots_of(group) {
         let slot = SLOTS * group + index;
@@ -83,6 +95,8 @@ fn scrub_groups<D: Drive>(
     requires other { length other.old ≡ unit_bytes parts.old.groups }
     ensures fit { IsFit D.units parts.new }
     ensures only { LosesOnly D.units D.lost D.failures parts.old parts.new }
+    ensures told { Tells (slot_total parts.old.groups) [] findings.old
+        → OnOk result (TellsUnsound parts.old.groups (cells_in D.units D.lost parts.old) (cells_in D.units D.lost parts.new) findings.new) }
 {
     for group in 0..GROUPS as u16 {
         scrub_group(parts, group, unit, other, findings)?;
@@ -101,6 +115,8 @@ fn name_unsound<D: Drive>(
     requires unit { length unit.old ≡ unit_bytes parts.old.groups }
     requires other { length other.old ≡ unit_bytes parts.old.groups }
     ensures sound { OnOk result (findings.new.unsound ≡ 0 → AreSound parts.new.groups (cells_in D.units D.lost parts.new)) }
+    ensures told { Tells (slot_total parts.old.groups) [] findings.old
+        → OnOk result (TellsUnsound parts.old.groups (cells_in D.units D.lost parts.old) (cells_in D.units D.lost parts.new) findings.new) }
     ensures only { LosesOnly D.units D.lost D.failures parts.old parts.new }
 {
     // Mostly there is none: this reads each row once, while a test of each slot reads a row for each of its slots.
@@ -120,6 +136,9 @@ fn name_unsound<D: Drive>(
 pub fn scrub_parts<D: Drive>(alloc: Global, parts: &mut Parts<D>) -> Result<Findings, RebuildFault>
     // None was found only if all slots are sound.
     ensures sound { IfOk result (λ f. f.unsound ≡ 0 → AreSound parts.new.groups (cells_in D.units D.lost parts.new)) }
+
+    // Each slot that isn't sound is counted, no other is, and the lowest of them are named.
+    ensures told { IfOk result (TellsUnsound parts.old.groups (cells_in D.units D.lost parts.old) (cells_in D.units D.lost parts.new)) }
 
     // It reads, and nothing else: a drive is lost by its own failure alone.
     ensures only { LosesOnly D.units D.lost D.failures parts.old parts.new }
