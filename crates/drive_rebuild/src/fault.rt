@@ -1,4 +1,7 @@
 // Why a drive isn't replaced.
+ghost use Rattle.std.specs.Prelude.{◌≡◌};
+ghost use Rattle.drive_rebuild.specs.declared.fault.RebuildFault.TheVariants.{Memory};
+
 use array_recovery::RecoveryFault;
 use std::alloc::{AllocError, AllocFailed};
 use vault::VaultError;
@@ -23,12 +26,16 @@ pub enum RebuildFault {
 }
 
 impl From<AllocError> for RebuildFault {
+    ghost from_gives = { λ _ e. e ≡ Memory };
+
     fn from(_: AllocError) -> RebuildFault {
         RebuildFault::Memory
     }
 }
 
 impl<T: Drop> From<AllocFailed<T>> for RebuildFault {
+    ghost from_gives = { λ _ e. e ≡ Memory };
+
     fn from(_: AllocFailed<T>) -> RebuildFault {
         RebuildFault::Memory
     }

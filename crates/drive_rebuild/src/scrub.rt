@@ -1,5 +1,5 @@
 // All slots of an array are tested.
-ghost use Rattle.std.specs.Prelude.{◌≡◌, ◌≢◌, ◌+◌, ◌*◌, ◌≤◌, ℕ, List, [], length, true, IfOk, OnOk};
+ghost use Rattle.std.specs.Prelude.{◌≡◌, ◌≢◌, ◌+◌, ◌*◌, ◌≤◌, ℕ, List, [], length, true, IfOk, IsErrOf, IsOkUnless, OnOk};
 ghost use Rattle.extent_groups.specs.declared.place.Place.{Place};
 ghost use Rattle.extent_groups.specs.Calls.{FadesAt};
 ghost use Rattle.extent_groups.specs.Cells.{Cells};
@@ -8,6 +8,7 @@ ghost use Rattle.extent_groups.specs.Stores.{AreSound, unit_bytes};
 ghost use Rattle.unit_store.specs.Fit.{IsFit};
 ghost use Rattle.unit_store.specs.Losses.{LosesOnly};
 ghost use Rattle.unit_store.specs.Slots.{cells_in};
+ghost use Rattle.drive_rebuild.specs.declared.fault.RebuildFault.TheVariants.{Memory, Misfit};
 ghost use Rattle.drive_rebuild.specs.Scrubbed.{Tells, TellsBelow, TellsUnsound, slot_total, with_tested};
 
 use crate::fault::RebuildFault;
@@ -47,6 +48,7 @@ fn note(findings: &mut Findings, slot: u16, is_sound: bool) -> Result<(), Rebuil
     ensures none { OnOk result (findings.new.unsound ≡ 0 → is_sound ≡ true) }
     ensures told { (total : ℕ) (slots : List ℕ) → length slots ≤ slot → Tells total slots findings.old
         → OnOk result (Tells total (with_tested slots slot is_sound) findings.new) }
+    ensures memory { IsOkUnless result Memory }
 {
     if is_sound {
         return Ok(());
@@ -74,6 +76,7 @@ fn scrub_group<D: Drive>(
     ensures told { (before : Cells) (total : ℕ) → ((x : Place) → FadesAt before (cells_in D.units D.lost parts.old) x)
         → TellsBelow parts.old.groups before (cells_in D.units D.lost parts.old) total (128 * group) findings.old
         → OnOk result (TellsBelow parts.old.groups before (cells_in D.units D.lost parts.new) total (128 * group + 128) findings.new) }
+    ensures memory { IsOkUnless result Memory }
 {
     for index in 0..parts.groups.slots_of(group) {
         let slot = SLOTS * group + index;
@@ -97,6 +100,7 @@ fn scrub_groups<D: Drive>(
     ensures only { LosesOnly D.units D.lost D.failures parts.old parts.new }
     ensures told { Tells (slot_total parts.old.groups) [] findings.old
         → OnOk result (TellsUnsound parts.old.groups (cells_in D.units D.lost parts.old) (cells_in D.units D.lost parts.new) findings.new) }
+    ensures memory { IsOkUnless result Memory }
 {
     for group in 0..GROUPS as u16 {
         scrub_group(parts, group, unit, other, findings)?;
@@ -117,6 +121,7 @@ fn name_unsound<D: Drive>(
     ensures sound { OnOk result (findings.new.unsound ≡ 0 → AreSound parts.new.groups (cells_in D.units D.lost parts.new)) }
     ensures told { Tells (slot_total parts.old.groups) [] findings.old
         → OnOk result (TellsUnsound parts.old.groups (cells_in D.units D.lost parts.old) (cells_in D.units D.lost parts.new) findings.new) }
+    ensures memory { IsOkUnless result Memory }
     ensures only { LosesOnly D.units D.lost D.failures parts.old parts.new }
 {
     // Mostly there is none: this reads each row once, while a test of each slot reads a row for each of its slots.
@@ -139,6 +144,10 @@ pub fn scrub_parts<D: Drive>(alloc: Global, parts: &mut Parts<D>) -> Result<Find
 
     // Each slot that isn't sound is counted, no other is, and the lowest of them are named.
     ensures told { IfOk result (TellsUnsound parts.old.groups (cells_in D.units D.lost parts.old) (cells_in D.units D.lost parts.new)) }
+
+    // Parts that fit one another are tested unless memory runs out, and others are not.
+    ensures memory { IsFit D.units parts.old → IsOkUnless result Memory }
+    ensures misfit { (IsFit D.units parts.old → ⊥) → IsErrOf result Misfit }
 
     // It reads, and nothing else: a drive is lost by its own failure alone.
     ensures only { LosesOnly D.units D.lost D.failures parts.old parts.new }
