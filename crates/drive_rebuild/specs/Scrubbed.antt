@@ -20,16 +20,16 @@ pub record AreUnsound (groups : Groups) (before after : Cells) (slots : List ℕ
   pub others : (slot : ℕ) → Contains slots slot ⊎ IsSoundSlot groups after slot
 
 -- the findings count these slots, name the lowest of them, and say how many were tested
-pub record Tells (total : ℕ) (slots : List ℕ) (findings : Findings) : Type 0 where
+pub record Reports (total : ℕ) (slots : List ℕ) (findings : Findings) : Type 0 where
   pub tested : findings.slots ≡ total
   pub counted : findings.unsound ≡ length slots
   pub named : findings.named.items ≡ take NAMED slots
 
--- the findings tell of all slots that aren't sound, and of no others
-pub record TellsUnsound (groups : Groups) (before after : Cells) (findings : Findings) : Type 0 where
+-- the findings report all slots that aren't sound, and of no others
+pub record ReportsUnsound (groups : Groups) (before after : Cells) (findings : Findings) : Type 0 where
   pub slots : List ℕ
   pub are : AreUnsound groups before after slots
-  pub told : Tells (slot_total groups) slots findings
+  pub reported : Reports (slot_total groups) slots findings
 
 -- as `AreUnsound`, of the slots below a bound
 pub record AreUnsoundBelow (groups : Groups) (before after : Cells) (bound : ℕ) (slots : List ℕ) : Type 0 where
@@ -39,11 +39,11 @@ pub record AreUnsoundBelow (groups : Groups) (before after : Cells) (bound : ℕ
   pub unsound : (slot : ℕ) → Contains slots slot → IsUnsoundSlot groups before slot
   pub others : (slot : ℕ) → slot < bound → Contains slots slot ⊎ IsSoundSlot groups after slot
 
--- the findings tell of the slots below a bound that aren't sound, and of no others
-pub record TellsBelow (groups : Groups) (before after : Cells) (total bound : ℕ) (findings : Findings) : Type 0 where
+-- the findings report the slots below a bound that aren't sound, and of no others
+pub record ReportsBelow (groups : Groups) (before after : Cells) (total bound : ℕ) (findings : Findings) : Type 0 where
   pub slots : List ℕ
   pub are : AreUnsoundBelow groups before after bound slots
-  pub told : Tells total slots findings
+  pub reported : Reports total slots findings
 
 -- the slots with one more, which isn't among them if it is sound
 abbrev pub with_tested : List ℕ → ℕ → Bool → List ℕ

@@ -9,7 +9,7 @@ ghost use Rattle.unit_store.specs.Fit.{IsFit};
 ghost use Rattle.unit_store.specs.Losses.{LosesOnly};
 ghost use Rattle.unit_store.specs.Slots.{cells_in};
 ghost use Rattle.drive_rebuild.specs.declared.fault.RebuildFault.TheVariants.{Memory, Misfit};
-ghost use Rattle.drive_rebuild.specs.Scrubbed.{Tells, TellsBelow, TellsUnsound, slot_total, with_tested};
+ghost use Rattle.drive_rebuild.specs.Scrubbed.{Reports, ReportsBelow, ReportsUnsound, slot_total, with_tested};
 
 use crate::fault::RebuildFault;
 use consistency_check::{find_unsound, is_sound};
@@ -46,8 +46,8 @@ fn slots_in(groups: &GroupTable) -> u32
 // Notes a slot that was tested, if it isn't sound.
 fn note(findings: &mut Findings, slot: u16, is_sound: bool) -> Result<(), RebuildFault>
     ensures none { OnOk result (findings.new.unsound ≡ 0 → is_sound ≡ true) }
-    ensures told { (total : ℕ) (slots : List ℕ) → length slots ≤ slot → Tells total slots findings.old
-        → OnOk result (Tells total (with_tested slots slot is_sound) findings.new) }
+    ensures reported { (total : ℕ) (slots : List ℕ) → length slots ≤ slot → Reports total slots findings.old
+        → OnOk result (Reports total (with_tested slots slot is_sound) findings.new) }
     ensures memory { IsOkUnless result Memory }
 {
     if is_sound {
@@ -73,9 +73,9 @@ fn scrub_group<D: Drive>(
     requires other { length other.old ≡ unit_bytes parts.old.groups }
     ensures fit { IsFit D.units parts.new }
     ensures only { LosesOnly D.units D.lost D.failures parts.old parts.new }
-    ensures told { (before : Cells) (total : ℕ) → ((x : Place) → FadesAt before (cells_in D.units D.lost parts.old) x)
-        → TellsBelow parts.old.groups before (cells_in D.units D.lost parts.old) total (128 * group) findings.old
-        → OnOk result (TellsBelow parts.old.groups before (cells_in D.units D.lost parts.new) total (128 * group + 128) findings.new) }
+    ensures reported { (before : Cells) (total : ℕ) → ((x : Place) → FadesAt before (cells_in D.units D.lost parts.old) x)
+        → ReportsBelow parts.old.groups before (cells_in D.units D.lost parts.old) total (128 * group) findings.old
+        → OnOk result (ReportsBelow parts.old.groups before (cells_in D.units D.lost parts.new) total (128 * group + 128) findings.new) }
     ensures memory { IsOkUnless result Memory }
 {
     for index in 0..parts.groups.slots_of(group) {
@@ -98,8 +98,8 @@ fn scrub_groups<D: Drive>(
     requires other { length other.old ≡ unit_bytes parts.old.groups }
     ensures fit { IsFit D.units parts.new }
     ensures only { LosesOnly D.units D.lost D.failures parts.old parts.new }
-    ensures told { Tells (slot_total parts.old.groups) [] findings.old
-        → OnOk result (TellsUnsound parts.old.groups (cells_in D.units D.lost parts.old) (cells_in D.units D.lost parts.new) findings.new) }
+    ensures reported { Reports (slot_total parts.old.groups) [] findings.old
+        → OnOk result (ReportsUnsound parts.old.groups (cells_in D.units D.lost parts.old) (cells_in D.units D.lost parts.new) findings.new) }
     ensures memory { IsOkUnless result Memory }
 {
     for group in 0..GROUPS as u16 {
@@ -119,8 +119,8 @@ fn name_unsound<D: Drive>(
     requires unit { length unit.old ≡ unit_bytes parts.old.groups }
     requires other { length other.old ≡ unit_bytes parts.old.groups }
     ensures sound { OnOk result (findings.new.unsound ≡ 0 → AreSound parts.new.groups (cells_in D.units D.lost parts.new)) }
-    ensures told { Tells (slot_total parts.old.groups) [] findings.old
-        → OnOk result (TellsUnsound parts.old.groups (cells_in D.units D.lost parts.old) (cells_in D.units D.lost parts.new) findings.new) }
+    ensures reported { Reports (slot_total parts.old.groups) [] findings.old
+        → OnOk result (ReportsUnsound parts.old.groups (cells_in D.units D.lost parts.old) (cells_in D.units D.lost parts.new) findings.new) }
     ensures memory { IsOkUnless result Memory }
     ensures only { LosesOnly D.units D.lost D.failures parts.old parts.new }
 {
@@ -143,7 +143,7 @@ pub fn scrub_parts<D: Drive>(alloc: Global, parts: &mut Parts<D>) -> Result<Find
     ensures sound { IfOk result (λ f. f.unsound ≡ 0 → AreSound parts.new.groups (cells_in D.units D.lost parts.new)) }
 
     // Each slot that isn't sound is counted, no other is, and the lowest of them are named.
-    ensures told { IfOk result (TellsUnsound parts.old.groups (cells_in D.units D.lost parts.old) (cells_in D.units D.lost parts.new)) }
+    ensures reported { IfOk result (ReportsUnsound parts.old.groups (cells_in D.units D.lost parts.old) (cells_in D.units D.lost parts.new)) }
 
     // Parts that fit one another are tested unless memory runs out, and others are not.
     ensures memory { IsFit D.units parts.old → IsOkUnless result Memory }

@@ -3,7 +3,7 @@ use Rattle.unit_store.specs.Slots.{cells_in}
 use Rattle.unit_store.specs.Laws.{loses_more, loses_none}
 use Rattle.extent_groups.proofs.Losses.{kept_fades}
 use Rattle.consistency_check.specs.Sound.{IsAnswer}
-use Rattle.drive_rebuild.specs.Scrubbed.{TellsBelow, with_tested}
+use Rattle.drive_rebuild.specs.Scrubbed.{ReportsBelow, with_tested}
 use Rattle.drive_rebuild.proofs.Scrubbing.{fades_more, group_end, one_more}
 use Rattle.drive_rebuild.proofs.scrub.scrub_group.Goals as goal
 
@@ -14,8 +14,8 @@ loop-index-init g c = record {
   only = loses_none g.D.Drive.units g.D.Drive.lost g.D.Drive.failures c.args.parts.now;
   unit = c.requires.unit;
   other = c.requires.other;
-  told = λ before total fades was.
-      subst (λ bound. TellsBelow c.args.parts.now.groups before (cells_in g.D.Drive.units g.D.Drive.lost c.args.parts.now) total bound c.args.findings.now) (omega arith) was;
+  reported = λ before total fades was.
+      subst (λ bound. ReportsBelow c.args.parts.now.groups before (cells_in g.D.Drive.units g.D.Drive.lost c.args.parts.now) total bound c.args.findings.now) (omega arith) was;
 }
 
 pub loop-index-preserved : goal.loop-index-preserved
@@ -25,8 +25,8 @@ loop-index-preserved g c = record {
   only = loses_more g.D.Drive.units g.D.Drive.lost g.D.Drive.failures c.args.parts.now c.loop-index.parts c.is_sound-is_sound.new.parts c.loop-index.invariant.only c.is_sound-is_sound.ensures.only;
   unit = c.is_sound-is_sound.auto.unit ∙ c.loop-index.invariant.unit;
   other = c.is_sound-is_sound.auto.other ∙ c.loop-index.invariant.other;
-  told = λ before total fades was.
-      let so = c.loop-index.invariant.told before total fades was in
+  reported = λ before total fades was.
+      let so = c.loop-index.invariant.reported before total fades was in
       let slot : ℕ = 128 * c.args.group + c.loop-index.index in
       let sound = c.is_sound-is_sound.result in
       let lose = kept_fades c.is_sound-is_sound.ensures.only.drives in
@@ -36,7 +36,7 @@ loop-index-preserved g c = record {
       record {
         slots = with_tested so.slots slot sound;
         are = one_more c.args.parts.now.groups before _ _ slot (128 * c.args.group + (c.loop-index.index + 1)) so.slots sound (omega arith) earlier lose answer so.are;
-        told = c.in_ok-note.ensures.told total so.slots so.are.few so.told;
+        reported = c.in_ok-note.ensures.reported total so.slots so.are.few so.reported;
       };
 }
 
@@ -47,12 +47,12 @@ returns-in_err-note-clause-only g c =
 pub returns-clause-only : goal.returns-clause-only
 returns-clause-only g c = c.loop-index.invariant.only
 
-pub returns-clause-told : goal.returns-clause-told
-returns-clause-told g c = λ before total fades was.
-    let so = c.loop-index.invariant.told before total fades was in
+pub returns-clause-reported : goal.returns-clause-reported
+returns-clause-reported g c = λ before total fades was.
+    let so = c.loop-index.invariant.reported before total fades was in
     record {
       slots = so.slots;
       are = group_end c.args.parts.now.groups before _ c.args.group c.loop-index.index _ so.slots c.requires.fit.groups
           (omega (arith, c.loop-index.auto.index-end, c.loop-index-test.false, c.slots_of-index-end.ensures.count)) (omega arith) so.are;
-      told = so.told;
+      reported = so.reported;
     }
