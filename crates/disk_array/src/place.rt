@@ -30,10 +30,40 @@ use std::alloc::Global;
 
 impl<D: Drive, C: Hold> Array<D, C> {
     /// Fills a mirrored slot with a payload or a trim and commits it to the block, in one write: what `fill` or `trim`
-    /// leaves, and then `commit`. A trim's payload isn't looked at. The slot is open to it: `fill_fault` says whether it is, so
-    /// that a caller who has chosen an open slot asks once. Refused with `Gone` alone. Where the commit would be refused, or an
-    /// allocation fails, there is no refusal, and nothing was done: the caller fills and commits, and learns why.
+    /// leaves, and then `commit`. A trim's payload isn't looked at. Refused as `fill` is. Where the commit would be refused,
+    /// or an allocation fails, there is no refusal, and nothing was done: the caller fills and commits, and learns why.
     pub fn place(
+        &mut self,
+        alloc: Global,
+        claim: C,
+        block: u32,
+        kind: Kind,
+        payload: &[u8],
+    ) -> Result<Done<C>, (Option<Refusal>, C)>
+        requires block { block < self.old.parts.groups.blocks }
+        requires payload { IsSized self.old.parts.groups.payload (content_under kind payload.now) }
+        ensures done { IfOk result (λ done.
+            (self.new ≡ commit_view (fill_view (with_parts self.old self.new.parts) (C.names claim) kind) (C.names claim) block (record_at block (key_at self.old block)) done.emitted)
+            × (done.emitted ≡ record { block = block; version = next_version (record_at block (key_at self.old block)); hop = 0; place = C.names claim })
+            × IsPlaceOf C.names done.old (record_at block (key_at self.old block))
+            × WasPut self.old.parts self.new.parts (C.names claim) (placed_unit done.emitted self.old.parts.groups.payload (content_under kind payload.now))) }
+        ensures err { IfErr result (λ e. (e.1 ≡ claim) × IsUnplaced self.old self.new e.0) }
+        ensures memory { IfErr result (λ e. e.0 ≢ Some Refusal.Memory) }
+        ensures flat { (F : Flat) (w : ℕ) → ShowsArray self.old F → F.held (C.names claim) (Worker w) ≡ true
+            → MatchResult result
+            (λ done. ArePutAtOnce F (say.Fill w (C.names claim) (content_under kind payload.now)) (say.Filled (C.names claim)) w (C.names claim) block done.emitted self.new)
+            (λ e. IfSome e.0 (λ refusal. MayRefuse refusal
+            (FillPasses F w (C.names claim))
+            ((G : Flat) × FillCase F w (C.names claim) (content_under kind payload.now) (say.Refused refusal) G × ShowsArray self.new G))) }
+    {
+        match self.fill_fault(claim.slot()) {
+            Some(refusal) => Err((Some(refusal), claim)),
+            None => self.place_open(alloc, claim, block, kind, payload),
+        }
+    }
+
+    /// `place` for a slot that is open to a fresh content, as `fill_fault` says: nobody asks again. Refused with `Gone` alone.
+    pub fn place_open(
         &mut self,
         alloc: Global,
         claim: C,
@@ -50,7 +80,7 @@ impl<D: Drive, C: Hold> Array<D, C> {
             × IsPlaceOf C.names done.old (record_at block (key_at self.old block))
             × WasPut self.old.parts self.new.parts (C.names claim) (placed_unit done.emitted self.old.parts.groups.payload (content_under kind payload.now))) }
         ensures err { IfErr result (λ e. (e.1 ≡ claim) × IsUnplaced self.old self.new e.0) }
-        ensures memory { IfErr result (λ e. e.0 ≢ Some Refusal.Memory) }
+        ensures gone { IfErr result (λ e. IfSome e.0 (λ refusal. refusal ≡ Refusal.Gone (C.names claim))) }
         ensures flat { (F : Flat) (w : ℕ) → ShowsArray self.old F → F.held (C.names claim) (Worker w) ≡ true
             → MatchResult result
             (λ done. ArePutAtOnce F (say.Fill w (C.names claim) (content_under kind payload.now)) (say.Filled (C.names claim)) w (C.names claim) block done.emitted self.new)
