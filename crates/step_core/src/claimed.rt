@@ -129,9 +129,9 @@ fn place_open<D: Drive, C: Hold>(
 {
     match what {
         What::Fresh(given) => match given {
-            Given::Payload(payload) => array.place(alloc, claim, block, Kind::Data, payload),
+            Given::Payload(payload) => array.place_open(alloc, claim, block, Kind::Data, payload),
             // No bytes, because a trim's payload isn't looked at.
-            Given::Trim => array.place(alloc, claim, block, Kind::Trim, &[]),
+            Given::Trim => array.place_open(alloc, claim, block, Kind::Trim, &[]),
         },
         What::CopyOf(source) => array.place_copy(alloc, claim, source),
     }

@@ -15,21 +15,21 @@ pub returns-in-Payload-clause-flat : goal.returns-in-Payload-clause-flat
 returns-in-Payload-clause-flat g c F w shows held =
     let s = g.C.Hold.names c.args.claim in
     let b = c.args.block in
-    let r = c.place.result in
-    let a = c.place.new.self in
+    let r = c.place_open.result in
+    let a = c.place_open.new.self in
     subst (λ (x : What). MatchResult r (λ done. ArePutAtOnce F (put_step (put_for x) w s b) (put_answer (put_for x) s) w s b done.emitted a)
     (λ e. IfSome e.0 (λ q. MayRefuse q (Unit {0}) ((G : Flat) × (Case F (put_step (put_for x) w s b) (Refused q) G) × (ShowsArray a G)))))
-    (sym (c.in-Fresh.is ∙ ap what.Fresh c.in-Payload.is)) (less_reported _ _ _ r (c.place.ensures.flat F w shows held))
+    (sym (c.in-Fresh.is ∙ ap what.Fresh c.in-Payload.is)) (less_reported _ _ _ r (c.place_open.ensures.flat F w shows held))
 
 pub returns-in-Trim-clause-flat : goal.returns-in-Trim-clause-flat
 returns-in-Trim-clause-flat g c F w shows held =
     let s = g.C.Hold.names c.args.claim in
     let b = c.args.block in
-    let r = c.place-in-Trim.result in
-    let a = c.place-in-Trim.new.self in
+    let r = c.place_open-in-Trim.result in
+    let a = c.place_open-in-Trim.new.self in
     subst (λ (x : What). MatchResult r (λ done. ArePutAtOnce F (put_step (put_for x) w s b) (put_answer (put_for x) s) w s b done.emitted a)
     (λ e. IfSome e.0 (λ q. MayRefuse q (Unit {0}) ((G : Flat) × (Case F (put_step (put_for x) w s b) (Refused q) G) × (ShowsArray a G)))))
-    (sym (c.in-Fresh.is ∙ ap what.Fresh c.in-Trim.is)) (less_reported _ _ _ r (c.place-in-Trim.ensures.flat F w shows held))
+    (sym (c.in-Fresh.is ∙ ap what.Fresh c.in-Trim.is)) (less_reported _ _ _ r (c.place_open-in-Trim.ensures.flat F w shows held))
 
 pub returns-in-CopyOf-clause-flat : goal.returns-in-CopyOf-clause-flat
 returns-in-CopyOf-clause-flat g c F w shows held =
