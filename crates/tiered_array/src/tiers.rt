@@ -2,6 +2,7 @@
 ghost use Rattle.std.specs.Prelude.{◌≡◌, ◌<◌, IfOk, OnErr};
 ghost use Rattle.slot_tables.specs.Represents.{Represents};
 ghost use Rattle.slot_tables.specs.Views.{SameSizes};
+ghost use Rattle.flat_machine.specs.Cases.{IsAllocating};
 ghost use Rattle.flat_machine.specs.Flat.{Flat};
 ghost use Rattle.step_core.specs.Reported.{flat_answer};
 ghost use Rattle.tiered_array.specs.Matches.{RepresentsTiers};
@@ -82,6 +83,7 @@ impl<D: Drive> Tiers<D> {
         ensures ok { IfOk result (λ answer. (T : Tiered) → RepresentsTiers self.old T
             → (U : Tiered) × CommitNoted T worker slot block (flat_answer answer) U × RepresentsTiers self.new U) }
         ensures err { OnErr result (self.new ≡ self.old) }
+        ensures needs { OnErr result ((T : Tiered) → RepresentsTiers self.old T → IsAllocating T.flat (f.Commit worker slot block)) }
         ensures room { SameSizes self.old.world.array self.new.world.array }
     {
         let answer = self.world.commit(alloc, worker, slot, block)?;
@@ -118,6 +120,7 @@ impl<D: Drive> Tiers<D> {
         ensures ok { IfOk result (λ answer. (T : Tiered) → RepresentsTiers self.old T
             → (U : Tiered) × StepAlone T (f.Make class members.now) (flat_answer answer) U × RepresentsTiers self.new U) }
         ensures err { OnErr result (self.new ≡ self.old) }
+        ensures needs { OnErr result ((T : Tiered) → RepresentsTiers self.old T → IsAllocating T.flat (f.Make class members.now)) }
         ensures room { SameSizes self.old.world.array self.new.world.array }
     {
         let answer = self.world.make(alloc, class, members)?;
@@ -132,6 +135,7 @@ impl<D: Drive> Tiers<D> {
         ensures ok { IfOk result (λ answer. (T : Tiered) → RepresentsTiers self.old T
             → (U : Tiered) × StepAlone T (f.Unmake worker group) (flat_answer answer) U × RepresentsTiers self.new U) }
         ensures err { OnErr result (self.new ≡ self.old) }
+        ensures needs { OnErr result ((T : Tiered) → RepresentsTiers self.old T → IsAllocating T.flat (f.Unmake worker group)) }
         ensures room { SameSizes self.old.world.array self.new.world.array }
     {
         self.world.unmake(alloc, worker, group)
