@@ -32,7 +32,7 @@ use Rattle.extents.specs.declared.header.Kind.{Kind}
 use Rattle.unit_store.specs.Views.{WasPut, WasCopied}
 use Rattle.slot_tables.specs.Views.{Kept, Nothing, Pending, Moving, Newest, Unmade, ArrayView, WorldView, kept_at, hand_at, key_at, has_no_holder, with_parts, SameSizes}
 use Rattle.slot_tables.specs.Represents.{HandSlot, ShowsArray, Represents, is_claim, is_ticket}
-use Rattle.slot_tables.proofs.Fills.{fill_refused}
+use Rattle.slot_tables.proofs.Fills.{can_fill, fill_refused}
 use Rattle.slot_tables.proofs.Hands.{claim_case, release_case, with_hand}
 use Rattle.flat_machine.proofs.Newest as flat
 use Rattle.flat_machine.proofs.Keeps.{step_keeps}
@@ -558,6 +558,23 @@ class_is groups s is = there (group_at groups (s / 128)) is.made is.below
 pub given_open : (a : ArrayView) (x : Option Given) (s b : ℕ) → IsLevelFor x a.parts.groups s → kept_at a s ≡ Nothing → IsOpenFor a s (what_of x b)
 given_open a (Some g) s b level kept = λ i. fill_reason_of (class_is a.parts.groups s level i) (kept i)
 given_open a None s b level kept = tt
+
+-- and a slot that is open to it is of a group where it can go
+mirror_is : (groups : Groups) (s : ℕ) → class_at groups s ≡ Some Mirrored → IsSlotOf Mirrored groups s
+mirror_is groups s is = let found = there (group_at groups (s / 128)) is in record { made = found.0; below = found.1 }
+  where
+    here : (group : Group) (inside : Bool) → nat_lt (s % 128) (slot_count group.class (length group.members) groups.segments) ≡ inside
+        → cond inside (Some group.class) None ≡ Some Mirrored → (class_in (Some group) ≡ Some Mirrored) × (s % 128 < slots_in groups.segments (Some group))
+    here group true lies is = (is, grind (arith, nat_tests))
+    here group false lies is = absurd (cc)
+
+    there : (group : Option Group) → class_below groups.segments group (s % 128) ≡ Some Mirrored → (class_in group ≡ Some Mirrored) × (s % 128 < slots_in groups.segments group)
+    there None is = absurd (cc)
+    there (Some group) is = here group (nat_lt (s % 128) (slot_count group.class (length group.members) groups.segments)) refl is
+
+pub open_given : (a : ArrayView) (x : Option Given) (s b : ℕ) → IsOpenFor a s (what_of x b) → IsLevelFor x a.parts.groups s
+open_given a (Some g) s b is_open = mirror_is a.parts.groups s (can_fill a s is_open).class
+open_given a None s b is_open = tt
 
 -- refused, before or after something waited in the slot
 pub refused_then : (v : WorldView) (F : Flat) (e : ArrayView) (what : Put) (w s b : ℕ) (q : Refusal) → IsOpen v what s b → Represents v F → IsNotPlaced v.array e what s b q

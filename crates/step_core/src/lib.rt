@@ -4,6 +4,7 @@
 mod claimed;
 mod grow;
 mod place;
+mod refusal;
 mod relocate;
 mod restart;
 mod run;
@@ -21,6 +22,7 @@ pub use extent_groups::GroupTable;
 pub use extents::{Drive, DriveLost, ExtentTable, HotSwap, MemDrive, Shape, ShapeRefusal};
 pub use flat_machine::{Class, Member, Refusal};
 pub use place::{Given, NotPlaced, Placed, is_mirror};
+pub use refusal::unless_memory;
 pub use run::{Run, Stopped, represented_matches, run_fixed, run_steps};
 pub use step::{Answer, Step};
 pub use unit_store::Units;

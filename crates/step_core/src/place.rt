@@ -8,7 +8,7 @@ ghost use Rattle.slot_tables.specs.Changes.{IsPlaceOf};
 ghost use Rattle.slot_tables.specs.Represents.{Represents};
 ghost use Rattle.slot_tables.specs.Views.{SameSizes, hand_at, has_no_holder, kept_at};
 ghost use Rattle.step_core.specs.Placing as what;
-ghost use Rattle.step_core.specs.Placing.{IsOpenFor, IsSizedFor, Places, PlacesFree, record_slot, put_of};
+ghost use Rattle.step_core.specs.Placing.{IsLevelFor, IsSizedFor, Places, PlacesFree, record_slot, put_of};
 
 use crate::claimed::{What, fresh_fault, put_and_finish};
 use crate::world::World;
@@ -85,7 +85,7 @@ impl<D: Drive> World<D> {
         given: Option<Given>,
     ) -> Result<Placed, Refusal>
         requires free { has_no_holder (kept_at self.old.array slot) (hand_at self.old.hands slot) ≡ true }
-        requires open { IsOpenFor self.old.array slot (what.what_of given block) }
+        requires level { IsLevelFor given self.old.array.parts.groups slot }
         requires block { block < self.old.array.parts.groups.blocks }
         requires given { IsSizedFor self.old.array.parts.groups.payload given }
         ensures flat { (F : Flat) (w : ℕ) → Represents self.old F

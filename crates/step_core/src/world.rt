@@ -15,6 +15,7 @@ ghost use Rattle.slot_tables.specs.Represents.{Represents, is_claim};
 ghost use Rattle.step_core.specs.Passed.{given_old};
 ghost use Rattle.step_core.specs.Reported.{flat_answer, read_answer};
 
+use crate::refusal::unless_memory;
 use crate::step::Answer;
 use disk_array::{Array, Hands, Visit};
 use extents::{Drive, HotSwap, MemDrive, Shape};
@@ -368,10 +369,7 @@ pub(crate) fn refused(refusal: Refusal) -> Result<Answer, AllocError>
     ensures ok { IfOk result (λ answer. (answer ≡ Answer.Refused refusal) × (refusal ≢ Refusal.Memory)) }
     ensures err { OnErr result (refusal ≡ Refusal.Memory) }
 {
-    match refusal {
-        Refusal::Memory => Err(AllocError),
-        _ => Ok(Answer::Refused(refusal)),
-    }
+    Ok(Answer::Refused(unless_memory(refusal)?))
 }
 
 // After a commit the worker holds the old place.

@@ -70,32 +70,27 @@ pub shift_done : (v w : WorldView) (s : Shift)
     → ((F : Flat) → Represents v F → (G : Flat) × Case F (MoveExtent s.group s.member s.to) MovedExtent G × Represents w G) → WasShift v w s (Ok (Moved s))
 shift_done v w s does = record { ok = λ F rep. let y = does F rep in (y.0, (refl, y.1), y.2); err = tt; needs = tt }
 
-pub shift_refused : (v w : WorldView) (s : Shift) (r : Refusal) (result : Result Regrouped AllocError)
-    → IfOk result (λ outcome. (outcome ≡ Refused r) × (r ≢ Memory)) → OnErr result (r ≡ Memory) → (r ≡ Memory → w ≡ v)
+pub shift_refused : (v w : WorldView) (s : Shift) (r q : Refusal) → q ≡ r → r ≢ Memory
     → ((F : Flat) → Represents v F → MayRefuse r (IsAllocating F (MoveExtent s.group s.member s.to))
     ((G : Flat) × Case F (MoveExtent s.group s.member s.to) (step.Refused r) G × Represents w G))
-    → WasShift v w s result
-shift_refused v w s r (Ok o) ok err same may = record {
+    → WasShift v w s (Ok (Refused q))
+shift_refused v w s r q is ne may = record {
   ok = λ F rep.
       let y = refused_of r (IsAllocating F (MoveExtent s.group s.member s.to))
-      ((G : Flat) × Case F (MoveExtent s.group s.member s.to) (step.Refused r) G × Represents w G) (may F rep) ok.1
+      ((G : Flat) × Case F (MoveExtent s.group s.member s.to) (step.Refused r) G × Represents w G) (may F rep) ne
       in
-      (y.0, subst (λ x. ShiftCase F s x y.0) (sym ok.0) y.1, y.2);
+      (y.0, subst (λ x. ShiftCase F s (Refused x) y.0) (sym is) y.1, y.2);
   err = tt;
   needs = tt;
 }
-shift_refused v w s r (Err e) ok err same may = record {
-  ok = tt;
-  err = same err;
-  needs = λ F rep. expected_of r (IsAllocating F (MoveExtent s.group s.member s.to))
-      ((G : Flat) × Case F (MoveExtent s.group s.member s.to) (step.Refused r) G × Represents w G) (may F rep) err;
-}
 
--- no member is moved then
-pub not_moved : (r : Refusal) (P : Type 0) (result : Result Regrouped AllocError) → IfOk result (λ outcome. (outcome ≡ Refused r) × (r ≢ Memory))
-    → IfOk result (λ outcome. IfMoved outcome P)
-not_moved r P (Ok o) ok = subst (λ x. IfMoved x P) (sym ok.0) tt
-not_moved r P (Err e) ok = tt
+-- out of memory, it passed all that is tested before
+pub shift_needs : (v w : WorldView) (s : Shift) (r : Refusal) → r ≡ Memory
+    → ((F : Flat) → Represents v F → MayRefuse r (IsAllocating F (MoveExtent s.group s.member s.to))
+    ((G : Flat) × Case F (MoveExtent s.group s.member s.to) (step.Refused r) G × Represents w G))
+    → (F : Flat) → Represents v F → IsAllocating F (MoveExtent s.group s.member s.to)
+shift_needs v w s r is may F rep = expected_of r (IsAllocating F (MoveExtent s.group s.member s.to))
+    ((G : Flat) × Case F (MoveExtent s.group s.member s.to) (step.Refused r) G × Represents w G) (may F rep) is
 
 -- a shift that a plan to balance asks for is that plan's case, in every state that a world represents
 pub all_balanced : {E : Type 0} (r : Result Regrouped E) (v w : WorldView) (s : Shift) → ((F : Flat) → Represents v F → IsBalanceOf F (Some s))

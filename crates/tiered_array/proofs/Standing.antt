@@ -232,7 +232,7 @@ puts_nowhere t w s b what held =
     puts_none t t.world w s b what NoRoom (λ r is. absurd (cc)) (λ F rep. (F, (F, taken_case t.world F w s held rep, refl), rep))
 
 -- a placing that was refused, and one that ran out of memory
-puts_refused : (t : TiersView) (v : WorldView) (w s b : ℕ) (what : Put) (k : Refusal) (o : Outcome) → o ≡ outcome.Refused k → k ≢ Memory
+pub puts_refused : (t : TiersView) (v : WorldView) (w s b : ℕ) (what : Put) (k : Refusal) (o : Outcome) → o ≡ outcome.Refused k → k ≢ Memory
     → PlacesTo t.world v w s b what (Err k) → PutsTo t (record t { world = v }) w s b what o
 puts_refused t v w s b what k o is some places =
     puts_none t v w s b what o (λ r placed. let both : outcome.Refused k ≡ outcome.Placed r = sym is ∙ placed in absurd (cc)) (λ F rep.
@@ -243,7 +243,7 @@ puts_refused t v w s b what k o is some places =
     reported F G Memory ne case = absurd (ne refl)
     reported F G j ne case = case
 
-puts_stop : (t : TiersView) (v : WorldView) (w s b : ℕ) (what : Put) (k : Refusal) → k ≡ Memory → PlacesTo t.world v w s b what (Err k)
+pub puts_stop : (t : TiersView) (v : WorldView) (w s b : ℕ) (what : Put) (k : Refusal) → k ≡ Memory → PlacesTo t.world v w s b what (Err k)
     → (T : Tiered) → RepresentsTiers t T → (U : Tiered) × PutStops T w what b s U × RepresentsTiers (record t { world = v }) U
 puts_stop t v w s b what k is places T matches =
     let p = places T.flat matches.world in
@@ -252,19 +252,6 @@ puts_stop t v w s b what k is places T matches =
       record { left = p.0; stops = stops; same = refl },
       stands_alike t v T p.0 matches p.2 (stops_alike T.flat p.0 w s b what stops) (stops_free T.flat p.0 w s b what stops),
     )
-
--- the same of what the call returns then
-pub refused_puts : (t : TiersView) (v : WorldView) (w s b : ℕ) (what : Put) (k : Refusal) (result : Result Outcome AllocError)
-    → IfOk result (λ o. (o ≡ outcome.Refused k) × (k ≢ Memory)) → PlacesTo t.world v w s b what (Err k)
-    → IfOk result (λ o. PutsTo t (record t { world = v }) w s b what o)
-refused_puts t v w s b what k (Ok o) is places = puts_refused t v w s b what k o is.0 is.1 places
-refused_puts t v w s b what k (Err e) is places = tt
-
-pub refused_stops : (t : TiersView) (v : WorldView) (w s b : ℕ) (what : Put) (k : Refusal) (result : Result Outcome AllocError)
-    → OnErr result (k ≡ Memory) → PlacesTo t.world v w s b what (Err k)
-    → OnErr result ((T : Tiered) → RepresentsTiers t T → (U : Tiered) × PutStops T w what b s U × RepresentsTiers (record t { world = v }) U)
-refused_stops t v w s b what k (Ok o) is places = tt
-refused_stops t v w s b what k (Err e) is places = puts_stop t v w s b what k is places
 
 -- after a placing the log goes on elsewhere
 pub appends : (t m : TiersView) (p : Planner) (w s b : ℕ) (o : Outcome) → PutsTo t m w s b Again o

@@ -1,5 +1,5 @@
 // Putting a block into a slot, and updating what is kept next to the world.
-ghost use Rattle.std.specs.Prelude.{◌≡◌, ◌≢◌, ◌<◌, IfOk, OnErr, ℕ};
+ghost use Rattle.std.specs.Prelude.{◌<◌, IfOk, OnErr, ℕ};
 ghost use Rattle.slot_tables.specs.Views.{SameSizes};
 ghost use Rattle.tiered_array.specs.Marking.{PutsAt};
 ghost use Rattle.tiered_array.specs.Inside.{IsFreeHere};
@@ -11,7 +11,7 @@ ghost use Rattle.tiered_array.specs.Tiered.{Tiered};
 use crate::hints::hint_left;
 use crate::{Outcome, Tiers};
 use std::alloc::{AllocError, Global};
-use step_core::{Drive, Given, Refusal};
+use step_core::{Drive, Given, unless_memory};
 
 impl<D: Drive> Tiers<D> {
     // Puts the block into a slot that nobody holds: what is given, else a copy of the block's last write. Its commit is noted, and its
@@ -41,7 +41,7 @@ impl<D: Drive> Tiers<D> {
                 self.planner.note(self.world.array(), placed.newest);
                 Ok(Outcome::Placed(placed.newest))
             }
-            Err(refusal) => refused(refusal),
+            Err(refusal) => Ok(Outcome::Refused(unless_memory(refusal)?)),
         }
     }
 
@@ -64,16 +64,5 @@ impl<D: Drive> Tiers<D> {
             return Ok(Outcome::NoRoom);
         }
         self.put(alloc, slot, block, None)
-    }
-}
-
-// The outcome of a refused placing; out of memory is no outcome.
-fn refused(refusal: Refusal) -> Result<Outcome, AllocError>
-    ensures ok { IfOk result (λ outcome. (outcome ≡ Outcome.Refused refusal) × (refusal ≢ Refusal.Memory)) }
-    ensures err { OnErr result (refusal ≡ Refusal.Memory) }
-{
-    match refusal {
-        Refusal::Memory => Err(AllocError),
-        _ => Ok(Outcome::Refused(refusal)),
     }
 }

@@ -1,5 +1,5 @@
 //! Moving one extent by a plan: rebalancing, or rebuilding.
-ghost use Rattle.std.specs.Prelude.{◌≡◌, ◌≢◌, ◌+◌, ◌<◌, ◌≤◌, Bool, IfOk, IfSome, List, OnErr, Some};
+ghost use Rattle.std.specs.Prelude.{◌≡◌, ◌+◌, ◌<◌, ◌≤◌, Bool, IfOk, IfSome, List, OnErr, Some};
 ghost use Rattle.slot_tables.specs.Represents.{Represents};
 ghost use Rattle.slot_tables.specs.Views.{SameSizes, IsWhole};
 ghost use Rattle.flat_machine.specs.Flat.{Flat};
@@ -12,7 +12,7 @@ ghost use Rattle.tiered_array.specs.Regrouping.{AreLostOf, BalanceCase, IsBalanc
 use crate::Regrouped;
 use rebalancer::{Shift, balance_plan, rebuild_plan};
 use std::alloc::AllocError;
-use step_core::{Drive, Refusal, World};
+use step_core::{Drive, Refusal, World, unless_memory};
 
 /// Moves one extent from a drive of greatest load to one of least, of those pairs whose loads (extents in groups) are two
 /// apart or more; `Nothing` where there is no such pair, or none that may be moved. Refused as the move is: with `DriveLost`
@@ -85,17 +85,6 @@ fn carry_out<D: Drive>(world: &mut World<D>, shift: Shift) -> Result<Regrouped, 
 {
     match world.move_extent(shift.group, shift.member, shift.to) {
         Ok(()) => Ok(Regrouped::Moved(shift)),
-        Err(refusal) => refused(refusal),
-    }
-}
-
-// The outcome of a refused shift; out of memory is no outcome.
-fn refused(refusal: Refusal) -> Result<Regrouped, AllocError>
-    ensures ok { IfOk result (λ outcome. (outcome ≡ Regrouped.Refused refusal) × (refusal ≢ Refusal.Memory)) }
-    ensures err { OnErr result (refusal ≡ Refusal.Memory) }
-{
-    match refusal {
-        Refusal::Memory => Err(AllocError),
-        _ => Ok(Regrouped::Refused(refusal)),
+        Err(refusal) => Ok(Regrouped::Refused(unless_memory(refusal)?)),
     }
 }

@@ -1,11 +1,11 @@
 use Rattle.std.proofs.Common.{◌≡◌, sym, ap, subst, rules}
 use Rattle.map_join.specs.Record.{record_at}
 use Rattle.slot_tables.specs.declared.hold.Plain.{Plain}
-use Rattle.slot_tables.specs.Views.{ArrayView, WorldView, key_at}
+use Rattle.slot_tables.specs.Views.{ArrayView, WorldView, hand_at, kept_at, key_at}
 use Rattle.slot_tables.specs.Represents.{Represents}
 use Rattle.step_core.specs.Placing.{IsOpenFor, IsWhatFor, put_of}
 use Rattle.step_core.specs.declared.claimed.What.{What}
-use Rattle.step_core.proofs.Placing.{given_at_once, given_fits, given_not_placed, given_of, opened, places_as, places_at_once, refused_then}
+use Rattle.step_core.proofs.Placing.{free_kept, given_at_once, given_fits, given_not_placed, given_of, given_open, opened, places_as, places_at_once, refused_then}
 use Rattle.step_core.proofs.world.World.place_free.Goals as goal
 
 pub returns-in-Err-clause-flat : goal.returns-in-Err-clause-flat
@@ -47,4 +47,6 @@ pub put_and_finish-requires-clause-open : goal.put_and_finish-requires-clause-op
 put_and_finish-requires-clause-open g c =
     let array : c.self.inside.array ≡ c.args.self.now.array = ap (λ (w : WorldView). w.array) c.self.view_is in
     subst (λ (a : ArrayView). IsOpenFor a c.args.slot c.what_of.result) (sym array)
-    (subst (λ (x : What). IsOpenFor c.args.self.now.array c.args.slot x) (sym c.what_of.ensures) c.requires.open)
+    (subst (λ (x : What). IsOpenFor c.args.self.now.array c.args.slot x) (sym c.what_of.ensures)
+    (given_open c.args.self.now.array c.args.given c.args.slot c.args.block c.requires.level
+    (free_kept (kept_at c.args.self.now.array c.args.slot) (hand_at c.args.self.now.hands c.args.slot) c.requires.free)))
