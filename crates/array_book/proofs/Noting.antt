@@ -1,17 +1,17 @@
 -- What a hand noted of a call that failed.
-use Rattle.std.proofs.Common.{◌≡◌, ◌≢◌, ◌⊎◌, ℕ, inl, inr, refl, sym, subst, Result, Ok, Err}
+use Rattle.std.proofs.Common.{◌≡◌, ◌≢◌, ℕ, inl, inr, refl, sym, subst, Result, Ok, Err}
 use Rattle.std.specs.Prelude.{MatchResult}
 use Rattle.map_join.specs.declared.records.Record.{Record}
 use Rattle.flat_machine.specs.declared.refusal.Refusal.{Refusal}
-use Rattle.flat_machine.specs.declared.refusal.Refusal.TheVariants.{Memory, NoTicket}
+use Rattle.flat_machine.specs.declared.refusal.Refusal.TheVariants.{Memory}
 use Rattle.step_core.specs.declared.claimed.What.{What}
 use Rattle.step_core.specs.declared.claimed.What.TheVariants as given
 use Rattle.step_core.specs.Placing.{Put, Again, IsWhatOf, block_for, put_for}
 use Rattle.history.specs.Entries.{Carried}
 use Rattle.array_book.specs.declared.fault.WorkFault.{WorkFault}
 use Rattle.array_book.specs.declared.fault.WorkFault.TheVariants.{Core}
-use Rattle.array_book.specs.Acts.{Act, refused_commit, unplaced_act}
-use Rattle.array_book.specs.Outcomes.{Noted, GaveUp, HasGivenUp, HasLeft, HasPut, HasFailed, fault_of}
+use Rattle.array_book.specs.Acts.{Act, unplaced_act}
+use Rattle.array_book.specs.Outcomes.{Noted, WasRefused, GaveUp, HasGivenUp, HasLeft, HasPut, HasFailed, fault_of}
 
 -- each refusal but out of memory is a fault of the array
 pub fault_else : (q : Refusal) → q ≢ Memory → fault_of q ≡ Core q
@@ -19,11 +19,11 @@ fault_else Memory other = absurd (other refl)
 fault_else _ other = refl
 
 -- a refused commit, and then its ticket
-pub given_up : (v m w : Carried Act) (slot t block : ℕ) (p q : Refusal) → Noted v (refused_commit slot block p) m ⊎ ((m ≡ v) × (p ≡ NoTicket)) → q ≡ p → t ≡ slot
-    → GaveUp m t w → HasGivenUp v slot block q w
-given_up v m w slot t block p q refused same at gave = record {
+pub given_up : (v m w : Carried Act) (what : Put) (slot t block : ℕ) (p q : Refusal) → WasRefused v what slot block p m → q ≡ p → t ≡ slot → GaveUp m t w
+    → HasGivenUp v what slot block q w
+given_up v m w what slot t block p q refused same at gave = record {
   between = m;
-  refused = subst (λ (z : Refusal). Noted v (refused_commit slot block z) m ⊎ ((m ≡ v) × (z ≡ NoTicket))) (sym same) refused;
+  refused = subst (λ (z : Refusal). WasRefused v what slot block z m) (sym same) refused;
   given_up = subst (λ (n : ℕ). GaveUp m n w) at gave;
 }
 

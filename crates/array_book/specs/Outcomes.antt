@@ -35,10 +35,15 @@ pub record HasCommitted (v : Carried Act) (slot block : ℕ) (r : Record) (w : C
 abbrev pub GaveUp : Carried Act → ℕ → Carried Act → Type 0
 GaveUp v slot w = Noted v (discarded_act slot) w ⊎ ((q : Refusal) × Noted v (undiscarded_act slot q) w)
 
--- the commit was refused, or there was no fresh ticket to commit; then the ticket was given up
-pub record HasGivenUp (v : Carried Act) (slot block : ℕ) (q : Refusal) (w : Carried Act) : Type 0 where
+-- the commit of what was put into a slot was refused; or that was a fresh content, and none waited there: then nothing is noted
+abbrev pub WasRefused : Carried Act → Put → ℕ → ℕ → Refusal → Carried Act → Type 0
+WasRefused v (Fresh x) slot block q w = Noted v (refused_commit slot block q) w ⊎ ((w ≡ v) × (q ≡ refusal.NoTicket))
+WasRefused v Again slot block q w = Noted v (refused_commit slot block q) w
+
+-- the commit was refused; then the ticket was given up
+pub record HasGivenUp (v : Carried Act) (what : Put) (slot block : ℕ) (q : Refusal) (w : Carried Act) : Type 0 where
   pub between : Carried Act
-  pub refused : Noted v (refused_commit slot block q) between ⊎ ((between ≡ v) × (q ≡ refusal.NoTicket))
+  pub refused : WasRefused v what slot block q between
   pub given_up : GaveUp between slot w
 
 -- this was put into a slot, and then that very slot was committed for the block, as this record
@@ -56,12 +61,12 @@ HasHop Again r = Unit {0}
 pub record HasLeft (v : Carried Act) (what : Put) (slot block : ℕ) (q : Refusal) (w : Carried Act) : Type 0 where
   pub between : Carried Act
   pub placed : Noted v (placed_act what slot block) between
-  pub left : HasGivenUp between slot block q w
+  pub left : HasGivenUp between what slot block q w
 
 -- the outcome of a commit, of a put with its commit, and of a put that may be refused
-abbrev pub HasEnded : {D E : Type 0} → (D → Record) → (E → Refusal) → Carried Act → ℕ → ℕ → Result D E → Carried Act → Type 0
-HasEnded of why v slot block (Ok d) w = HasCommitted v slot block (of d) w
-HasEnded of why v slot block (Err e) w = HasGivenUp v slot block (why e) w
+abbrev pub HasEnded : {D E : Type 0} → (D → Record) → (E → Refusal) → Carried Act → Put → ℕ → ℕ → Result D E → Carried Act → Type 0
+HasEnded of why v what slot block (Ok d) w = HasCommitted v slot block (of d) w
+HasEnded of why v what slot block (Err e) w = HasGivenUp v what slot block (why e) w
 
 abbrev pub HasPut : {D E : Type 0} → (D → Record) → (E → Refusal) → Carried Act → Put → ℕ → ℕ → Result D E → Carried Act → Type 0
 HasPut of why v what slot block (Ok d) w = HasPlaced v what slot block (of d) w

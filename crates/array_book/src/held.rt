@@ -1,12 +1,11 @@
 // What a worker's call does under a hold of the lock. What a refusal leaves is released once the lock is free, because claim words
 // need no lock.
-ghost use Rattle.std.specs.Prelude.{◌≡◌, ◌⊎◌, ◌<◌, IfOk, IfErr, OnErr, MatchResult, true, false};
-ghost use Rattle.flat_machine.specs.declared.refusal.Refusal.TheVariants as refusal;
+ghost use Rattle.std.specs.Prelude.{◌≡◌, ◌<◌, IfOk, IfErr, IfSome, OnErr, MatchResult, Some, true, false};
 ghost use Rattle.migrator.specs.Slots.{end_at};
 ghost use Rattle.step_core.specs.Placing.{IsWhatFor, IsWhatOf, block_for, put_for};
-ghost use Rattle.array_book.specs.Acts.{placed_act, unplaced_act, refused_commit};
-ghost use Rattle.array_book.specs.Kept.{HasNoted};
-ghost use Rattle.array_book.specs.Outcomes.{Noted, GaveUp, HasCommitted, HasEnded, HasHop, HasTriedPut};
+ghost use Rattle.array_book.specs.Acts.{placed_act, unplaced_act};
+ghost use Rattle.array_book.specs.Kept.{HasNoted, OnlyArray};
+ghost use Rattle.array_book.specs.Outcomes.{Noted, GaveUp, WasRefused, HasCommitted, HasEnded, HasHop, HasTriedPut};
 
 use crate::claim::{Claim, Sizes};
 use crate::deed::Deed;
@@ -29,6 +28,8 @@ pub(crate) fn wait_in<D: Drive, N: Naming + Sizes>(
 ) -> Result<Ticket, Denied<Claim<N>>>
     requires { IsWhatFor N.blocks N.payload what }
     ensures ticket { IfOk result (λ ticket. ticket ≡ claim.0.slot) }
+    ensures claim { IfErr result (λ e. e.claim ≡ Some claim) }
+    ensures rest { OnlyArray kept.old kept.new }
     ensures called { MatchResult result (λ ticket. Noted me.old (placed_act (put_for what.entry) ticket (block_for what.entry)) me.new)
         (λ e. Noted me.old (unplaced_act (put_for what.entry) claim.0.slot (block_for what.entry) e.refusal) me.new) }
 {
@@ -50,6 +51,7 @@ fn give_up_in<D: Drive, N: Naming + Sizes>(
     ticket: Ticket,
 ) -> Denied<Claim<N>>
     ensures refusal { result.refusal ≡ refusal }
+    ensures claim { IfSome result.claim (λ claim. claim.0.slot ≡ ticket) }
     ensures called { GaveUp me.old ticket me.new }
     ensures planner { kept.new.planner ≡ kept.old.planner }
 {
@@ -73,7 +75,7 @@ fn commit_what_in<D: Drive, N: Naming + Sizes>(
     requires { block < N.blocks }
     ensures ok { IfOk result (λ done. (done.emitted.block ≡ block) × (0 < done.emitted.version) × HasHop (put_for what.entry) done.emitted) }
     ensures called { MatchResult result (λ done. HasCommitted me.old ticket block done.emitted me.new)
-        (λ e. Noted me.old (refused_commit ticket block e.0) me.new ⊎ ((me.new ≡ me.old) × (e.0 ≡ refusal.NoTicket))) }
+        (λ e. WasRefused me.old (put_for what.entry) ticket block e.0 me.new) }
     ensures noted { IfOk result (λ done. HasNoted kept.old kept.new done.emitted) }
     ensures err { IfErr result (λ e. (e.1 ≡ ticket) × (kept.new.planner.ages ≡ kept.old.planner.ages)) }
     ensures end { kept.new.planner.end ≡ kept.old.planner.end }
@@ -98,7 +100,8 @@ pub(crate) fn end_in<D: Drive, N: Naming + Sizes>(
 ) -> Result<Done<Claim<N>>, Denied<Claim<N>>>
     requires { block < N.blocks }
     ensures ok { IfOk result (λ done. (done.emitted.block ≡ block) × (0 < done.emitted.version) × HasHop (put_for what.entry) done.emitted) }
-    ensures called { HasEnded (λ done. done.emitted) (λ e. e.refusal) me.old ticket block result me.new }
+    ensures called { HasEnded (λ done. done.emitted) (λ e. e.refusal) me.old (put_for what.entry) ticket block result me.new }
+    ensures claim { IfErr result (λ e. IfSome e.claim (λ claim. claim.0.slot ≡ ticket)) }
     ensures err { OnErr result ((kept.new.planner.end ≡ kept.old.planner.end) × (kept.new.planner.ages ≡ kept.old.planner.ages)) }
     ensures appended { IfOk result (λ done. appends ≡ true → kept.new.planner.end ≡ end_at done.emitted.place) }
     ensures stays { appends ≡ false → kept.new.planner.end ≡ kept.old.planner.end }
@@ -135,6 +138,13 @@ pub(crate) fn put_and_end_in<D: Drive, N: Naming + Sizes>(
     ensures ok { IfOk result (λ ended. IfOk ended (λ done.
         (done.emitted.block ≡ block) × (0 < done.emitted.version) × HasHop (put_for what.entry) done.emitted)) }
     ensures called { HasTriedPut (λ done. done.emitted) (λ e. e.refusal) me.old (put_for what.entry) claim.0.slot block result me.new }
+    ensures claim { MatchResult result (λ ended. IfErr ended (λ e. IfSome e.claim (λ back. back.0.slot ≡ claim.0.slot))) (λ e. e.claim ≡ Some claim) }
+    ensures err { MatchResult result
+        (λ ended. OnErr ended ((kept.new.planner.end ≡ kept.old.planner.end) × (kept.new.planner.ages ≡ kept.old.planner.ages)))
+        (λ e. OnlyArray kept.old kept.new) }
+    ensures appended { IfOk result (λ ended. IfOk ended (λ done. appends ≡ true → kept.new.planner.end ≡ end_at done.emitted.place)) }
+    ensures stays { appends ≡ false → kept.new.planner.end ≡ kept.old.planner.end }
+    ensures noted { IfOk result (λ ended. IfOk ended (λ done. HasNoted kept.old kept.new done.emitted)) }
 {
     let claim = match place_in(kept, history, me, words, alloc, claim, what, block) {
         Ok(done) => {

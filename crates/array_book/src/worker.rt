@@ -233,6 +233,7 @@ impl<
         ensures called { MatchResult result
             (λ ended. HasPut (λ done. done.emitted) (λ e. e.refusal) self.old.hand (put_for what.entry) claim.slot block ended self.new.hand)
             (λ e. HasFailed self.old.hand (put_for what.entry) claim.slot block e self.new.hand) }
+        ensures claim { IfOk result (λ ended. IfErr ended (λ e. IfSome e.claim (λ back. back.0.slot ≡ claim.slot))) }
         ensures fault { result ≢ Err (Core refusal.Memory) }
         ensures rest { (self.new.number ≡ self.old.number) × (self.new.book ≡ self.old.book) × (self.new.even ≡ self.old.even) × (self.new.odd ≡ self.old.odd) }
     {
