@@ -32,7 +32,7 @@ abbrev pub Makes : TiersView → TiersView → (Flat → Flat → Type 0) → Ty
 Makes t u Turns = (T : Tiered) → RepresentsTiers t T → (U : Tiered) × Turns T.flat U.flat × RepresentsTiers u U
 
 -- an array has the groups and drives of the states that it represents
-follows_of : (t u : TiersView) (T U : Tiered) → RepresentsTiers t T → RepresentsTiers u U → KeepsDrives T.flat U.flat → Makes t u IsAfter → Follows t u
+pub follows_of : (t u : TiersView) (T U : Tiered) → RepresentsTiers t T → RepresentsTiers u U → KeepsDrives T.flat U.flat → Makes t u IsAfter → Follows t u
 follows_of t u T U old new keeps makes =
     let was = old.world.array.tables in
     let is = new.world.array.tables in

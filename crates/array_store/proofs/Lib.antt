@@ -5,3 +5,4 @@ pub mod Pieces
 pub mod Reading
 pub mod Showing
 pub mod Writing
+pub mod Calling

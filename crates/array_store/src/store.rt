@@ -3,11 +3,16 @@ ghost use Rattle.std.specs.Prelude.{◌≡◌, ◌+◌, ◌*◌, ◌≤◌, ◌+
 ghost use Rattle.byte_store.specs.Flat.{StoreState, Sizes};
 ghost use Rattle.byte_store.specs.Changes.{IsChanged, IsFlushed};
 ghost use Rattle.map_join.specs.Maps.{IsSame};
-ghost use Rattle.slot_tables.specs.Views.{key_at};
+ghost use Rattle.slot_tables.specs.Views.{SameSizes, key_at};
+ghost use Rattle.tiered_array.specs.Matches.{RepresentsTiers};
+ghost use Rattle.tiered_array.specs.Tiered.{Tiered};
+ghost use Rattle.array_calls.specs.Calls.{CallCase, FitsCall};
+ghost use Rattle.array_calls.specs.Growth.{Grows};
 ghost use Rattle.array_store.specs.Blocks.{Holds};
 ghost use Rattle.array_store.specs.Stores.{Follows, IsStoreOf};
 
 use crate::disk::Disk;
+use array_calls::{Answered, Call};
 use byte_store::{ByteStore, StoreFault};
 use extents::Drive;
 use std::alloc::{AllocError, Global};
@@ -57,6 +62,20 @@ impl<D: Drive + Drop> ArrayStore<D> {
         ensures leads { V.leads_to visitor.old visitor.new }
     {
         self.disk.visit_drives(visitor)
+    }
+
+    /// Carries out a call of the array, which fits it. The bytes are those of the array's last writes after it. If it is out of
+    /// memory, the array's records and writes are as they were.
+    pub fn call(&mut self, alloc: Global, call: &Call) -> Result<Answered, AllocError>
+        requires { FitsCall self.old.tiers.world.array.parts.groups call.now }
+        ensures ok { IfOk result (λ answered. (T : Tiered) → RepresentsTiers self.old.tiers T
+            → (U : Tiered) × CallCase T call.now answered U × RepresentsTiers self.new.tiers U) }
+        ensures grows { (T : Tiered) → RepresentsTiers self.old.tiers T → (U : Tiered) × Grows T.flat U.flat × RepresentsTiers self.new.tiers U }
+        ensures follows { (T : Tiered) → RepresentsTiers self.old.tiers T → Follows self.old.tiers self.new.tiers }
+        ensures room { SameSizes self.old.tiers.world.array self.new.tiers.world.array }
+        ensures size { self.new.size ≡ self.old.size }
+    {
+        self.disk.call(alloc, call)
     }
 
     /// Makes all writes durable on each drive that isn't lost. One whose sync fails is lost. The bytes and the block map stay.

@@ -5,6 +5,7 @@ pub mod Storing
 pub mod Settled
 pub mod Opening
 pub mod Lasting
+pub mod Calling
 pub mod SettledLasting
 pub mod Picking
 pub mod Positions

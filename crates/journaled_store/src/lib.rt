@@ -3,6 +3,7 @@
 
 mod append;
 mod bytes;
+mod calls;
 mod changes;
 mod comparing;
 mod lookup;

@@ -1,0 +1,70 @@
+// Calls of the array, each of which is kept by the vault.
+ghost use Rattle.std.specs.Prelude.{◌≡◌, ℕ, true, IfOk, OnOk};
+ghost use Rattle.byte_store.specs.Lasting.{Acknowledges, Flushes, Lasts, Shown};
+ghost use Rattle.slot_tables.specs.Views.{SameSizes};
+ghost use Rattle.tiered_array.specs.Matches.{RepresentsTiers};
+ghost use Rattle.tiered_array.specs.Tiered.{Tiered};
+ghost use Rattle.array_calls.specs.Calls.{CallCase, FitsCall};
+ghost use Rattle.array_calls.specs.Growth.{Grows};
+ghost use Rattle.array_calls.specs.declared.call.Call.TheVariants.{Flush};
+ghost use Rattle.array_store.specs.Stores.{Follows};
+ghost use Rattle.journaled_store.specs.Left.{HasBoth};
+ghost use Rattle.journaled_store.specs.Outlasting.{Outlasts, OutlastsSince, point};
+
+use crate::store::JournaledStore;
+use array_calls::{Answered, Call};
+use byte_store::StoreFault;
+use history::Chronicle;
+use std::alloc::{AllocError, Global};
+use vault::Vault;
+
+impl<N: Chronicle, V: Vault + Drop> JournaledStore<N, V> {
+    /// Carries out a call of the array, which fits it, and publishes; after a flush all batches are durable. What the array answers is
+    /// in the inner result: if it is out of memory, its records and writes are as they were. Refused as `publish` is; then a stop may
+    /// leave the call or not.
+    pub fn kept_call(
+        &mut self,
+        alloc: Global,
+        call: &Call,
+    ) -> Result<Result<Answered, AllocError>, StoreFault>
+        requires { FitsCall self.old.store.tiers.world.array.parts.groups call.now }
+        ensures ok { IfOk result (λ carried. IfOk carried (λ answered. (T : Tiered) → RepresentsTiers self.old.store.tiers T
+            → (U : Tiered) × CallCase T call.now answered U × RepresentsTiers self.new.store.tiers U)) }
+        ensures grows { (T : Tiered) → RepresentsTiers self.old.store.tiers T
+            → (U : Tiered) × Grows T.flat U.flat × RepresentsTiers self.new.store.tiers U }
+        ensures follows { (T : Tiered) → RepresentsTiers self.old.store.tiers T → Follows self.old.store.tiers self.new.store.tiers }
+        ensures room { SameSizes self.old.store.tiers.world.array self.new.store.tiers.world.array }
+        ensures size { self.new.store.size ≡ self.old.store.size }
+
+        // A stop leaves what one before would have left, or what the store shows now; a kill after Ok leaves that of now.
+        ensures lasts { (T : Tiered) (what : Shown) → RepresentsTiers self.old.store.tiers T → HasBoth self.new.store.tiers what
+            → Lasts (Outlasts HasBoth V.known V.seen V.may_leave) (λ p. V.moment p.vault) (OutlastsSince HasBoth V.left_since)
+            what what (point self.old) (point self.new)
+            × OnOk result (Acknowledges (Outlasts HasBoth V.known V.seen V.may_leave) what what (point self.old) (point self.new)) }
+
+        // Each stop after a flush that is Ok leaves what the store shows now.
+        ensures flushed { (T : Tiered) (what : Shown) → RepresentsTiers self.old.store.tiers T → HasBoth self.new.store.tiers what
+            → call.now ≡ Flush → OnOk result (Flushes (Outlasts HasBoth V.known V.seen V.may_leave) what (point self.old) (point self.new)) }
+    {
+        self.unsynced = true;
+        let carried = self.store.call(alloc, call);
+        self.keep(call.is_flush())?;
+        Ok(carried)
+    }
+
+    // Publishes, durably or not.
+    fn keep(&mut self, durably: bool) -> Result<(), StoreFault>
+        ensures same { self.new.store ≡ self.old.store }
+        ensures lasts { (what : Shown) → HasBoth self.old.store.tiers what
+            → Lasts (Outlasts HasBoth V.known V.seen V.may_leave) (λ p. V.moment p.vault) (OutlastsSince HasBoth V.left_since)
+            what what (point self.old) (point self.new)
+            × OnOk result (Acknowledges (Outlasts HasBoth V.known V.seen V.may_leave) what what (point self.old) (point self.new)) }
+        ensures flushed { (what : Shown) → HasBoth self.old.store.tiers what → durably ≡ true
+            → OnOk result (Flushes (Outlasts HasBoth V.known V.seen V.may_leave) what (point self.old) (point self.new)) }
+    {
+        if durably {
+            return self.publish_durably();
+        }
+        self.publish()
+    }
+}
