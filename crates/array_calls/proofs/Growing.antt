@@ -1,5 +1,5 @@
 -- By a call no group and no drive comes or goes, and records and writes are added.
-use Rattle.std.proofs.Common.{◌≡◌, inl, inr, ℕ, true, List, [], ◌∷◌, ◌++◌, append-nil, append_assoc, refl, sym, ap, ◌∙◌, subst, Option, Some, None}
+use Rattle.std.proofs.Common.{◌≡◌, inl, inr, ℕ, List, [], ◌∷◌, ◌++◌, append-nil, append_assoc, refl, sym, ap, ◌∙◌, subst, Option, Some, None}
 use Rattle.map_join.specs.declared.records.Record.{Record}
 use Rattle.flat_machine.specs.declared.refusal.Refusal.TheVariants.{NoGroup, WrongClass, InUse, Gone, Unwritten, HopsSpent, VersionSpent, LogFull, NoTicket, Outrun, Ahead}
 use Rattle.flat_machine.specs.Flat.{Flat, Write, Content, Waiting, Fresh, Moved}

@@ -4,8 +4,8 @@ ghost use Rattle.array_calls.specs.declared.call.Call.TheVariants.{Flush};
 ghost use Rattle.array_calls.specs.Calls.{FitsCall};
 
 use map_join::Record;
-use step_core::{Answer, Drive};
-use tiered_array::{Outcome, Tiers};
+use step_core::{Answer, Drive, World};
+use tiered_array::Outcome;
 
 /// A call of the two levels by which no group and no drive comes or goes. The first seven are steps of a worker.
 #[derive(Debug, Drop)]
@@ -73,10 +73,10 @@ impl Call {
     }
 
     /// Whether its block and its payload are those of an array: a block that the array has, and a payload as long as its blocks.
-    pub fn fits<D: Drive>(&self, tiers: &Tiers<D>) -> bool
-        ensures { IsTrue result ↔ FitsCall tiers.now.world.array.parts.groups self.now }
+    pub fn fits<D: Drive>(&self, world: &World<D>) -> bool
+        ensures { IsTrue result ↔ FitsCall world.now.array.parts.groups self.now }
     {
-        let shape = tiers.world().array().shape();
+        let shape = world.array().shape();
         match self {
             Call::Fill {
                 worker: _,

@@ -1,5 +1,5 @@
 -- A call of the array leaves its groups and drives, its records and its writes, and adds to these.
-use Rattle.std.proofs.Common.{◌≡◌, ◌++◌, List, arith, refl, sym, subst}
+use Rattle.std.proofs.Common.{List, arith, refl, sym, subst}
 use Rattle.std.specs.Prelude.{Contains}
 use Rattle.std.proofs.lemmas.List.Elements.{Contains-append_left}
 use Rattle.map_join.specs.declared.records.Record.{Record}

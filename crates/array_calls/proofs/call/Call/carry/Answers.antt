@@ -1,10 +1,10 @@
-use Rattle.std.proofs.Common.{◌≡◌, refl, sym, subst}
+use Rattle.std.proofs.Common.{refl, sym, subst}
 use Rattle.flat_machine.specs.Steps.{Claim, Release, Fill, Copy, Discard, ReadAt}
 use Rattle.step_core.specs.Reported.{flat_answer}
 use Rattle.tiered_array.specs.Matches.{RepresentsTiers}
 use Rattle.tiered_array.specs.Steps as t
 use Rattle.tiered_array.specs.Views.{TiersView}
-use Rattle.array_calls.proofs.Growing.{alone_grows, grows_left, grows_same, noted_grows, tier_grows, tier_stops_grow, to_state}
+use Rattle.array_calls.proofs.Growing.{alone_grows, grows_left, grows_same, noted_grows, tier_grows, tier_stops_grow}
 use Rattle.array_calls.proofs.call.Call.carry.Goals as goal
 
 pub returns-in-Claim-clause-ok : goal.returns-in-Claim-clause-ok
