@@ -8,7 +8,7 @@ use crate::asserts::check;
 use crate::recovered::opened_in;
 use crate::rig::plan_of;
 use crate::stopped::{Reached, bytes_again, new_files, store_of};
-use array_calls::{Answered, Call};
+use array_calls::{CallAnswer, Call};
 use cached_drive::Saved;
 use disk_shape::{Plan, class_of};
 use extents::{DRIVES, Drive};
@@ -133,7 +133,7 @@ fn all_fit<D: Drive>(calls: &[Call], world: &World<D>) -> bool
 }
 
 // How far answers came.
-fn reached_by(calls: &[Call], answers: &[Answered], begun: usize) -> Reached {
+fn reached_by(calls: &[Call], answers: &[CallAnswer], begun: usize) -> Reached {
     let mut flushed = 0usize;
     for (number, call) in calls.iter().enumerate() {
         if number < answers.len() && call.is_flush() {
@@ -157,7 +157,7 @@ fn carry_all<N: Chronicle, V: Vault + Drop>(
     match run_calls(alloc, store, calls) {
         Ok(answers) => {
             check!(rt; answers.len() == CALLS);
-            check!(rt; matches!(answers[9], Answered::Step(Answer::Committed(_))));
+            check!(rt; matches!(answers[9], CallAnswer::Step(Answer::Committed(_))));
             reached_by(calls, &answers, CALLS)
         }
         Err(halted) => reached_by(calls, &halted.answers, halted.at.saturating_add(1)),
