@@ -11,14 +11,17 @@ use Rattle.tiered_array.specs.Placing as put
 use Rattle.tiered_array.specs.Steps.{AppendsAt, CommitNoted, DemoteCase, DemoteStops, Demotes, GoesDown, MovesTo, Plugs, Cleans, PutStops, StepAlone, TierCase, TierStep, TierStops, Writes, WritesAt, WritesFollowing, WritesIn, WritesStop}
 use Rattle.tiered_array.specs.Steps as t
 use Rattle.tiered_array.specs.Tiered.{Tiered}
+use Rattle.tiered_array.specs.Matches.{RepresentsTiers}
+use Rattle.tiered_array.specs.Views.{TiersView}
+use Rattle.std.specs.Prelude.{IfOk, OnErr, Result, Ok, Err}
 use Rattle.tiered_array.specs.declared.outcome.Outcome.{Outcome}
 use Rattle.tiered_array.specs.declared.outcome.Outcome.TheVariants as outcome
 use Rattle.cleaner.specs.declared.moves.Move.{Move}
-use Rattle.array_calls.specs.declared.call.Answered.{Answered}
-use Rattle.array_calls.specs.declared.call.Answered.TheVariants as answered
+use Rattle.array_calls.specs.declared.call.CallAnswer.{CallAnswer}
+use Rattle.array_calls.specs.declared.call.CallAnswer.TheVariants as answered
 use Rattle.array_calls.specs.declared.call.Call.{Call}
 use Rattle.array_calls.specs.declared.call.Call.TheVariants as call
-use Rattle.array_calls.specs.Calls.{CallCase}
+use Rattle.array_calls.specs.Calls.{CallCase, CallStops, IsMade}
 use Rattle.array_calls.specs.Growth.{Grows}
 
 pub grows_more : (F M G : Flat) → Grows F M → Grows M G → Grows F G
@@ -258,7 +261,7 @@ alone_grows T U step answer plain case = to_state T U _ case.0 (step_grows T.fla
 pub noted_grows : (T U : Tiered) (w s b : ℕ) (answer : FlatAnswer) → CommitNoted T w s b answer U → GrowsTo T U
 noted_grows T U w s b answer case = commit_cases T.flat U.flat w s b answer case.case
 
-pub call_grows : (T : Tiered) (asked : Call) (reply : Answered) (U : Tiered) → CallCase T asked reply U → GrowsTo T U
+pub call_grows : (T : Tiered) (asked : Call) (reply : CallAnswer) (U : Tiered) → CallCase T asked reply U → GrowsTo T U
 call_grows T (call.Claim w s) (answered.Step a) U case = alone_grows T U (Claim w s) (flat_answer a) tt case
 call_grows T (call.Release w s) (answered.Step a) U case = alone_grows T U (Release w s) (flat_answer a) tt case
 call_grows T (call.Fill w s payload) (answered.Step a) U case = alone_grows T U (Fill w s _) (flat_answer a) tt case
@@ -273,3 +276,30 @@ call_grows T call.Plug (answered.Plan o) U case = tier_grows T U (t.Plug 0) o ca
 call_grows T call.Clean (answered.Plan o) U case = tier_grows T U (t.Clean 0) o case
 call_grows T call.Flush answered.Flushed U case = to_state T U _ case.0 (grows_left T.flat case.0 case.1) case.2 refl
 call_grows T _ _ U case = absurd case
+
+stops_grow_call : (T : Tiered) (asked : Call) (U : Tiered) → CallStops T asked U → GrowsTo T U
+stops_grow_call T (call.Claim w s) U stops = stays_grow T U stops
+stops_grow_call T (call.Release w s) U stops = stays_grow T U stops
+stops_grow_call T (call.Fill w s payload) U stops = stays_grow T U stops
+stops_grow_call T (call.Copy w s b) U stops = stays_grow T U stops
+stops_grow_call T (call.Commit w s b) U stops = stays_grow T U stops
+stops_grow_call T (call.Discard w s) U stops = stays_grow T U stops
+stops_grow_call T (call.ReadAt r) U stops = stays_grow T U stops
+stops_grow_call T (call.Write b payload) U stops = tier_stops_grow T U (t.Write 0 b _) stops
+stops_grow_call T (call.Trim b) U stops = tier_stops_grow T U (t.Write 0 b _) stops
+stops_grow_call T call.Demote U stops = tier_stops_grow T U (t.Demote 0) stops
+stops_grow_call T call.Plug U stops = tier_stops_grow T U (t.Plug 0) stops
+stops_grow_call T call.Clean U stops = tier_stops_grow T U (t.Clean 0) stops
+stops_grow_call T call.Flush U stops = stays_grow T U stops
+
+pub made_grows : (T : Tiered) (asked : Call) (U : Tiered) → IsMade T asked U → GrowsTo T U
+made_grows T asked U (inl case) = call_grows T asked case.0 U case.1
+made_grows T asked U (inr stops) = stops_grow_call T asked U stops
+
+-- what a call made, by its result
+pub made_of : {E : Type 0} (r : Result CallAnswer E) (t u : TiersView) (asked : Call)
+    → IfOk r (λ answer. (T : Tiered) → RepresentsTiers t T → (U : Tiered) × CallCase T asked answer U × RepresentsTiers u U)
+    → OnErr r ((T : Tiered) → RepresentsTiers t T → (U : Tiered) × CallStops T asked U × RepresentsTiers u U)
+    → (T : Tiered) → RepresentsTiers t T → (U : Tiered) × IsMade T asked U × RepresentsTiers u U
+made_of (Ok answer) t u asked ok err T matches = let done = ok T matches in (done.0, inl (answer, done.1), done.2)
+made_of (Err e) t u asked ok err T matches = let done = err T matches in (done.0, inr done.1, done.2)

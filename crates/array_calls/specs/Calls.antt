@@ -1,15 +1,15 @@
 -- Which calls fit an array, and what a call makes of a state.
-use Rattle.std.specs.Prelude.{◌≡◌, ◌<◌, length}
+use Rattle.std.specs.Prelude.{◌≡◌, ◌⊎◌, ◌<◌, length}
 use Rattle.extent_groups.specs.Groups.{Groups}
 use Rattle.flat_machine.specs.Flat.{Flat, Payload, Trim}
 use Rattle.flat_machine.specs.Cases.{Leaves}
 use Rattle.flat_machine.specs.Steps as f
 use Rattle.step_core.specs.Reported.{flat_answer}
-use Rattle.tiered_array.specs.Steps.{CommitNoted, StepAlone, TierCase}
+use Rattle.tiered_array.specs.Steps.{CommitNoted, StepAlone, TierCase, TierStops}
 use Rattle.tiered_array.specs.Steps as t
 use Rattle.tiered_array.specs.Tiered.{Tiered}
-use Rattle.array_calls.specs.declared.call.Answered.{Answered}
-use Rattle.array_calls.specs.declared.call.Answered.TheVariants as answered
+use Rattle.array_calls.specs.declared.call.CallAnswer.{CallAnswer}
+use Rattle.array_calls.specs.declared.call.CallAnswer.TheVariants as answered
 use Rattle.array_calls.specs.declared.call.Call.{Call}
 use Rattle.array_calls.specs.declared.call.Call.TheVariants as call
 
@@ -25,7 +25,7 @@ FitsCall z _ = Unit {0}
 
 -- a worker's step is that of the flat machine, and a commit is noted; a plan is carried out as worker 0; a flush changes nothing but
 -- which drives are lost
-abbrev pub CallCase : Tiered → Call → Answered → Tiered → Type 0
+abbrev pub CallCase : Tiered → Call → CallAnswer → Tiered → Type 0
 CallCase T (call.Claim w s) (answered.Step a) U = StepAlone T (f.Claim w s) (flat_answer a) U
 CallCase T (call.Release w s) (answered.Step a) U = StepAlone T (f.Release w s) (flat_answer a) U
 CallCase T (call.Fill w s payload) (answered.Step a) U = StepAlone T (f.Fill w s (Payload payload.items)) (flat_answer a) U
@@ -40,3 +40,16 @@ CallCase T call.Plug (answered.Plan o) U = TierCase T (t.Plug 0) o U
 CallCase T call.Clean (answered.Plan o) U = TierCase T (t.Clean 0) o U
 CallCase T call.Flush answered.Flushed U = (G : Flat) × Leaves T.flat G × (U ≡ record T { flat = G })
 CallCase T _ _ U = ⊥
+
+-- what a call leaves that is out of memory: a plan stops in the put that its case would have made, and a step changes nothing
+abbrev pub CallStops : Tiered → Call → Tiered → Type 0
+CallStops T (call.Write b payload) U = TierStops T (t.Write 0 b (Payload payload.items)) U
+CallStops T (call.Trim b) U = TierStops T (t.Write 0 b Trim) U
+CallStops T call.Demote U = TierStops T (t.Demote 0) U
+CallStops T call.Plug U = TierStops T (t.Plug 0) U
+CallStops T call.Clean U = TierStops T (t.Clean 0) U
+CallStops T _ U = U ≡ T
+
+-- what a call makes of a state: its case with some answer, or what it leaves that is out of memory
+abbrev pub IsMade : Tiered → Call → Tiered → Type 0
+IsMade T asked U = ((answer : CallAnswer) × CallCase T asked answer U) ⊎ CallStops T asked U

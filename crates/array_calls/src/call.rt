@@ -58,7 +58,7 @@ pub enum Call {
 
 /// What a call answers: a worker's step, a plan, or a flush.
 #[derive(Debug, Drop)]
-pub enum Answered {
+pub enum CallAnswer {
     Step(Answer),
     Plan(Outcome),
     Flushed,

@@ -4,5 +4,5 @@
 mod call;
 mod carry;
 
-pub use call::{Answered, Call};
+pub use call::{Call, CallAnswer};
 pub use carry::growth_law;

@@ -1,10 +1,9 @@
 // The bytes of a disk, in an array's blocks.
-ghost use Rattle.std.specs.Prelude.{◌≡◌, ◌+◌, ◌*◌, ◌<◌, ◌≤◌, ◌++◌, length, false, true, IfOk};
+ghost use Rattle.std.specs.Prelude.{◌≡◌, ◌+◌, ◌*◌, ◌<◌, ◌≤◌, ◌++◌, length, false, true, IfOk, OnErr};
 ghost use Rattle.slot_tables.specs.Views.{SameSizes};
 ghost use Rattle.tiered_array.specs.Matches.{RepresentsTiers};
 ghost use Rattle.tiered_array.specs.Tiered.{Tiered};
-ghost use Rattle.array_calls.specs.Calls.{CallCase, FitsCall};
-ghost use Rattle.array_calls.specs.Growth.{Grows};
+ghost use Rattle.array_calls.specs.Calls.{CallCase, CallStops, FitsCall};
 ghost use Rattle.byte_store.specs.Flat.{StoreState, Sizes, written_over};
 ghost use Rattle.byte_store.specs.Changes.{IsChanged, IsFlushed};
 ghost use Rattle.map_join.specs.Maps.{IsSame};
@@ -15,7 +14,7 @@ ghost use Rattle.tiered_array.specs.Views.{TiersView};
 
 use crate::block::{make_spare, read_piece, shorten_log, write_piece, zero_piece};
 use crate::piece::{Piece, piece_at};
-use array_calls::{Answered, Call};
+use array_calls::{Call, CallAnswer};
 use byte_store::{ByteStore, StoreFault};
 use extents::Drive;
 use std::alloc::{AllocError, Global};
@@ -72,11 +71,12 @@ impl<D: Drive + Drop> Disk<D> {
     }
 
     /// Carries out a call of the array, which fits it.
-    pub(crate) fn call(&mut self, alloc: Global, call: &Call) -> Result<Answered, AllocError>
+    pub(crate) fn call(&mut self, alloc: Global, call: &Call) -> Result<CallAnswer, AllocError>
         requires { FitsCall self.old.tiers.world.array.parts.groups call.now }
         ensures ok { IfOk result (λ answered. (T : Tiered) → RepresentsTiers self.old.tiers T
             → (U : Tiered) × CallCase T call.now answered U × RepresentsTiers self.new.tiers U) }
-        ensures grows { (T : Tiered) → RepresentsTiers self.old.tiers T → (U : Tiered) × Grows T.flat U.flat × RepresentsTiers self.new.tiers U }
+        ensures err { OnErr result ((T : Tiered) → RepresentsTiers self.old.tiers T
+            → (U : Tiered) × CallStops T call.now U × RepresentsTiers self.new.tiers U) }
         ensures follows { (T : Tiered) → RepresentsTiers self.old.tiers T → Follows self.old.tiers self.new.tiers }
         ensures room { SameSizes self.old.tiers.world.array self.new.tiers.world.array }
         ensures size { self.new.size ≡ self.old.size }

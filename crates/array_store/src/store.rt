@@ -1,18 +1,17 @@
 // The bytes of a disk, as callers see them.
-ghost use Rattle.std.specs.Prelude.{◌≡◌, ◌+◌, ◌*◌, ◌≤◌, ◌++◌, List, length, replicate, slice_range, false, true, OnOk, IfOk, IfErr};
+ghost use Rattle.std.specs.Prelude.{◌≡◌, ◌+◌, ◌*◌, ◌≤◌, ◌++◌, List, length, replicate, slice_range, false, true, OnOk, OnErr, IfOk, IfErr};
 ghost use Rattle.byte_store.specs.Flat.{StoreState, Sizes};
 ghost use Rattle.byte_store.specs.Changes.{IsChanged, IsFlushed};
 ghost use Rattle.map_join.specs.Maps.{IsSame};
 ghost use Rattle.slot_tables.specs.Views.{SameSizes, key_at};
 ghost use Rattle.tiered_array.specs.Matches.{RepresentsTiers};
 ghost use Rattle.tiered_array.specs.Tiered.{Tiered};
-ghost use Rattle.array_calls.specs.Calls.{CallCase, FitsCall};
-ghost use Rattle.array_calls.specs.Growth.{Grows};
+ghost use Rattle.array_calls.specs.Calls.{CallCase, CallStops, FitsCall};
 ghost use Rattle.array_store.specs.Blocks.{Holds};
 ghost use Rattle.array_store.specs.Stores.{Follows, IsStoreOf};
 
 use crate::disk::Disk;
-use array_calls::{Answered, Call};
+use array_calls::{Call, CallAnswer};
 use byte_store::{ByteStore, StoreFault};
 use extents::Drive;
 use std::alloc::{AllocError, Global};
@@ -65,12 +64,13 @@ impl<D: Drive + Drop> ArrayStore<D> {
     }
 
     /// Carries out a call of the array, which fits it. The bytes are those of the array's last writes after it. If it is out of
-    /// memory, the array's records and writes are as they were.
-    pub fn call(&mut self, alloc: Global, call: &Call) -> Result<Answered, AllocError>
+    /// memory, it stops as `Call::carry` does.
+    pub fn call(&mut self, alloc: Global, call: &Call) -> Result<CallAnswer, AllocError>
         requires { FitsCall self.old.tiers.world.array.parts.groups call.now }
         ensures ok { IfOk result (λ answered. (T : Tiered) → RepresentsTiers self.old.tiers T
             → (U : Tiered) × CallCase T call.now answered U × RepresentsTiers self.new.tiers U) }
-        ensures grows { (T : Tiered) → RepresentsTiers self.old.tiers T → (U : Tiered) × Grows T.flat U.flat × RepresentsTiers self.new.tiers U }
+        ensures err { OnErr result ((T : Tiered) → RepresentsTiers self.old.tiers T
+            → (U : Tiered) × CallStops T call.now U × RepresentsTiers self.new.tiers U) }
         ensures follows { (T : Tiered) → RepresentsTiers self.old.tiers T → Follows self.old.tiers self.new.tiers }
         ensures room { SameSizes self.old.tiers.world.array self.new.tiers.world.array }
         ensures size { self.new.size ≡ self.old.size }

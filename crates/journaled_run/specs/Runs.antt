@@ -3,17 +3,17 @@ use Rattle.std.specs.Prelude.{◌≡◌, ℕ, ◌≤◌, List, [], ◌∷◌, �
 use Rattle.vault.specs.Images.{Image, recovered}
 use Rattle.vault.specs.declared.store.Stop.{Stop}
 use Rattle.vault.specs.declared.store.Stop.TheVariants.{Killed}
-use Rattle.byte_store.specs.Lasting.{Shown}
+use Rattle.byte_store.specs.Lasting.{Shown, Within}
 use Rattle.tiered_array.specs.Matches.{RepresentsTiers}
 use Rattle.tiered_array.specs.Tiered.{Tiered}
 use Rattle.tiered_array.specs.Views.{TiersView}
 use Rattle.array_calls.specs.Calls.{CallCase}
 use Rattle.array_calls.specs.Growth.{Grows}
-use Rattle.array_calls.specs.declared.call.Answered.{Answered}
+use Rattle.array_calls.specs.declared.call.CallAnswer.{CallAnswer}
 use Rattle.array_calls.specs.declared.call.Call.{Call}
 use Rattle.array_calls.specs.declared.call.Call.TheVariants as call
 use Rattle.journaled_store.specs.Left.{HasBoth}
-use Rattle.journaled_store.specs.Outlasting.{OpensAs, Point, parts_of}
+use Rattle.journaled_store.specs.Outlasting.{OpensAs, Outlasts, Point, parts_of}
 use Rattle.std.specs.Prelude.{length}
 use Rattle.journaled_run.specs.Showing.{IsShownIn}
 
@@ -22,51 +22,60 @@ use Rattle.journaled_run.specs.Showing.{IsShownIn}
 abbrev pub OpensAmong : {V : Type 0} → (V → Stop → ℕ → Image → Type 0) → Point V → Stop → ℕ → List Shown → Type 0
 OpensAmong left_since p stop t list = (i : Image) → left_since p.vault stop t i → OpensAs HasBoth list (parts_of p.tiers).groups (length (parts_of p.tiers).drives) (recovered i)
 
--- a call that was kept, the state after it, what is shown in it, and the moment when the call returned
-pub record Returned : Type 0 where
+-- A call that was kept: the state after it, what is shown in it, and the store when the call returned.
+pub record Completed (V : Type 0) : Type 0 where
   pub call : Call
   pub state : Tiered
   pub shown : Shown
-  pub moment : ℕ
+  pub at : Point V
+
+-- When the call returned, the store represented this state. A kill then leaves what is shown in it, and a loss of power something that was
+-- shown up to then; after a flush that, too.
+pub record IsCompleted {V : Type 0} (known : V → Type 0) (seen : V → Image) (may_leave : V → Stop → Image → Type 0) (before : List Shown) (k : Completed V) : Type 0 where
+  pub matches : RepresentsTiers k.at.tiers k.state
+  pub cut : List Shown
+  pub within : Within cut (before ++ k.shown ∷ [])
+  pub durable : k.call ≡ call.Flush → Within cut (k.shown ∷ [])
+  pub outlasts : Outlasts HasBoth known seen may_leave k.at (k.shown ∷ []) cut
 
 -- calls one after another, each from the state that the one before it left, with their answers
-abbrev pub AreReturned : ℕ → Tiered → List Call → List Answered → List Returned → Tiered → Type 0
-AreReturned size T [] [] [] U = U ≡ T
-AreReturned size T (call ∷ calls) (answer ∷ answers) (k ∷ kept) U =
-    (k.call ≡ call) × CallCase T call answer k.state × Grows T.flat k.state.flat × IsShownIn size k.state.flat k.shown × AreReturned size k.state calls answers kept U
-AreReturned size T _ _ _ U = ⊥
+abbrev pub AreCompleted : {V : Type 0} → (Completed V → List Shown → Type 0) → ℕ → Tiered → List Shown → List Call → List CallAnswer → List (Completed V) → Tiered → Type 0
+AreCompleted completed size T before [] [] [] U = U ≡ T
+AreCompleted completed size T before (call ∷ calls) (answer ∷ answers) (k ∷ kept) U =
+    (k.call ≡ call) × CallCase T call answer k.state × Grows T.flat k.state.flat × IsShownIn size k.state.flat k.shown × completed k before
+    × AreCompleted completed size k.state (before ++ k.shown ∷ []) calls answers kept U
+AreCompleted completed size T before _ _ _ U = ⊥
 
 -- what was shown after each
-abbrev pub shown_in : List Returned → List Shown
+abbrev pub shown_in : {V : Type 0} → List (Completed V) → List Shown
 shown_in [] = []
 shown_in (k ∷ kept) = k.shown ∷ shown_in kept
 
 -- the calls' moments rise
-abbrev pub Rises : ℕ → List Returned → ℕ → Type 0
-Rises first [] last = first ≤ last
-Rises first (k ∷ kept) last = (first ≤ k.moment) × Rises k.moment kept last
+abbrev pub Rises : {V : Type 0} → (V → ℕ) → ℕ → List (Completed V) → ℕ → Type 0
+Rises moment first [] last = first ≤ last
+Rises moment first (k ∷ kept) last = (first ≤ moment k.at.vault) × Rises moment (moment k.at.vault) kept last
 
 -- A kill since a call returned leaves what was shown then or later, and so does any stop since a flush returned.
-abbrev pub AreAcknowledged : (Stop → ℕ → List Shown → Type 0) → Shown → List Returned → Type 0
-AreAcknowledged opens last [] = Unit {0}
-AreAcknowledged opens last (k ∷ kept) =
-    opens Killed k.moment (k.shown ∷ shown_in kept ++ last ∷ [])
-    × (k.call ≡ call.Flush → (stop : Stop) → opens stop k.moment (k.shown ∷ shown_in kept ++ last ∷ []))
-    × AreAcknowledged opens last kept
+abbrev pub AreAcknowledged : {V : Type 0} → (V → ℕ) → (Stop → ℕ → List Shown → Type 0) → Shown → List (Completed V) → Type 0
+AreAcknowledged moment opens last [] = Unit {0}
+AreAcknowledged moment opens last (k ∷ kept) =
+    opens Killed (moment k.at.vault) (k.shown ∷ shown_in kept ++ last ∷ [])
+    × (k.call ≡ call.Flush → (stop : Stop) → opens stop (moment k.at.vault) (k.shown ∷ shown_in kept ++ last ∷ []))
+    × AreAcknowledged moment opens last kept
 
--- A run from a state that shows `first`. The array at its end has the state of the last call that was kept; or, where one was under way,
--- a state that this call made of it.
-pub record IsKeptRun (size : ℕ) (opens : Stop → ℕ → List Shown → Type 0) (since ended : ℕ) (T : Tiered) (first : Shown) (calls : List Call) (answers : List Answered)
-    (tiers : TiersView) : Type 0 where
-  pub kept : List Returned
+-- A run of a store that shows `first`, to a store q. `before` is what a loss of power may leave before the run. The array at the end has the
+-- state of the last call that was kept, or what the call after it made of that.
+pub record IsKeptRun {V : Type 0} (known : V → Type 0) (seen : V → Image) (may_leave : V → Stop → Image → Type 0) (moment : V → ℕ) (left_since : V → Stop → ℕ → Image → Type 0)
+    (size since : ℕ) (T : Tiered) (before : List Shown) (first : Shown) (calls : List Call) (answers : List CallAnswer) (q : Point V) : Type 0 where
+  pub kept : List (Completed V)
   pub state : Tiered
-  pub are : AreReturned size T calls answers kept state
+  pub are : AreCompleted (λ k shown. IsCompleted known seen may_leave shown k) size T (before ++ first ∷ []) calls answers kept state
   pub last : Tiered
-  pub now : RepresentsTiers tiers last
-  pub grows : Grows state.flat last.flat
+  pub now : RepresentsTiers q.tiers last
   pub shown : Shown
   pub is_shown : IsShownIn size last.flat shown
   -- a stop at any moment since the run began leaves what was shown before it, after one of its calls, or at its end
-  pub any : (stop : Stop) → opens stop since (first ∷ shown_in kept ++ shown ∷ [])
-  pub rise : Rises since kept ended
-  pub found : AreAcknowledged opens shown kept
+  pub any : (stop : Stop) → OpensAmong left_since q stop since (before ++ first ∷ shown_in kept ++ shown ∷ [])
+  pub rise : Rises moment since kept (moment q.vault)
+  pub acknowledged : AreAcknowledged moment (OpensAmong left_since q) shown kept

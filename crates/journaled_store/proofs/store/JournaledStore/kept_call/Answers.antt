@@ -3,6 +3,7 @@ use Rattle.std.specs.Prelude.{IfOk}
 use Rattle.tiered_array.specs.Matches.{RepresentsTiers}
 use Rattle.tiered_array.specs.Tiered.{Tiered}
 use Rattle.array_calls.specs.Calls.{CallCase}
+use Rattle.array_calls.proofs.Growing.{made_of}
 use Rattle.std.proofs.lemmas.Result.{err_from_is_err_and}
 use Rattle.vault.proofs.Carried.{on_ok_of}
 use Rattle.array_store.specs.Stores.{StoreView}
@@ -44,14 +45,16 @@ returns-clause-flushed g c T what matches has is =
     array_flushes HasBoth v.known v.seen v.may_leave v.moment v.left_since g.met.V.Vault.counts_now g.met.V.Vault.only_now (point c.args.self.now) now.tiers (point c.keep.new.self) what follows
     (c.in_ok-keep.ensures.flushed what there (c.is_flush.ensures.1 is))
 
-pub returns-in_err-keep-clause-grows : goal.returns-in_err-keep-clause-grows
-returns-in_err-keep-clause-grows g c T matches =
-    let done = c.call-carried.ensures.grows T matches in
+pub returns-in_err-keep-clause-made : goal.returns-in_err-keep-clause-made
+returns-in_err-keep-clause-made g c T matches =
+    let now = c.call-carried.new.self in
+    let done = made_of c.call-carried.result c.args.self.now.store.tiers now.tiers c.args.call.now c.call-carried.ensures.ok c.call-carried.ensures.err T matches in
     (done.0, done.1, subst (λ (s : StoreView). RepresentsTiers s.tiers done.0) (sym c.keep.ensures.same) done.2)
 
-pub returns-clause-grows : goal.returns-clause-grows
-returns-clause-grows g c T matches =
-    let done = c.call-carried.ensures.grows T matches in
+pub returns-clause-made : goal.returns-clause-made
+returns-clause-made g c T matches =
+    let now = c.call-carried.new.self in
+    let done = made_of c.call-carried.result c.args.self.now.store.tiers now.tiers c.args.call.now c.call-carried.ensures.ok c.call-carried.ensures.err T matches in
     (done.0, done.1, subst (λ (s : StoreView). RepresentsTiers s.tiers done.0) (sym c.keep.ensures.same) done.2)
 
 pub returns-clause-ok : goal.returns-clause-ok
