@@ -1,9 +1,9 @@
 // One connection's throughput: client OPERATION BYTES DEPTH SECONDS MIB FLUSH -- SERVER ARGUMENTS..
 //
 // OPERATION is r (reads) or w (writes), each of BYTES at a random place of the first MIB mebibytes, with DEPTH requests under
-// way at once. All of these bytes are written first. FLUSH is the number of writes between two flushes, 0 for none, and -1 for FUA
-// with each write. The server is started with its standard input and output as the connection. Prints requests a second, and ends
-// with status 1 where one fails.
+// way at once. All of these bytes are written first, and before reads one is answered that doesn't count. FLUSH is the number of
+// writes between two flushes, 0 for none, and -1 for FUA with each write. The server is started with its standard input and output
+// as the connection. Prints requests a second, and ends with status 1 where one fails.
 #include <libnbd.h>
 #include <stdint.h>
 #include <stdio.h>
@@ -98,6 +98,9 @@ int main(int count, char **words) {
     for (uint64_t at = 0; at < job.size; at += FILL)
         if (nbd_pwrite(server, buffers[at / FILL % MOST_DEPTH], FILL, at, 0) == -1)
             give_up();
+    // The answer comes after what the last write has left to be done, which is no part of a read.
+    if (job.reads && nbd_pread(server, buffers[0], 512, 0, 0) == -1)
+        give_up();
     double start = now();
     uint64_t answered = use(server, &job, buffers);
     printf("%.0f\n", answered / (now() - start));
