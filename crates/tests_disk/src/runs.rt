@@ -8,7 +8,7 @@ use crate::asserts::check;
 use crate::recovered::opened_in;
 use crate::rig::plan_of;
 use crate::stopped::{Reached, bytes_again, new_files, store_of};
-use array_calls::{CallAnswer, Call};
+use array_calls::{Call, CallAnswer};
 use cached_drive::Saved;
 use disk_shape::{Plan, class_of};
 use extents::{DRIVES, Drive};
