@@ -28,6 +28,4 @@ mod rig;
 #[cfg(test)]
 mod room;
 #[cfg(test)]
-mod runs;
-#[cfg(test)]
 mod stopped;
