@@ -9,7 +9,7 @@ ghost use Rattle.extents.specs.Sizes.{extent_units};
 ghost use Rattle.extents.specs.declared.shape.TheConstants.{HEADER_BYTES};
 ghost use Rattle.extent_groups.specs.Calls.{AreSized};
 ghost use Rattle.unit_store.specs.Fit.{HaveUnitCount};
-ghost use Rattle.unit_store.specs.Views.{drive_view, lost_of, failed_of};
+ghost use Rattle.unit_store.specs.Views.{drive_view, lost_of, failed_of, IsLost};
 ghost use Rattle.flat_machine.specs.Groups.{class_at, IsEmpty};
 ghost use Rattle.flat_machine.specs.Flat.{Flat, new_flat, put, IsArrayHeld, IsNewest};
 ghost use Rattle.slot_tables.specs.Views.{kept_at, key_at, newest_block_in, is_kept, is_waiting, IsWhole};
@@ -138,6 +138,13 @@ impl<D: Drive, C: Hold> Array<D, C> {
             lost[usize::from(drive)] = self.is_lost(drive);
         }
         lost
+    }
+
+    /// Whether no drives are left from which the unit of a slot could be read or written. A slot of no group isn't gone.
+    pub fn is_gone(&self, slot: u16) -> bool
+        ensures { IsTrue result ↔ IsLost self.now.parts slot }
+    {
+        self.parts.is_gone(slot)
     }
 
     /// What always holds of an array, as a law: nothing is done.

@@ -28,4 +28,6 @@ mod rig;
 #[cfg(test)]
 mod room;
 #[cfg(test)]
+mod runs;
+#[cfg(test)]
 mod stopped;

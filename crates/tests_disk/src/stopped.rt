@@ -20,7 +20,7 @@ use std::marker::Brand;
 use std::process::Abort;
 use vault::{Batch, Stop, TABLE, UnitRead, Vault, settle};
 
-type Store<N> = JournaledStore<N, FileVault<MemFiles>>;
+pub(crate) type Store<N> = JournaledStore<N, FileVault<MemFiles>>;
 
 /// Requests of a run: an offset, a length, and the first byte that is written.
 const REQUESTS: [(usize, usize, u8); 10] = [
@@ -38,10 +38,10 @@ const REQUESTS: [(usize, usize, u8); 10] = [
 
 /// How far a run came: requests that were begun, that were answered, and that were flushed.
 #[derive(Clone, Copy)]
-struct Reached {
-    begun: usize,
-    answered: usize,
-    flushed: usize,
+pub(crate) struct Reached {
+    pub(crate) begun: usize,
+    pub(crate) answered: usize,
+    pub(crate) flushed: usize,
 }
 
 // Where the units of a disk lie.
@@ -60,7 +60,7 @@ fn layout_of(plan: &Plan) -> Layout {
 }
 
 // The files of a new disk: zeros in all units, and no lost drive.
-fn new_files(rt: &impl Abort, alloc: Global, plan: &Plan) -> MemFiles {
+pub(crate) fn new_files(rt: &impl Abort, alloc: Global, plan: &Plan) -> MemFiles {
     let mut first = Vec::new(alloc);
     let units = plan.shape.unit_bytes() * plan.shape.drive_units() as usize;
     for number in 0..=JOURNAL {
@@ -150,7 +150,7 @@ fn open_over<N: Chronicle, V: Vault + Drop>(
 }
 
 // Opens the store that files have.
-fn store_of<N: Chronicle>(
+pub(crate) fn store_of<N: Chronicle>(
     rt: &impl Abort,
     alloc: Global,
     plan: &Plan,
@@ -230,7 +230,7 @@ fn read_again<N: Chronicle>(
     (out, store.into_vault())
 }
 
-fn bytes_again(
+pub(crate) fn bytes_again(
     rt: &impl Abort,
     alloc: Global,
     plan: &Plan,

@@ -1,14 +1,9 @@
 -- The block that makes room, and the slots that are open, as the tables show them.
-use Rattle.std.proofs.Common.{◌≡◌, ◌↔◌, ◌⊎◌, inl, inr, ℕ, ◌/◌, ◌%◌, ◌<◌, Bool, false, true, IsTrue, refl, ap, sym, ◌∙◌, subst, Option, Some, None}
+use Rattle.std.proofs.Common.{◌≡◌, ◌↔◌, inl, inr, ℕ, ◌<◌, Bool, false, true, IsTrue, sym, ◌∙◌, subst, Option, Some, None}
 use Rattle.std.specs.Prelude.{IfSome, MatchOption}
 use Rattle.extent_groups.specs.declared.class.Class.{Class}
-use Rattle.extent_groups.specs.declared.class.Class.TheVariants.{Mirrored, Parity}
-use Rattle.extent_groups.specs.Groups.{Groups, group_at, class_in, slots_in}
-use Rattle.extent_groups.proofs.LayoutLaw.{IsSlot, slot_of}
-use Rattle.extent_groups.specs.Missing.{IsGone, IsGoneAt}
-use Rattle.extent_groups.specs.Units.{Pair, site_of}
-use Rattle.extent_groups.specs.declared.place.Place.{Place}
-use Rattle.std.proofs.lemmas.Option.{same_Some}
+use Rattle.extent_groups.specs.Groups.{Groups}
+use Rattle.extent_groups.specs.Missing.{IsGone}
 use Rattle.extent_groups.specs.Stores.{IsSlotOf}
 use Rattle.unit_store.specs.Views.{IsLost, lost_of}
 use Rattle.flat_machine.specs.Flat.{IsUnheld}
@@ -162,25 +157,3 @@ module _ (class : Class) where
       of : (o : Option ℕ) → IsFirst (OpenOf T) None → IsFirst (FreeOf T) o → IsFirstOf (FreeOf T) (OpenOf T) o
       of None h first = first
       of (Some s) h first = inr (h, first)
-
--- a slot that is gone is one of a made group
-pub class_gone : (groups : Groups) (missing : ℕ → Bool) (slot : ℕ) → IsGone groups missing slot → IsSlotOf Mirrored groups slot ⊎ IsSlotOf Parity groups slot
-class_gone groups missing slot gone = go is.group.class refl
-  where
-    is : IsSlot groups.segments (group_at groups (slot / 128)) (slot % 128) gone.0
-    is = slot_of groups.segments (group_at groups (slot / 128)) (slot % 128) gone.0 gone.1
-
-    below : slot % 128 < slots_in groups.segments (group_at groups (slot / 128))
-    below = subst (λ o. slot % 128 < slots_in groups.segments o) (sym is.made) is.below
-
-    go : (class : Class) → is.group.class ≡ class → IsSlotOf Mirrored groups slot ⊎ IsSlotOf Parity groups slot
-    go Mirrored same = inl (record { made = ap class_in is.made ∙ ap Some same; below = below })
-    go Parity same = inr (record { made = ap class_in is.made ∙ ap Some same; below = below })
-
--- a mirrored slot whose first copy is lost is gone exactly if its second is lost too
-pub pair_gone : (groups : Groups) (lost : ℕ → Bool) (slot : ℕ) (p q : Place) (b : Bool) → site_of groups slot ≡ Some (Pair p q) → lost p.drive ≡ true → b ≡ lost q.drive
-    → IsTrue b ↔ IsGone groups lost slot
-pair_gone groups lost slot p q b site first second = (
-  λ is. (Pair p q, site, (first, sym second ∙ is)),
-  λ gone. let both : IsGoneAt lost (Pair p q) = subst (IsGoneAt lost) (same_Some _ _ (sym gone.1 ∙ site)) gone.2 in second ∙ both.1,
-)

@@ -8,7 +8,6 @@ ghost use Rattle.map_join.specs.Live.{IsLive, IsLiveCount};
 ghost use Rattle.tiered_array.specs.Inside.{IsFreeHere, IsThereHere};
 ghost use Rattle.unit_store.specs.Views.{IsLost};
 
-use crate::gone::is_gone;
 use extent_groups::{Class, GroupTable, SLOTS};
 use map_join::Live;
 use migrator::{Free, PicksBlocks};
@@ -91,7 +90,7 @@ impl<'a, D: Drive> Free for Open<'a, D> {
     ghost free = { λ o slot. IsFreeHere o.world.now slot × (IsLost o.world.now.array.parts slot → ⊥) };
 
     fn is_free(&self, slot: u16) -> bool {
-        self.world.is_free(slot) && !is_gone(self.world.array(), slot)
+        self.world.is_free(slot) && !self.world.array().is_gone(slot)
     }
 }
 
@@ -110,7 +109,7 @@ impl<'a, D: Drive, C: Hold> PicksBlocks for Readable<'a, D, C> {
             return false;
         }
         match self.array.newest(block) {
-            Some(record) => !is_gone(self.array, record.place),
+            Some(record) => !self.array.is_gone(record.place),
             None => false,
         }
     }

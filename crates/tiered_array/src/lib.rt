@@ -4,7 +4,6 @@
 
 mod asks;
 mod bits;
-mod gone;
 mod hints;
 mod outcome;
 mod planner;

@@ -17,7 +17,6 @@ ghost use Rattle.tiered_array.specs.Tiered.{Tiered};
 ghost use Rattle.tiered_array.specs.declared.outcome.Outcome.TheVariants.{NoRoom, Refused};
 
 use crate::asks::{Holes, Open};
-use crate::gone::is_gone;
 use crate::{Outcome, Tiers};
 use extents::Drive;
 use migrator::{first_mirror, first_parity};
@@ -143,7 +142,7 @@ impl<D: Drive> Tiers<D> {
         let Some(lowest) = self.free_mirror() else {
             return None
         };
-        if !is_gone(self.world.array(), lowest) {
+        if !self.world.array().is_gone(lowest) {
             return Some(lowest);
         }
         first_mirror(self.world.array().groups(), &Open { world: &self.world })
@@ -172,7 +171,7 @@ impl<D: Drive> Tiers<D> {
         let Some(lowest) = self.free_hole() else {
             return None
         };
-        if !is_gone(self.world.array(), lowest) {
+        if !self.world.array().is_gone(lowest) {
             return Some(lowest);
         }
         first_parity(self.world.array().groups(), &Open { world: &self.world })

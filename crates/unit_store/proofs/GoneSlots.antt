@@ -54,7 +54,7 @@ index_is t g i groups low =
     few (Some group) e h = let formed = groups.formed g group e in omega (arith, slot_count_small group.class (length group.members) t.segments formed.few groups.segments.1, h)
 
 -- a slot that is gone is of one of its group's indexes
-gone_index : (t : Groups) (missing : ℕ → Bool) (g slot : ℕ) → slot / 128 ≡ g → IsGone t missing slot → slot % 128 < slots_in t.segments (group_at t g)
+pub gone_index : (t : Groups) (missing : ℕ → Bool) (g slot : ℕ) → slot / 128 ≡ g → IsGone t missing slot → slot % 128 < slots_in t.segments (group_at t g)
 gone_index t missing g slot q gone =
     let is = slot_of t.segments (group_at t (slot / 128)) (slot % 128) gone.0 gone.1 in
     subst (λ h. slot % 128 < slots_in t.segments (group_at t h)) q (subst (λ x. slot % 128 < slots_in t.segments x) (sym is.made) is.below)

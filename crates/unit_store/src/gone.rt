@@ -6,9 +6,11 @@ ghost use Rattle.extent_groups.specs.Groups.{AreGroups};
 ghost use Rattle.extent_groups.specs.Missing.{missing_of, IsGone};
 ghost use Rattle.extent_groups.specs.Stores.{AreDrives, IsSlotOf};
 ghost use Rattle.flat_machine.specs.Moves.{IsFirstGone};
+ghost use Rattle.unit_store.specs.Fit.{IsFit};
 ghost use Rattle.unit_store.specs.Shifting.{HasOtherMissing};
-ghost use Rattle.unit_store.specs.Slots.{IsSlot};
+ghost use Rattle.unit_store.specs.Slots.{IsSlot, missing_in};
 
+use crate::Parts;
 use extent_groups::{Class, GroupTable, Member, SLOTS};
 use extents::Drive;
 
@@ -80,4 +82,17 @@ pub(crate) fn first_gone<D: Drive>(groups: &GroupTable, drives: &[D], group: u16
         }
     }
     None
+}
+
+impl<D: Drive> Parts<D> {
+    /// Whether no drives are left from which the unit of a slot could be read or written. A slot of no group isn't gone.
+    pub fn is_gone(&self, slot: u16) -> bool
+        requires fit { IsFit D.units self.now }
+        ensures { IsTrue result ↔ IsGone self.now.groups (missing_in D.lost self.now) slot }
+    {
+        if slot % SLOTS >= self.groups.slots_of(slot / SLOTS) {
+            return false;
+        }
+        is_gone(&self.groups, &self.drives, slot)
+    }
 }
