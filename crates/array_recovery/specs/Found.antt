@@ -1,11 +1,11 @@
 -- What is read of a vault, and held in memory.
-use Rattle.std.specs.Prelude.{◌≡◌, ◌⊎◌, ◌==◌, ◌||◌, ◌<◌, ℕ, Bool, true, false, not, is_some, Some, List, length, slice_get, slice_index_or}
+use Rattle.std.specs.Prelude.{◌≡◌, ◌⊎◌, ◌==◌, ◌||◌, ◌<◌, ℕ, Bool, true, false, not, is_some, option_map, Some, List, length, slice_get, slice_index_or}
 use Rattle.extents.specs.Condition.{Held}
-use Rattle.extent_groups.specs.Cells.{Cells}
+use Rattle.extent_groups.specs.Cells.{Cells, held}
 use Rattle.extent_groups.specs.Planned.{Intended}
 use Rattle.extent_groups.specs.declared.place.Place.{Place}
 use Rattle.history.specs.Entries.{Course}
-use Rattle.vault.specs.Images.{is_lost}
+use Rattle.vault.specs.Images.{Image, is_lost, recovered}
 use Rattle.vault.specs.Moments.{IsWrittenTo}
 use Rattle.cached_drive.specs.Saving.{Units, saved_by}
 pub use Rattle.rotten_units.specs.Loaded.{AreFormed, HaveUnits, OnlyRead}
@@ -36,6 +36,22 @@ pub record IsFoundInCells (c : Cells) (absent : List Bool) (marks : List ℕ) (l
   pub table : IsTable marks c
   pub gone : AreGone marks absent lost
   pub units : HaveUnits lost c caches
+
+-- an image with other units, and the same journal
+abbrev pub with_cells : Image → Cells → Image
+with_cells i cells = record { cells = cells; journal = i.journal }
+
+-- A place has a unit of the same length as the one that was written last. If it is attested, it is that one.
+pub record IsLastIfAttested (attested : Place → Type 0) (written now : Cells) (x : Place) : Type 0 where
+  pub sized : option_map length (held now x) ≡ option_map length (held written x)
+  pub same : attested x → held now x ≡ held written x
+
+-- Drives return what was written last, or bytes that aren't as their digest says: so it is with the table's marks, and with each unit of a
+-- drive that isn't lost. One is lost that the table marks of what was written, or that is absent. Nothing is said of the others.
+pub record AreLastIfAttested (attested : Place → Type 0) (absent : List Bool) (base : Image) (written : Cells) : Type 0 where
+  pub table : IsLastIfAttested attested written base.cells (record { drive = 16; address = 0 })
+  pub drives : (marks : List ℕ) → IsTable marks (recovered (with_cells base written)) → (x : Place)
+      → (is_marked marks x.drive || is_lost absent x.drive) ≡ false → IsLastIfAttested attested written base.cells x
 
 -- Each drive has the units of that number in memory, is lost or not as it is said, and its units are those that its hand saved last.
 -- There is one hand for each.

@@ -2,9 +2,9 @@
 ghost use Rattle.std.specs.Prelude.{◌≡◌, ◌==◌, ◌||◌, ℕ, List, not, length, OnOk, IfOk};
 ghost use Rattle.extent_groups.specs.Cells.{Cells};
 ghost use Rattle.extent_groups.specs.Planned.{after, with_unit};
-ghost use Rattle.vault.specs.Images.{recovered};
-ghost use Rattle.vault.specs.Moments.{IsUnitAt};
-ghost use Rattle.array_recovery.specs.Found.{AreGone, AreMarksIf, IsTable, OnlyRead};
+ghost use Rattle.vault.specs.Images.{Image, recovered};
+ghost use Rattle.vault.specs.Moments.{AttestsNoMore, IsUnitAt};
+ghost use Rattle.array_recovery.specs.Found.{AreGone, AreMarksIf, IsLastIfAttested, IsTable, OnlyRead, with_cells};
 
 use crate::fault::RecoveryFault;
 use extent_groups::Place;
@@ -64,6 +64,12 @@ pub fn read_marks<V: Vault>(vault: &mut V, batch: &mut Batch) -> Result<[u8; DRI
     ensures stays { V.known vault.old → V.known vault.new }
     ensures read { V.known vault.old → OnlyRead V.seen V.may_leave V.moment V.left_since vault.old vault.new }
     ensures marks { V.known vault.old → IfOk result (λ marks. IsTable marks (recovered (V.seen vault.old))) }
+    ensures attests { V.known vault.old → AttestsNoMore V.attested vault.old vault.new }
+
+    // Marks that aren't as their digest says aren't used.
+    ensures honest { V.known vault.old → (written : Cells)
+        → IsLastIfAttested (V.attested vault.old) written (Image.cells (V.seen vault.old)) (record { drive = 16; address = 0 })
+        → IfOk result (λ marks. IsTable marks (recovered (with_cells (V.seen vault.old) written))) }
 {
     let table = Place {
         drive: TABLE,

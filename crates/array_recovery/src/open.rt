@@ -2,13 +2,14 @@
 ghost use Rattle.std.specs.Prelude.{◌≡◌, ◌≤◌, ◌*◌, ℕ, List, [], ◌∷◌, false, length, slice_index, IfErr, IfOk};
 ghost use Rattle.map_join.specs.Maps.{IsSame};
 ghost use Rattle.extents.specs.Sizes.{extent_units};
+ghost use Rattle.extent_groups.specs.Cells.{Cells};
 ghost use Rattle.slot_tables.specs.Views.{key_at};
 ghost use Rattle.vault.specs.Images.{recovered};
 ghost use Rattle.byte_store.specs.Lasting.{Shown, Shows};
 ghost use Rattle.array_store.specs.Blocks.{Holds};
 ghost use Rattle.journaled_store.specs.Left.{HasBoth, HasKeys, IsLeftOf};
 ghost use Rattle.journaled_store.specs.Outlasting.{Outlasts, OutlastsSince, point};
-ghost use Rattle.array_recovery.specs.Found.{OnlyRead};
+ghost use Rattle.array_recovery.specs.Found.{AreLastIfAttested, OnlyRead, with_cells};
 ghost use Rattle.array_recovery.specs.Reopened.{IsOpenedWith, IsSoundFor};
 
 use crate::fault::RecoveryFault;
@@ -55,8 +56,13 @@ pub fn open_store<N: Chronicle, V: Vault + Drop>(
     ensures both { V.known vault → (what : Shown) → length what.bytes ≡ size → IsLeftOf HasBoth what groups drives absent.now (recovered (V.seen vault))
         → IfOk result (λ s. Shows (⟦<JournaledStore<N, V> as ByteStore>⟧.keys s) (record { bytes = what.bytes; unsynced = false }) what
         × ⟦<JournaledStore<N, V> as ByteStore>⟧.represents s (record { bytes = what.bytes; unsynced = false })) }
-    ensures size { IfOk result (λ s. s.store.size ≡ size) }
-    ensures works { IfOk result (λ s. s.failed ≡ false) }
+
+    // No unit is used that isn't as its digest says: where each other one is the one that was written last, so is what is opened.
+    ensures honest { V.known vault → (written : Cells) → AreLastIfAttested (V.attested vault) absent.now (V.seen vault) written
+        → (what : Shown) → length what.bytes ≡ size → IsLeftOf HasBoth what groups drives absent.now (recovered (with_cells (V.seen vault) written))
+        → IfOk result (λ s. Shows (⟦<JournaledStore<N, V> as ByteStore>⟧.keys s) (record { bytes = what.bytes; unsynced = false }) what
+        × ⟦<JournaledStore<N, V> as ByteStore>⟧.represents s (record { bytes = what.bytes; unsynced = false })) }
+    ensures works { IfOk result (λ s. (s.store.size ≡ size) × (s.failed ≡ false)) }
     ensures same { IfOk result (λ s. IsOpenedWith groups drives s.changes.noted absent.now s.store.tiers) }
 
     // A stop leaves a vault of which a store with the same bytes is opened again, one with the same block map, and one with both.

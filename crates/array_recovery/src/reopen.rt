@@ -12,7 +12,7 @@ ghost use Rattle.journaled_store.specs.Steps.{IsUpToDate};
 ghost use Rattle.byte_store.specs.Lasting.{Shown};
 ghost use Rattle.array_store.specs.Blocks.{Holds};
 ghost use Rattle.array_store.specs.Stores.{IsStoreOf};
-ghost use Rattle.array_recovery.specs.Found.{AreFormed, AreGone, IsFoundInCells, IsTable, OnlyRead};
+ghost use Rattle.array_recovery.specs.Found.{AreFormed, AreGone, AreLastIfAttested, IsFoundInCells, IsTable, OnlyRead, with_cells};
 ghost use Rattle.journaled_store.specs.Left.{HasBoth, HasKeys, IsLeftOf};
 ghost use Rattle.array_recovery.specs.Reopened.{CoversGone, EndsAt, IsOpenedWith};
 
@@ -55,6 +55,10 @@ pub fn find<V: Vault>(
     ensures stays { V.known vault.old → V.known vault.new }
     ensures read { V.known vault.old → OnlyRead V.seen V.may_leave V.moment V.left_since vault.old vault.new }
     ensures found { V.known vault.old → IfOk result (λ f. IsFoundInCells (recovered (V.seen vault.old)) absent.now f.marks f.lost f.caches.items) }
+
+    // No unit is used that isn't as its digest says: where each other one is the one that was written last, what was written is found.
+    ensures honest { V.known vault.old → (written : Cells) → AreLastIfAttested (V.attested vault.old) absent.now (V.seen vault.old) written
+        → IfOk result (λ f. IsFoundInCells (recovered (with_cells (V.seen vault.old) written)) absent.now f.marks f.lost f.caches.items) }
     ensures gone { IfOk result (λ f. AreGone f.marks absent.now f.lost) }
     ensures long { IfOk result (λ f. length f.marks ≡ 16) }
     ensures many { IfOk result (λ f. length f.caches.items ≡ drives) }
@@ -151,6 +155,11 @@ pub fn recover<N: Chronicle, V: Vault>(
 
     // One that had both has both: they are of one state.
     ensures both { V.known vault.old → (what : Shown) → length what.bytes ≡ size → IsLeftOf HasBoth what groups drives absent.now (recovered (V.seen vault.old))
+        → IfOk result (λ r. HasBoth r.0.tiers what) }
+
+    // No unit is used that isn't as its digest says: where each other one is the one that was written last, so is what is opened.
+    ensures honest { V.known vault.old → (written : Cells) → AreLastIfAttested (V.attested vault.old) absent.now (V.seen vault.old) written
+        → (what : Shown) → length what.bytes ≡ size → IsLeftOf HasBoth what groups drives absent.now (recovered (with_cells (V.seen vault.old) written))
         → IfOk result (λ r. HasBoth r.0.tiers what) }
     ensures size { IfOk result (λ r. r.0.size ≡ size) }
 

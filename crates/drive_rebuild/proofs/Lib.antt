@@ -7,3 +7,4 @@ mod Replacing
 mod Settling
 mod Mended
 mod Scrubbing
+mod ScrubbingVault

@@ -26,7 +26,7 @@ use Rattle.drive_rebuild.proofs.Shown.{there}
 abbrev pub Answer : List Held → Type 0
 Answer drives = (d : ℕ) (m : Held) → slice_get drives d ≡ Some m → m.condition ≡ Present
 
-of_held : (o : Option Held) (m : Held) (a : ℕ) → o ≡ Some m → held_lost m ≡ false → cell held_units held_lost o a ≡ slice_get m.units a
+pub of_held : (o : Option Held) (m : Held) (a : ℕ) → o ≡ Some m → held_lost m ≡ false → cell held_units held_lost o a ≡ slice_get m.units a
 of_held o m a e alive = ap (λ (p : Option Held). cell held_units held_lost p a) e ∙ ap (λ b. if b then None else slice_get m.units a) alive
 
 -- they keep what they hold in calls that write nothing

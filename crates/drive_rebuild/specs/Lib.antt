@@ -1,3 +1,4 @@
 pub mod Written
 pub mod Rebuilt
 pub mod Scrubbed
+pub mod ScrubbedVault

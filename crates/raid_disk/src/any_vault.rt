@@ -8,7 +8,7 @@ use blank_array::{BlankFault, make_disk};
 use byte_store::StoreFault;
 use cached_drive::Saved;
 use drive_addition::{AdditionFault, add_drive};
-use drive_rebuild::{RebuildFault, Watch, replace_drive};
+use drive_rebuild::{RebuildFault, Scrubbed, Watch, replace_drive, scrub_vault};
 use drive_removal::{RemovalFault, remove_drive};
 use extent_groups::GroupTable;
 use extents::{DRIVES, ExtentTable, Shape};
@@ -80,6 +80,22 @@ pub(crate) fn find_drives<V: Vault>(
     absent: &[bool; DRIVES],
 ) -> Result<Found, RecoveryFault> {
     find(alloc, vault, shape, drives, absent)
+}
+
+/// Tests the slots of the array that a vault has.
+pub(crate) fn scrub_in<V: Vault>(
+    alloc: Global,
+    vault: &mut V,
+    shape: &Shape,
+    spelled: Spelled,
+    absent: &[bool; DRIVES],
+) -> Result<Scrubbed, RebuildFault> {
+    let Spelled {
+        groups,
+        extents,
+        drives,
+    } = spelled;
+    scrub_vault(alloc, vault, shape, groups, extents, drives, absent)
 }
 
 /// Opens the array that a vault has.

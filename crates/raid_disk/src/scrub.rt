@@ -1,13 +1,13 @@
 //! All slots of a disk are tested.
-use crate::any_vault::find_drives;
+use crate::any_vault::scrub_in;
 use crate::folder::Folder;
 use crate::mending::{Mended, mend_disk, mend_or_accept};
 use crate::opened::{OpenFiles, Use, groups_in, open_disk_files, trouble_of};
 use crate::trouble::Trouble;
-use array_recovery::{Found, RecoveryFault, tiers_of};
-use drive_rebuild::{Findings, scrub_parts};
+use array_recovery::{RecoveryFault, tiers_of};
+use drive_rebuild::{Findings, Scrubbed};
 use extent_groups::SLOTS;
-use extents::{DRIVES, HotSwap, MemDrive};
+use extents::{DRIVES, MemDrive};
 use std::alloc::Global;
 use std::io;
 use unit_store::Parts;
@@ -43,17 +43,6 @@ fn lost_count(report: &Report) -> u8 {
     count
 }
 
-// The drives in memory, of which the lost ones say that they are.
-fn without_lost(found: Found) -> Vec<MemDrive> {
-    let mut drives = found.caches;
-    for drive in 0..drives.len() {
-        if drive < DRIVES && found.lost[drive % 16] {
-            drives[drive].lose();
-        }
-    }
-    drives
-}
-
 // Whether the units' headers make an array.
 fn make_array(alloc: Global, parts: Parts<MemDrive>) -> Result<bool, Trouble> {
     let Parts {
@@ -77,52 +66,37 @@ fn make_array(alloc: Global, parts: Parts<MemDrive>) -> Result<bool, Trouble> {
     }
 }
 
-// What a disk has, in memory, which of its drives are lost, and how many it has.
-fn load<V: Vault + Drop>(
-    rt: &HostRuntime,
-    files: &mut OpenFiles<V>,
-) -> Result<(Parts<MemDrive>, [bool; DRIVES], u8), Trouble> {
-    let table = files.table;
-    let spelled = groups_in(rt.alloc(), &mut files.vault, &table)?;
-    let shape = table.plan.shape;
-    match find_drives(
-        rt.alloc(),
-        &mut files.vault,
-        &shape,
-        spelled.drives,
-        &files.drives.absent(),
-    ) {
-        Ok(found) => {
-            let lost = found.lost;
-            let parts = Parts {
-                shape,
-                groups: spelled.groups,
-                extents: spelled.extents,
-                drives: without_lost(found),
-                note: None,
-            };
-            Ok((parts, lost, spelled.drives))
-        }
-        Err(fault) => Err(trouble_of(fault)),
-    }
-}
-
 // Tests the slots of a disk that is open, and then the headers: whether they make an array.
 fn test_opened<V: Vault + Drop>(rt: &HostRuntime, files: OpenFiles<V>) -> Result<Report, Trouble> {
     let mut files = files;
-    let (mut parts, lost, drives) = load(rt, &mut files)?;
-    let findings = match scrub_parts(rt.alloc(), &mut parts) {
-        Ok(findings) => findings,
-        Err(fault) => return Err(Trouble::of_rebuild(fault)),
-    };
-    Ok(Report {
-        findings,
-        lost,
-        drives,
-        are_headers_sound: make_array(rt.alloc(), parts)?,
-        mended: 0,
-        accepted: 0,
-    })
+    let table = files.table;
+    let spelled = groups_in(rt.alloc(), &mut files.vault, &table)?;
+    let drives = spelled.drives;
+    let absent = files.drives.absent();
+    match scrub_in(
+        rt.alloc(),
+        &mut files.vault,
+        &table.plan.shape,
+        spelled,
+        &absent,
+    ) {
+        Ok(scrubbed) => {
+            let Scrubbed {
+                findings,
+                lost,
+                parts,
+            } = scrubbed;
+            Ok(Report {
+                findings,
+                lost,
+                drives,
+                are_headers_sound: make_array(rt.alloc(), parts)?,
+                mended: 0,
+                accepted: 0,
+            })
+        }
+        Err(fault) => Err(Trouble::of_rebuild(fault)),
+    }
 }
 
 // Tests a disk.

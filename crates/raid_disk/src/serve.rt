@@ -35,12 +35,22 @@ const SAVE_EVERY: u64 = 4096;
 /// Bytes that are read from the client at once.
 const READ_AHEAD: usize = 65_536;
 
+/// How a disk is served.
+#[derive(Clone, Copy)]
+struct Serving {
+    /// Bytes of units in the journal from which on these are written to their places.
+    journal: u64,
+    /// Units that weren't as their digests say, and were written again before.
+    mended: u32,
+}
+
 // Names the drives that are lost when the disk is open and while it is served, and writes it for `status`.
 #[derive(Drop)]
 struct LossWatch<'a> {
     rt: &'a HostRuntime,
     folder: Folder<'a>,
     drives: &'a Drives,
+    mended: u32,
     // How many drives were lost when they were last named.
     named: Option<u8>,
     // How many units had been compared when that was last written down.
@@ -56,7 +66,7 @@ impl<'a> LossWatch<'a> {
             self.warned = store.repaired();
             // Nothing is left to do where standard error can't be written.
             let _ = warn_repaired(self.rt, self.folder, self.warned);
-            say_served(self.rt, self.folder, store, self.drives);
+            say_served(self.rt, self.folder, store, self.drives, self.mended);
         }
         if store.scrubbed() >= self.saved.saturating_add(SAVE_EVERY) {
             self.saved = store.scrubbed();
@@ -76,7 +86,7 @@ impl<'a, N: Chronicle, V: Vault + Drop> Sees<JournaledStore<N, V>> for LossWatch
             self.named = Some(lost);
             // Nothing is left to do where standard error can't be written.
             let _ = name_lost(self.rt, self.folder, store, self.drives);
-            say_served(self.rt, self.folder, store, self.drives);
+            say_served(self.rt, self.folder, store, self.drives, self.mended);
         }
         self.note_scrub(store);
     }
@@ -148,8 +158,9 @@ fn say_served<N: Chronicle, V: Vault + Drop>(
     folder: Folder<'_>,
     store: &JournaledStore<N, V>,
     drives: &Drives,
+    mended: u32,
 ) {
-    if let Ok(text) = served_text(rt.alloc(), store, drives) {
+    if let Ok(text) = served_text(rt.alloc(), store, drives, mended) {
         progress::say(rt, folder, &text);
     }
 }
@@ -169,7 +180,7 @@ fn serve_spelled<N: Chronicle, V: Vault + Drop, R: Read>(
     plan: &Plan,
     spelled: Spelled,
     drives: &Drives,
-    journal: u64,
+    serving: Serving,
     opened: Opened<Saved>,
     reader: &mut R,
 ) -> Result<Session, (RecoveryFault, V)>
@@ -179,6 +190,7 @@ fn serve_spelled<N: Chronicle, V: Vault + Drop, R: Read>(
         rt,
         folder,
         drives,
+        mended: serving.mended,
         named: None,
         saved: 0,
         warned: 0,
@@ -191,7 +203,7 @@ fn serve_spelled<N: Chronicle, V: Vault + Drop, R: Read>(
         spelled,
         plan.size,
         &drives.absent(),
-        units_in(journal, plan),
+        units_in(serving.journal, plan),
         read_position(rt, folder),
         watch,
         reader,
@@ -213,7 +225,7 @@ fn serve_files<N: Chronicle, V: Vault + Drop>(
     rt: &HostRuntime,
     folder: Folder<'_>,
     files: OpenFiles<V>,
-    journal: u64,
+    serving: Serving,
     opened: Opened<Saved>,
 ) -> Result<u8, Trouble>
     requires { opened ≡ N.chronicle }
@@ -237,7 +249,7 @@ fn serve_files<N: Chronicle, V: Vault + Drop>(
         &plan,
         spelled,
         &drives,
-        journal,
+        serving,
         opened,
         &mut reader,
     );
@@ -255,7 +267,7 @@ fn serve_files<N: Chronicle, V: Vault + Drop>(
 fn serve_opened<N: Chronicle>(
     rt: &HostRuntime,
     folder: Folder<'_>,
-    journal: u64,
+    serving: Serving,
     opened: Opened<Saved>,
 ) -> Result<u8, Trouble>
     requires { opened ≡ N.chronicle }
@@ -265,13 +277,13 @@ fn serve_opened<N: Chronicle>(
     // Nothing is left to do where standard error can't be written.
     let _ = name_pair(rt, folder, &files.pairs, Pair::State);
     let _ = name_pair(rt, folder, &files.pairs, Pair::Journal);
-    serve_files::<N, DiskVault>(rt, folder, files, journal, opened)
+    serve_files::<N, DiskVault>(rt, folder, files, serving, opened)
 }
 
 // Serves a disk, unless a unit isn't as its digest says.
-fn serve_once(rt: &HostRuntime, folder: Folder<'_>, journal: u64) -> Result<u8, Trouble> {
+fn serve_once(rt: &HostRuntime, folder: Folder<'_>, serving: Serving) -> Result<u8, Trouble> {
     let opened = Opened::new(rt.alloc())?;
-    serve_opened::<Brand>(rt, folder, journal, opened)
+    serve_opened::<Brand>(rt, folder, serving, opened)
 }
 
 /// Serves a disk to one client, on standard input and output. Units that aren't as their digests say are written again first. From
@@ -281,10 +293,11 @@ pub(crate) fn serve_disk(
     folder: Folder<'_>,
     journal: u64,
 ) -> Result<u8, Trouble> {
-    match serve_once(rt, folder, journal) {
+    let serving = Serving { journal, mended: 0 };
+    match serve_once(rt, folder, serving) {
         Err(Trouble::Rotten(_, _)) => {}
         ended => return ended,
     }
-    mend_disk(rt, folder)?;
-    serve_once(rt, folder, journal)
+    let mended = mend_disk(rt, folder)?;
+    serve_once(rt, folder, Serving { journal, mended })
 }

@@ -139,6 +139,7 @@ pub(crate) fn served_text<N: Chronicle, V: Vault + Drop>(
     alloc: Global,
     store: &JournaledStore<N, V>,
     drives: &Drives,
+    mended: u32,
 ) -> Result<String, AllocError> {
     let array = store.world().array();
     let mut text = String::new(alloc);
@@ -146,6 +147,12 @@ pub(crate) fn served_text<N: Chronicle, V: Vault + Drop>(
     for drive in 0..array.drive_count() {
         let word = word_of(drives, drive, array.is_lost(drive));
         write!(text, "drive{drive} {word}\n")?;
+    }
+    if mended > 0 {
+        write!(
+            text,
+            "{mended} units weren't as their digests say at the start, and are written again\n"
+        )?;
     }
     let repaired = store.repaired();
     if repaired > 0 {

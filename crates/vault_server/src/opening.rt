@@ -1,6 +1,7 @@
 // A store is opened, and what a session before has left in its journal is settled.
 ghost use Rattle.std.specs.Prelude.{◌≡◌, ◌*◌, length, IfErr, IfOk, OnOk};
 ghost use Rattle.extents.specs.Sizes.{extent_units};
+ghost use Rattle.extent_groups.specs.Cells.{Cells};
 ghost use Rattle.vault.specs.Images.{recovered};
 ghost use Rattle.byte_store.specs.Flat.{StoreState};
 ghost use Rattle.byte_store.specs.Lasting.{Lasts, Shown, Shows};
@@ -8,7 +9,7 @@ ghost use Rattle.array_store.specs.Stores.{Follows, IsStoreOf};
 ghost use Rattle.journaled_store.specs.Keeping.{whole};
 ghost use Rattle.journaled_store.specs.Left.{HasBoth, IsLeftOf};
 ghost use Rattle.journaled_store.specs.Outlasting.{Outlasts, OutlastsSince, point};
-ghost use Rattle.array_recovery.specs.Found.{OnlyRead};
+ghost use Rattle.array_recovery.specs.Found.{AreLastIfAttested, OnlyRead, with_cells};
 ghost use Rattle.array_recovery.specs.Reopened.{IsOpenedWith, IsSoundFor};
 ghost use Rattle.vault_server.specs.Served.{HasBegun, IsOn, durable};
 ghost use Rattle.vault_server.specs.Missing.{IsOpenedBut, IsSoundBut, MarksLost, OnceMarked};
@@ -50,6 +51,10 @@ fn recovered_store<N: Chronicle, V: Vault + Drop>(
     ensures read { V.known vault → IfOk result (λ s. V.known s.vault × OnlyRead V.seen V.may_leave V.moment V.left_since vault s.vault) }
     ensures back { V.known vault → IfErr result (λ e. V.known e.1 × OnlyRead V.seen V.may_leave V.moment V.left_since vault e.1) }
     ensures both { V.known vault → (what : Shown) → length what.bytes ≡ size → IsLeftOf HasBoth what groups drives absent.now (recovered (V.seen vault))
+        → IfOk result (λ s. Shows (⟦<JournaledStore<N, V> as ByteStore>⟧.keys s) (durable what) what
+        × ⟦<JournaledStore<N, V> as ByteStore>⟧.represents s (durable what)) }
+    ensures honest { V.known vault → (written : Cells) → AreLastIfAttested (V.attested vault) absent.now (V.seen vault) written
+        → (what : Shown) → length what.bytes ≡ size → IsLeftOf HasBoth what groups drives absent.now (recovered (with_cells (V.seen vault) written))
         → IfOk result (λ s. Shows (⟦<JournaledStore<N, V> as ByteStore>⟧.keys s) (durable what) what
         × ⟦<JournaledStore<N, V> as ByteStore>⟧.represents s (durable what)) }
     ensures size { IfOk result (λ s. s.store.size ≡ size) }
@@ -137,6 +142,12 @@ pub fn open_settled<N: Chronicle, V: Vault + Drop>(
     ensures back { V.known vault → IfErr result (λ e. V.known e.1 × OnlyRead V.seen V.may_leave V.moment V.left_since vault e.1) }
     ensures stays { V.known vault → IfOk result (λ s. V.known s.store.vault) }
     ensures both { V.known vault → (what : Shown) → length what.bytes ≡ size → IsLeftOf HasBoth what groups drives absent.now (recovered (V.seen vault))
+        → IfOk result (λ s. Shows (⟦<JournaledStore<N, V> as ByteStore>⟧.keys s.store) (durable what) what
+        × ⟦<JournaledStore<N, V> as ByteStore>⟧.represents s.store (durable what)) }
+
+    // No unit is used that isn't as its digest says: where each other one is the one that was written last, so is what is opened.
+    ensures honest { V.known vault → (written : Cells) → AreLastIfAttested (V.attested vault) absent.now (V.seen vault) written
+        → (what : Shown) → length what.bytes ≡ size → IsLeftOf HasBoth what groups drives absent.now (recovered (with_cells (V.seen vault) written))
         → IfOk result (λ s. Shows (⟦<JournaledStore<N, V> as ByteStore>⟧.keys s.store) (durable what) what
         × ⟦<JournaledStore<N, V> as ByteStore>⟧.represents s.store (durable what)) }
     ensures same { V.known vault → (what : Shown) → length what.bytes ≡ size → IsLeftOf HasBoth what groups drives absent.now (recovered (V.seen vault))

@@ -6,6 +6,7 @@ use Rattle.array_store.specs.Stores.{StoreView}
 use Rattle.journaled_store.specs.Left.{HasBoth, HasKeys}
 use Rattle.journaled_store.specs.Outlasting.{OutlastsSince, Point, Works, point}
 use Rattle.vault.specs.declared.store.Stop.TheVariants.{Killed}
+use Rattle.array_recovery.proofs.Attesting.{as_found}
 use Rattle.array_recovery.proofs.Outlasting.{opened_during, works}
 use Rattle.array_recovery.proofs.open.open_store.Goals as goal
 
@@ -91,10 +92,10 @@ pub returns-in-Ok-clause-map : goal.returns-in-Ok-clause-map
 returns-in-Ok-clause-map g c = λ known keys left block.
     ap (λ (s : StoreView). key_at s.tiers.world.array block) c.new.ensures.parts.0 ∙ c.in-Ok.ensures.map known keys left block
 
-pub returns-in-Ok-clause-both : goal.returns-in-Ok-clause-both
-returns-in-Ok-clause-both g c = λ known what long left.
+pub returns-in-Ok-clause-honest : goal.returns-in-Ok-clause-honest
+returns-in-Ok-clause-honest g c = λ known written last what long left.
     let parts = c.new.ensures.parts.0 in
-    let there = subst (λ (s : StoreView). HasBoth s.tiers what) (sym parts) (c.in-Ok.ensures.both known what long left) in (
+    let there = subst (λ (s : StoreView). HasBoth s.tiers what) (sym parts) (c.in-Ok.ensures.honest known written last what long left) in (
       record { bytes_are = refl; keys_are = there.keys_are },
       record {
         holds = there.holds;
@@ -102,3 +103,8 @@ returns-in-Ok-clause-both g c = λ known what long left.
         noted = sym c.new.ensures.flags.0;
       },
     )
+
+pub returns-in-Ok-clause-both : goal.returns-in-Ok-clause-both
+returns-in-Ok-clause-both g c = λ known what long left.
+    let base = g.V.Vault.seen c.args.vault in
+    returns-in-Ok-clause-honest g c known base.cells (as_found (g.V.Vault.attested c.args.vault) c.args.absent.now base) what long left

@@ -6,7 +6,8 @@ use Rattle.vault.specs.Images.{recovered}
 use Rattle.array_store.specs.Blocks.{Holds}
 use Rattle.journaled_store.specs.Left.{HasBoth, HasKeys, IsLeftOf}
 use Rattle.array_recovery.specs.Reopened.{CoversGone, EndsAt, IsOpenedWith}
-use Rattle.array_recovery.specs.Found.{IsTable}
+use Rattle.array_recovery.specs.Found.{IsTable, with_cells}
+use Rattle.array_recovery.proofs.Attesting.{as_found}
 use Rattle.array_recovery.proofs.Reopening.{bytes_left, keys_left}
 use Rattle.array_recovery.proofs.reopen.recover.Goals as goal
 
@@ -29,15 +30,21 @@ of_both : {X E : Type 0} (result : Result X E) (P Q R : X → Type 0) → IfOk r
 of_both (Ok x) P Q R one two both = both x one two
 of_both (Err e) P Q R one two both = tt
 
-pub returns-clause-both : goal.returns-clause-both
-returns-clause-both g c = λ known what long left.
-    let cells = recovered (g.V.Vault.seen c.args.vault.now) in
+pub returns-clause-honest : goal.returns-clause-honest
+returns-clause-honest g c = λ known written last what long left.
+    let cells = recovered (with_cells (g.V.Vault.seen c.args.vault.now) written) in
     let reported = c.in_ok-found.ensures in
+    let found = reported.honest known written last in
     let here = subst (λ n. IsLeftOf HasBoth what c.args.groups n c.args.absent.now cells) (sym reported.many) left in
     of_both c.open_found.result _ _ _ c.open_found.ensures.reopened c.open_found.ensures.map (λ r bytes map. record {
-      holds = (bytes cells c.args.absent.now what.bytes (reported.found known) long (bytes_left what _ _ c.args.absent.now cells here)).holds;
-      keys_are = λ block. sym (map cells c.args.absent.now what.keys (reported.found known) (keys_left what _ _ c.args.absent.now cells here) block);
+      holds = (bytes cells c.args.absent.now what.bytes found long (bytes_left what _ _ c.args.absent.now cells here)).holds;
+      keys_are = λ block. sym (map cells c.args.absent.now what.keys found (keys_left what _ _ c.args.absent.now cells here) block);
     })
+
+pub returns-clause-both : goal.returns-clause-both
+returns-clause-both g c = λ known what long left.
+    let base = g.V.Vault.seen c.args.vault.now in
+    returns-clause-honest g c known base.cells (as_found (g.V.Vault.attested c.args.vault.now) c.args.absent.now base) what long left
 
 pub returns-clause-live : goal.returns-clause-live
 returns-clause-live g c = λ known lost.

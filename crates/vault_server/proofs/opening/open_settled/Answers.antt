@@ -7,6 +7,7 @@ use Rattle.journaled_store.specs.Outlasting.{point}
 use Rattle.journaled_store.proofs.Batching.{when_ok}
 use Rattle.journaled_store.proofs.Lasting.{on_ok_by}
 use Rattle.journaled_store.proofs.Storing.{has_both}
+use Rattle.array_recovery.proofs.Attesting.{as_found}
 use Rattle.vault_server.specs.Served.{HasBegun, IsOn, durable}
 use Rattle.vault_server.specs.Missing.{IsOpenedBut}
 use Rattle.vault_server.proofs.Begun.{begun_after, left_absent, on_after, shows_then}
@@ -16,13 +17,18 @@ pub returns-in-Ok-clause-stays : goal.returns-in-Ok-clause-stays
 returns-in-Ok-clause-stays g c = λ known.
     c.settled.ensures.stays (c.mark_lost-store.ensures.stays (subst (λ (w : Whole g.row.V.Denot). g.V.Vault.known w.vault) (sym c.resumed.ensures) (c.in-Ok.ensures.read known).0))
 
-pub returns-in-Ok-clause-both : goal.returns-in-Ok-clause-both
-returns-in-Ok-clause-both g c = λ known what long left.
-    let there = c.in-Ok.ensures.both known what long left in
+pub returns-in-Ok-clause-honest : goal.returns-in-Ok-clause-honest
+returns-in-Ok-clause-honest g c = λ known written last what long left.
+    let there = c.in-Ok.ensures.honest known written last what long left in
     let was = subst (λ (w : Whole g.row.V.Denot). Shows w.store.tiers.world.array.keys (durable what) what × IsStoreOf w.store.tiers w.store.size w.unsynced (durable what)) (sym c.resumed.ensures) there in
     let same = c.mark_lost-store.ensures.same in
     let now = shows_then c.resumed.result.store c.mark_lost-store.result.0.store c.resumed.result.unsynced c.mark_lost-store.result.0.unsynced (durable what) what same.0 same.1 was in
     c.settled.ensures.shows (durable what) what now.1 now.0
+
+pub returns-in-Ok-clause-both : goal.returns-in-Ok-clause-both
+returns-in-Ok-clause-both g c = λ known what long left.
+    let base = g.V.Vault.seen c.args.vault in
+    returns-in-Ok-clause-honest g c known base.cells (as_found (g.V.Vault.attested c.args.vault) c.args.absent.now base) what long left
 
 pub returns-in-Ok-clause-same : goal.returns-in-Ok-clause-same
 returns-in-Ok-clause-same g c = λ known what long left.

@@ -5,15 +5,16 @@ use Rattle.vault.specs.declared.store.Stop.TheVariants.{Killed}
 use Rattle.journaled_store.specs.Left.{HasBoth}
 use Rattle.journaled_store.specs.Outlasting.{Point, point}
 use Rattle.journaled_store.proofs.Lasting.{begun}
+use Rattle.array_recovery.proofs.Attesting.{as_found}
 use Rattle.array_recovery.proofs.Outlasting.{opened_during, works}
 use Rattle.vault_server.specs.Served.{HasBegun}
 use Rattle.vault_server.specs.Missing.{IsOpenedBut}
 use Rattle.vault_server.proofs.opening.recovered_store.Goals as goal
 
-pub returns-in-Ok-clause-both : goal.returns-in-Ok-clause-both
-returns-in-Ok-clause-both g c = λ known what long left.
+pub returns-in-Ok-clause-honest : goal.returns-in-Ok-clause-honest
+returns-in-Ok-clause-honest g c = λ known written last what long left.
     let parts = c.new.ensures.parts.0 in
-    let there = subst (λ (s : StoreView). HasBoth s.tiers what) (sym parts) (c.in-Ok.ensures.both known what long left) in (
+    let there = subst (λ (s : StoreView). HasBoth s.tiers what) (sym parts) (c.in-Ok.ensures.honest known written last what long left) in (
       record { bytes_are = refl; keys_are = there.keys_are },
       record {
         holds = there.holds;
@@ -21,6 +22,11 @@ returns-in-Ok-clause-both g c = λ known what long left.
         noted = sym c.new.ensures.flags.0;
       },
     )
+
+pub returns-in-Ok-clause-both : goal.returns-in-Ok-clause-both
+returns-in-Ok-clause-both g c = λ known what long left.
+    let base = g.V.Vault.seen c.args.vault in
+    returns-in-Ok-clause-honest g c known base.cells (as_found (g.V.Vault.attested c.args.vault) c.args.absent.now base) what long left
 
 pub returns-in-Ok-clause-begins : goal.returns-in-Ok-clause-begins
 returns-in-Ok-clause-begins g c = λ known what is.
