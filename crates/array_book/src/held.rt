@@ -146,7 +146,7 @@ pub(crate) fn put_and_end_in<D: Drive, N: Naming + Sizes>(
     ensures stays { appends ≡ false → kept.new.planner.end ≡ kept.old.planner.end }
     ensures noted { IfOk result (λ ended. IfOk ended (λ done. HasNoted kept.old kept.new done.emitted)) }
 {
-    let claim = match place_in(kept, history, me, words, alloc, claim, what, block) {
+    let claim = match place_in(kept, history, me, words, claim, what, block) {
         Ok(done) => {
             if appends {
                 appended_in(kept, done.emitted.record().place);

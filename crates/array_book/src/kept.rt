@@ -106,7 +106,6 @@ pub(crate) fn place_in<D: Drive, N: Naming + Sizes>(
     history: &History<N, Deed>,
     me: &mut Hand<N, Deed>,
     words: &SlotWords<N>,
-    alloc: Global,
     claim: Claim<N>,
     what: What,
     block: u32,
@@ -125,7 +124,7 @@ pub(crate) fn place_in<D: Drive, N: Naming + Sizes>(
     let mut claim = claim;
     kept.array.apart_from(words, &mut claim);
     let slot = claim.slot();
-    match place_at_once(&mut kept.array, alloc, claim, what, block) {
+    match place_at_once(&mut kept.array, claim, what, block) {
         Ok(done) => {
             // Two entries, as of a put and a commit apart: the history doesn't show how often the unit was written.
             let committed = done.emitted.record();

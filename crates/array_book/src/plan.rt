@@ -139,7 +139,7 @@ fn demotion<D: Drive, N: Naming + Sizes>(kept: &Kept<D, N>, block: u32) -> Plan
         // Held or not: other workers' claims are in the words, not in the array. The claim decides.
         slot: kept.planner.next_append(&kept.array, &Any),
         demotes: true,
-        group: kept.planner.end.group(),
+        group: kept.planner.write_group(),
         appends: true,
     }
 }

@@ -8,12 +8,10 @@ use Rattle.extent_groups.specs.declared.place.Place.{Place}
 use Rattle.extent_groups.specs.Cells.{Cells}
 use Rattle.extent_groups.specs.Planned.{with_unit}
 use Rattle.vault.specs.Images.{is_lost, is_some_true}
-use Rattle.vault.specs.Moments.{IsUnitAt}
-use Rattle.vault.specs.declared.store.UnitRead.TheVariants.{Rotten, Whole}
 use Rattle.array_recovery.specs.Found.{AreGone, AreMarksIf, is_marked}
 use Rattle.array_recovery.proofs.Replaying.{write, write_else, write_here}
 
-some_is : (o : Option (List ℕ)) → is_some o ≡ true → (u : List ℕ) × (o ≡ Some u)
+pub some_is : (o : Option (List ℕ)) → is_some o ≡ true → (u : List ℕ) × (o ≡ Some u)
 some_is None e = absurd (true≢false (sym e))
 some_is (Some u) e = (u, refl)
 
@@ -52,13 +50,6 @@ gone_all marks absent lost m a l before = record {
         ∙ sym (ap (λ n. not (n == 0) || is_lost absent d) (index_past marks d (omega (arith, high, l, m))) ∙ ap is_some_true (slice_get_past absent d (omega (arith, high, l, a)))))
   ];
 }
-
--- the table, as a read finds it
-pub marks_whole : (c : Cells) (marks : List ℕ) → IsUnitAt c (record { drive = 16; address = 0 }) marks Whole → AreMarksIf true marks c
-marks_whole c marks e = record { there = ap (λ o. is_some o) e; table = λ known. e }
-
-pub marks_rotten : (c : Cells) (marks : List ℕ) → IsUnitAt c (record { drive = 16; address = 0 }) marks Rotten → AreMarksIf false marks c
-marks_rotten c marks u = record { there = ap (λ o. is_some o) u.1; table = λ known. absurd (true≢false (sym known)) }
 
 -- a write of another place leaves it, and one of its place makes it known
 pub marks_else : (known : Bool) (marks : List ℕ) (c : Cells) (place : Place) (unit : List ℕ) → (16 ≢ place.drive) ⊎ (0 ≢ place.address) → AreMarksIf known marks c → AreMarksIf known marks (with_unit c (write place unit))

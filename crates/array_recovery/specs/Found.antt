@@ -1,5 +1,5 @@
 -- What is read of a vault, and held in memory.
-use Rattle.std.specs.Prelude.{◌≡◌, ◌⊎◌, ◌==◌, ◌||◌, ◌<◌, ℕ, Bool, true, false, not, is_some, option_map, Some, List, length, slice_get, slice_index_or}
+use Rattle.std.specs.Prelude.{◌≡◌, ◌⊎◌, ◌==◌, ◌||◌, ◌<◌, ℕ, Bool, true, false, not, is_some, Some, List, length, slice_get, slice_index_or}
 use Rattle.extents.specs.Condition.{Held}
 use Rattle.extent_groups.specs.Cells.{Cells, held}
 use Rattle.extent_groups.specs.Planned.{Intended}
@@ -41,16 +41,17 @@ pub record IsFoundInCells (c : Cells) (absent : List Bool) (marks : List ℕ) (l
 abbrev pub with_cells : Image → Cells → Image
 with_cells i cells = record { cells = cells; journal = i.journal }
 
--- A place has a unit of the same length as the one that was written last. If it is attested, it is that one.
+-- What lies at a place is the unit that was written last there, if it is attested; and if anything lies there a unit was written.
 pub record IsLastIfAttested (attested : Place → Type 0) (written now : Cells) (x : Place) : Type 0 where
-  pub sized : option_map length (held now x) ≡ option_map length (held written x)
-  pub same : attested x → held now x ≡ held written x
+  pub there : is_some (held now x) ≡ true → is_some (held written x) ≡ true
+  pub same : attested x → (unit : List ℕ) → held now x ≡ Some unit → held written x ≡ Some unit
 
--- Drives return what was written last, or bytes that aren't as their digest says: so it is with the table's marks, and with each unit of a
--- drive that isn't lost. One is lost that the table marks of what was written, or that is absent. Nothing is said of the others.
-pub record AreLastIfAttested (attested : Place → Type 0) (absent : List Bool) (base : Image) (written : Cells) : Type 0 where
+-- Drives return what was written last, or nothing, or bytes that aren't as their digest says: so it is with the table's marks, and with each
+-- unit of the first drives that aren't lost. A drive is lost that the marks of what was written say is, or that is absent. The journal is as it
+-- lies there.
+pub record AreLastIfAttested (attested : Place → Type 0) (drives : ℕ) (absent : List Bool) (base : Image) (written : Cells) : Type 0 where
   pub table : IsLastIfAttested attested written base.cells (record { drive = 16; address = 0 })
-  pub drives : (marks : List ℕ) → IsTable marks (recovered (with_cells base written)) → (x : Place)
+  pub each : (marks : List ℕ) → IsTable marks (recovered (with_cells base written)) → (x : Place) → x.drive < drives
       → (is_marked marks x.drive || is_lost absent x.drive) ≡ false → IsLastIfAttested attested written base.cells x
 
 -- Each drive has the units of that number in memory, is lost or not as it is said, and its units are those that its hand saved last.

@@ -1,9 +1,10 @@
 // Which drives the table says are lost.
-ghost use Rattle.std.specs.Prelude.{◌≡◌, ◌==◌, ◌||◌, ℕ, List, not, length, OnOk, IfOk};
+ghost use Rattle.std.specs.Prelude.{◌≡◌, ◌==◌, ◌||◌, ℕ, List, not, length, true, OnOk, IfOk};
 ghost use Rattle.extent_groups.specs.Cells.{Cells};
 ghost use Rattle.extent_groups.specs.Planned.{after, with_unit};
 ghost use Rattle.vault.specs.Images.{Image, recovered};
-ghost use Rattle.vault.specs.Moments.{AttestsNoMore, IsUnitAt};
+ghost use Rattle.vault.specs.Moments.{AttestsNoMore};
+ghost use Rattle.vault.specs.declared.store.UnitRead.TheVariants.{Absent, Whole};
 ghost use Rattle.array_recovery.specs.Found.{AreGone, AreMarksIf, IsLastIfAttested, IsTable, OnlyRead, with_cells};
 
 use crate::fault::RecoveryFault;
@@ -48,7 +49,7 @@ fn mark_batch(
 
 // Whether the marks are known, by what a read of the table finds.
 fn is_known(read: UnitRead) -> Result<bool, RecoveryFault>
-    ensures { IfOk result (λ known. (c : Cells) (marks : List ℕ) → IsUnitAt c (record { drive = 16; address = 0 }) marks read → AreMarksIf known marks c) }
+    ensures { IfOk result (λ known. (known ≡ true → read ≡ Whole) × (read ≡ Absent → ⊥)) }
 {
     match read {
         UnitRead::Whole => Ok(true),

@@ -9,7 +9,7 @@ ghost use Rattle.byte_store.specs.Lasting.{Shown, Shows};
 ghost use Rattle.array_store.specs.Blocks.{Holds};
 ghost use Rattle.journaled_store.specs.Left.{HasBoth, HasKeys, IsLeftOf};
 ghost use Rattle.journaled_store.specs.Outlasting.{Outlasts, OutlastsSince, point};
-ghost use Rattle.array_recovery.specs.Found.{AreLastIfAttested, OnlyRead, with_cells};
+ghost use Rattle.array_recovery.specs.Found.{AreLastIfAttested, IsTable, OnlyRead, with_cells};
 ghost use Rattle.array_recovery.specs.Reopened.{IsOpenedWith, IsSoundFor};
 
 use crate::fault::RecoveryFault;
@@ -57,11 +57,12 @@ pub fn open_store<N: Chronicle, V: Vault + Drop>(
         → IfOk result (λ s. Shows (⟦<JournaledStore<N, V> as ByteStore>⟧.keys s) (record { bytes = what.bytes; unsynced = false }) what
         × ⟦<JournaledStore<N, V> as ByteStore>⟧.represents s (record { bytes = what.bytes; unsynced = false })) }
 
-    // No unit is used that isn't as its digest says: where each other one is the one that was written last, so is what is opened.
-    ensures honest { V.known vault → (written : Cells) → AreLastIfAttested (V.attested vault) absent.now (V.seen vault) written
+    // What is opened shows what was written last, where each unit that is as its digest says is that one: rotten units change nothing of it.
+    ensures honest { V.known vault → (written : Cells) → AreLastIfAttested (V.attested vault) drives absent.now (V.seen vault) written
         → (what : Shown) → length what.bytes ≡ size → IsLeftOf HasBoth what groups drives absent.now (recovered (with_cells (V.seen vault) written))
         → IfOk result (λ s. Shows (⟦<JournaledStore<N, V> as ByteStore>⟧.keys s) (record { bytes = what.bytes; unsynced = false }) what
-        × ⟦<JournaledStore<N, V> as ByteStore>⟧.represents s (record { bytes = what.bytes; unsynced = false })) }
+        × ⟦<JournaledStore<N, V> as ByteStore>⟧.represents s (record { bytes = what.bytes; unsynced = false })
+        × IsTable s.changes.noted (recovered (with_cells (V.seen vault) written))) }
     ensures works { IfOk result (λ s. (s.store.size ≡ size) × (s.failed ≡ false)) }
     ensures same { IfOk result (λ s. IsOpenedWith groups drives s.changes.noted absent.now s.store.tiers) }
 

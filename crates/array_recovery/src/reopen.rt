@@ -44,7 +44,7 @@ pub struct Found {
     pub lost: [bool; DRIVES],
 }
 
-/// Finds what a vault stands for. It is only read. Refused where a unit is rotten that the journal doesn't write.
+/// Finds what a vault stands for. It is only read. Refused where a unit of a drive that isn't lost is rotten, and the journal doesn't write it.
 pub fn find<V: Vault>(
     alloc: Global,
     vault: &mut V,
@@ -57,7 +57,7 @@ pub fn find<V: Vault>(
     ensures found { V.known vault.old → IfOk result (λ f. IsFoundInCells (recovered (V.seen vault.old)) absent.now f.marks f.lost f.caches.items) }
 
     // No unit is used that isn't as its digest says: where each other one is the one that was written last, what was written is found.
-    ensures honest { V.known vault.old → (written : Cells) → AreLastIfAttested (V.attested vault.old) absent.now (V.seen vault.old) written
+    ensures honest { V.known vault.old → (written : Cells) → AreLastIfAttested (V.attested vault.old) drives absent.now (V.seen vault.old) written
         → IfOk result (λ f. IsFoundInCells (recovered (with_cells (V.seen vault.old) written)) absent.now f.marks f.lost f.caches.items) }
     ensures gone { IfOk result (λ f. AreGone f.marks absent.now f.lost) }
     ensures long { IfOk result (λ f. length f.marks ≡ 16) }
@@ -157,10 +157,10 @@ pub fn recover<N: Chronicle, V: Vault>(
     ensures both { V.known vault.old → (what : Shown) → length what.bytes ≡ size → IsLeftOf HasBoth what groups drives absent.now (recovered (V.seen vault.old))
         → IfOk result (λ r. HasBoth r.0.tiers what) }
 
-    // No unit is used that isn't as its digest says: where each other one is the one that was written last, so is what is opened.
-    ensures honest { V.known vault.old → (written : Cells) → AreLastIfAttested (V.attested vault.old) absent.now (V.seen vault.old) written
+    // What is opened shows what was written last, where each unit that is as its digest says is that one: rotten units change nothing of it.
+    ensures honest { V.known vault.old → (written : Cells) → AreLastIfAttested (V.attested vault.old) drives absent.now (V.seen vault.old) written
         → (what : Shown) → length what.bytes ≡ size → IsLeftOf HasBoth what groups drives absent.now (recovered (with_cells (V.seen vault.old) written))
-        → IfOk result (λ r. HasBoth r.0.tiers what) }
+        → IfOk result (λ r. HasBoth r.0.tiers what × IsTable r.1.noted (recovered (with_cells (V.seen vault.old) written))) }
     ensures size { IfOk result (λ r. r.0.size ≡ size) }
 
     // It has the groups and as many drives as are given, and each drive that is marked or absent is lost in it.

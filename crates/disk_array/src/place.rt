@@ -26,7 +26,6 @@ use extents::{Drive, Kind};
 use flat_machine::Refusal;
 use map_join::Record;
 use slot_tables::{Hold, SlotState, put_in};
-use std::alloc::Global;
 
 impl<D: Drive, C: Hold> Array<D, C> {
     /// Fills a mirrored slot with a payload or a trim and commits it to the block, in one write: what `fill` or `trim`
@@ -34,7 +33,6 @@ impl<D: Drive, C: Hold> Array<D, C> {
     /// or an allocation fails, there is no refusal, and nothing was done: the caller fills and commits, and learns why.
     pub fn place(
         &mut self,
-        alloc: Global,
         claim: C,
         block: u32,
         kind: Kind,
@@ -58,14 +56,13 @@ impl<D: Drive, C: Hold> Array<D, C> {
     {
         match self.fill_fault(claim.slot()) {
             Some(refusal) => Err((Some(refusal), claim)),
-            None => self.place_open(alloc, claim, block, kind, payload),
+            None => self.place_open(claim, block, kind, payload),
         }
     }
 
     /// `place` for a slot that is open to a fresh content, as `fill_fault` says: nobody asks again. Refused with `Gone` alone.
     pub fn place_open(
         &mut self,
-        alloc: Global,
         claim: C,
         block: u32,
         kind: Kind,
@@ -117,12 +114,7 @@ impl<D: Drive, C: Hold> Array<D, C> {
 
     /// Copies what a block holds into a slot of either class and commits it, in one write: what `copy` leaves, and then `commit`.
     /// Refused as `copy` is. Where the log is full, or an allocation fails, there is no refusal, and nothing was done.
-    pub fn place_copy(
-        &mut self,
-        alloc: Global,
-        claim: C,
-        block: u32,
-    ) -> Result<Done<C>, (Option<Refusal>, C)>
+    pub fn place_copy(&mut self, claim: C, block: u32) -> Result<Done<C>, (Option<Refusal>, C)>
         requires { block < self.old.parts.groups.blocks }
         ensures done { IfOk result (λ done. (q : Record) × (k : KindOf) × (record_at block (key_at self.old block) ≡ Some q)
             × (self.new ≡ commit_view (copy_view (with_parts self.old self.new.parts) (C.names claim) q k) (C.names claim) block (Some q) done.emitted)

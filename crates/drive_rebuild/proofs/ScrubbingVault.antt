@@ -14,7 +14,7 @@ use Rattle.unit_store.specs.Memory.{held_failures, held_lost, held_units}
 use Rattle.unit_store.specs.Slots.{cells_in}
 use Rattle.unit_store.specs.declared.parts.Parts.{Parts}
 use Rattle.vault.specs.Images.{is_lost}
-use Rattle.array_recovery.specs.Found.{AreFormed, HaveUnits}
+use Rattle.array_recovery.specs.Found.{AreFormed, AreGone, HaveUnits, IsTable}
 use Rattle.array_recovery.proofs.Reopening.{bool_cases}
 use Rattle.drive_rebuild.specs.Scrubbed.{ReportsUnsound}
 use Rattle.drive_rebuild.specs.ScrubbedVault.{AreWithoutLost, ReportsVault}
@@ -92,16 +92,20 @@ module _ (drives units size : ℕ) (lost : List Bool) (c : Cells) (caches : List
         ])
   ]
 
-  pub reports_vault : LosesOnly held_units held_lost held_failures parts tested
+  pub reports_vault : (marks : List ℕ) (absent : List Bool) → IsTable marks c → AreGone marks absent lost → LosesOnly held_units held_lost held_failures parts tested
       → ReportsUnsound parts.groups (cells_in held_units held_lost parts) (cells_in held_units held_lost tested) findings
-      → (findings.unsound ≡ 0 → AreSound tested.groups (cells_in held_units held_lost tested)) → ReportsVault parts.groups drives units lost c findings
-  reports_vault only reported sound =
+      → (findings.unsound ≡ 0 → AreSound tested.groups (cells_in held_units held_lost tested))
+      → ReportsVault parts.groups drives units absent c (record { findings = findings; lost = lost; parts = tested })
+  reports_vault marks absent table marked only reported sound =
       let still = cells_still parts.drives.items tested.drives.items only.drives answer in
       record {
-        holds = holds;
-        there = at_there;
-        gone = at_gone;
-        past = at_past;
-        reported = subst (λ (n : Cells). ReportsUnsound parts.groups holds n findings) (sym still) reported;
-        sound = λ none. subst (λ (n : Cells). AreSound parts.groups n) (sym still) (subst (λ (g : Groups). AreSound g (cells_in held_units held_lost tested)) only.tables.groups (sound none));
+        marks = marks;
+        table = table;
+        marked = marked;
+        same = only.tables.groups;
+        there = λ d at low inside alive. subst (λ (n : Cells). n d at ≡ c d at) still (at_there d at low inside alive);
+        gone = λ d at gone. subst (λ (n : Cells). n d at ≡ None) still (at_gone d at gone);
+        past = λ d at past. subst (λ (n : Cells). n d at ≡ None) still (at_past d at past);
+        reported = subst (λ (n : Cells). ReportsUnsound parts.groups n (cells_in held_units held_lost tested) findings) still reported;
+        sound = λ none. subst (λ (g : Groups). AreSound g (cells_in held_units held_lost tested)) only.tables.groups (sound none);
       }

@@ -1,10 +1,10 @@
 // All slots of an array that a vault has are tested.
-ghost use Rattle.std.specs.Prelude.{◌≡◌, ◌*◌, ℕ, List, Some, false, length, slice_get, true, IfOk};
+ghost use Rattle.std.specs.Prelude.{◌≡◌, ◌*◌, false, true, IfOk};
 ghost use Rattle.extents.specs.Sizes.{extent_units};
 ghost use Rattle.extent_groups.specs.Cells.{Cells};
 ghost use Rattle.vault.specs.Images.{recovered};
 ghost use Rattle.unit_store.specs.Memory.{held_lost};
-ghost use Rattle.array_recovery.specs.Found.{AreGone, AreLastIfAttested, IsTable, OnlyRead, with_cells};
+ghost use Rattle.array_recovery.specs.Found.{AreLastIfAttested, OnlyRead, with_cells};
 ghost use Rattle.drive_rebuild.specs.ScrubbedVault.{AreWithoutLost, ReportsVault};
 
 use crate::fault::RebuildFault;
@@ -47,8 +47,8 @@ fn lose_all(caches: &mut [MemDrive], lost: &[bool; DRIVES])
 }
 
 /// Tests all slots of an array that a vault has, as `scrub_parts` does, with what its journal writes. It is only read. The drives that the
-/// table marks are lost, and so are those that are absent; what they share with others isn't compared. Refused where a unit is rotten
-/// that the journal doesn't write.
+/// table marks are lost, and so are those that are absent; what they share with others isn't compared. Refused where a unit of a drive
+/// that isn't lost is rotten, and the journal doesn't write it.
 pub fn scrub_vault<V: Vault>(
     alloc: Global,
     vault: &mut V,
@@ -61,15 +61,14 @@ pub fn scrub_vault<V: Vault>(
     ensures stays { V.known vault.old → V.known vault.new }
     ensures read { V.known vault.old → OnlyRead V.seen V.may_leave V.moment V.left_since vault.old vault.new }
 
-    // The slots that aren't sound are reported, and no others. None is only if all are sound.
-    ensures reported { V.known vault.old → IfOk result (λ s. ReportsVault groups drives (shape.now.extents * extent_units shape.now.segments) s.lost
-        (recovered (V.seen vault.old)) s.findings) }
-    ensures lost { V.known vault.old → IfOk result (λ s. (marks : List ℕ) → IsTable marks (recovered (V.seen vault.old)) → AreGone marks absent.now s.lost) }
+    // The slots that aren't sound are reported, and no others, of what lies in the vault with the journal's writes.
+    ensures reported { V.known vault.old → IfOk result (ReportsVault groups drives (shape.now.extents * extent_units shape.now.segments) absent.now
+        (recovered (V.seen vault.old))) }
 
     // No unit is compared that isn't as its digest says: where each other one is the one that was written last, these are compared.
-    ensures honest { V.known vault.old → (written : Cells) → AreLastIfAttested (V.attested vault.old) absent.now (V.seen vault.old) written
-        → IfOk result (λ s. ReportsVault groups drives (shape.now.extents * extent_units shape.now.segments) s.lost
-        (recovered (with_cells (V.seen vault.old) written)) s.findings) }
+    ensures honest { V.known vault.old → (written : Cells) → AreLastIfAttested (V.attested vault.old) drives absent.now (V.seen vault.old) written
+        → IfOk result (ReportsVault groups drives (shape.now.extents * extent_units shape.now.segments) absent.now
+        (recovered (with_cells (V.seen vault.old) written))) }
 {
     let found = find(alloc, vault, shape, drives, absent)?;
     let Found {

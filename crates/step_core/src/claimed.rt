@@ -66,7 +66,6 @@ pub fn put<D: Drive, C: Hold>(
 /// between. Refused as `put` is. Where the commit would be refused, or an allocation fails, there is no refusal, and nothing was done.
 pub fn place_at_once<D: Drive, C: Hold>(
     array: &mut Array<D, C>,
-    alloc: Global,
     claim: C,
     what: What,
     block: u32,
@@ -86,7 +85,7 @@ pub fn place_at_once<D: Drive, C: Hold>(
 {
     match fresh_fault(array, claim.slot(), what) {
         Some(refusal) => Err((Some(refusal), claim)),
-        None => place_open(array, alloc, claim, what, block),
+        None => place_open(array, claim, what, block),
     }
 }
 
@@ -108,7 +107,6 @@ pub(crate) fn fresh_fault<D: Drive, C: Hold>(
 // Puts it there at once where the slot is known to be open to it, so that nobody asks twice.
 fn place_open<D: Drive, C: Hold>(
     array: &mut Array<D, C>,
-    alloc: Global,
     claim: C,
     what: What,
     block: u32,
@@ -129,11 +127,11 @@ fn place_open<D: Drive, C: Hold>(
 {
     match what {
         What::Fresh(given) => match given {
-            Given::Payload(payload) => array.place_open(alloc, claim, block, Kind::Data, payload),
+            Given::Payload(payload) => array.place_open(claim, block, Kind::Data, payload),
             // No bytes, because a trim's payload isn't looked at.
-            Given::Trim => array.place_open(alloc, claim, block, Kind::Trim, &[]),
+            Given::Trim => array.place_open(claim, block, Kind::Trim, &[]),
         },
-        What::CopyOf(source) => array.place_copy(alloc, claim, source),
+        What::CopyOf(source) => array.place_copy(claim, source),
     }
 }
 
@@ -157,7 +155,7 @@ pub(crate) fn put_and_finish<D: Drive, C: Hold>(
         (λ e. IsNotPlaced array.old array.new (put_for what.entry) (C.names claim) block e.refusal) }
     ensures room { SameSizes array.old array.new }
 {
-    let claim = match place_open(array, alloc, claim, what, block) {
+    let claim = match place_open(array, claim, what, block) {
         Ok(done) => return Ok(done),
         // Nothing was done: the two calls below say why, or succeed.
         Err((None, claim)) => claim,

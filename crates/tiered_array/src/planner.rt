@@ -21,9 +21,9 @@ use std::alloc::{AllocError, Global};
 pub struct Planner {
     /// The order of last writes since the array was made or restarted. Blocks in mirrored groups are marked. Kept, because a log
     /// that was shortened has lost it.
-    pub ages: MarkedAges,
+    pub(crate) ages: MarkedAges,
     /// The end of the write log.
-    pub end: LogEnd,
+    pub(crate) end: LogEnd,
 }
 
 impl Planner {
@@ -44,6 +44,13 @@ impl Planner {
             ages,
             end: LogEnd::new(),
         })
+    }
+
+    /// The group where the write log goes on; none where nothing was appended yet.
+    pub fn write_group(&self) -> Option<u16>
+        ensures { result ≡ self.now.end.group }
+    {
+        self.end.group()
     }
 
     /// The block in a mirrored group that was written longest ago, if each commit was noted. None where no block is marked.

@@ -53,7 +53,7 @@ fn recovered_store<N: Chronicle, V: Vault + Drop>(
     ensures both { V.known vault → (what : Shown) → length what.bytes ≡ size → IsLeftOf HasBoth what groups drives absent.now (recovered (V.seen vault))
         → IfOk result (λ s. Shows (⟦<JournaledStore<N, V> as ByteStore>⟧.keys s) (durable what) what
         × ⟦<JournaledStore<N, V> as ByteStore>⟧.represents s (durable what)) }
-    ensures honest { V.known vault → (written : Cells) → AreLastIfAttested (V.attested vault) absent.now (V.seen vault) written
+    ensures honest { V.known vault → (written : Cells) → AreLastIfAttested (V.attested vault) drives absent.now (V.seen vault) written
         → (what : Shown) → length what.bytes ≡ size → IsLeftOf HasBoth what groups drives absent.now (recovered (with_cells (V.seen vault) written))
         → IfOk result (λ s. Shows (⟦<JournaledStore<N, V> as ByteStore>⟧.keys s) (durable what) what
         × ⟦<JournaledStore<N, V> as ByteStore>⟧.represents s (durable what)) }
@@ -145,8 +145,8 @@ pub fn open_settled<N: Chronicle, V: Vault + Drop>(
         → IfOk result (λ s. Shows (⟦<JournaledStore<N, V> as ByteStore>⟧.keys s.store) (durable what) what
         × ⟦<JournaledStore<N, V> as ByteStore>⟧.represents s.store (durable what)) }
 
-    // No unit is used that isn't as its digest says: where each other one is the one that was written last, so is what is opened.
-    ensures honest { V.known vault → (written : Cells) → AreLastIfAttested (V.attested vault) absent.now (V.seen vault) written
+    // What is opened shows what was written last, where each unit that is as its digest says is that one: rotten units change nothing of it.
+    ensures honest { V.known vault → (written : Cells) → AreLastIfAttested (V.attested vault) drives absent.now (V.seen vault) written
         → (what : Shown) → length what.bytes ≡ size → IsLeftOf HasBoth what groups drives absent.now (recovered (with_cells (V.seen vault) written))
         → IfOk result (λ s. Shows (⟦<JournaledStore<N, V> as ByteStore>⟧.keys s.store) (durable what) what
         × ⟦<JournaledStore<N, V> as ByteStore>⟧.represents s.store (durable what)) }

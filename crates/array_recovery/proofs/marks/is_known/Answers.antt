@@ -1,10 +1,9 @@
-use Rattle.std.proofs.Common.{subst}
-use Rattle.vault.specs.Moments.{IsUnitAt}
-use Rattle.array_recovery.proofs.Marking.{marks_rotten, marks_whole}
+use Rattle.std.proofs.Common.{◌≡◌, ◌∙◌, false, true, sym}
+use Rattle.vault.specs.declared.store.UnitRead.TheVariants.{Absent, Rotten, Whole}
 use Rattle.array_recovery.proofs.marks.is_known.Goals as goal
 
 pub returns-in-Whole : goal.returns-in-Whole
-returns-in-Whole c = λ cells marks at. marks_whole cells marks (subst (λ r. IsUnitAt cells (record { drive = 16; address = 0 }) marks r) c.in-Whole.is at)
+returns-in-Whole c = (λ known. c.in-Whole.is, λ none. (let never : Whole ≡ Absent = sym c.in-Whole.is ∙ none in cc))
 
 pub returns-in-Rotten : goal.returns-in-Rotten
-returns-in-Rotten c = λ cells marks at. marks_rotten cells marks (subst (λ r. IsUnitAt cells (record { drive = 16; address = 0 }) marks r) c.in-Rotten.is at)
+returns-in-Rotten c = (λ known. absurd (let never : false ≡ true = known in cc), λ none. (let never : Rotten ≡ Absent = sym c.in-Rotten.is ∙ none in cc))

@@ -1,4 +1,4 @@
-use Rattle.std.proofs.Common.{◌≡◌, ◌<◌, ◌≤◌, Some, List, ℕ, length, take, true, sym, subst, ap, arith, rules}
+use Rattle.std.proofs.Common.{◌≡◌, ◌<◌, ◌≤◌, Some, List, [], ℕ, length, take, true, sym, subst, ap, arith, rules}
 use Rattle.std.specs.Prelude.{slice_get}
 use Rattle.std.proofs.lemmas.List.{take_all}
 use Rattle.extent_groups.specs.Cells.{Cells}
@@ -6,7 +6,7 @@ use Rattle.extent_groups.specs.Planned.{Intended, after}
 use Rattle.vault.specs.Images.{Image, flat}
 use Rattle.array_recovery.specs.Found.{AreMarksIf, IsTable}
 use Rattle.rotten_units.proofs.Reading.{read_call}
-use Rattle.array_recovery.proofs.Attesting.{unit_written}
+use Rattle.array_recovery.proofs.Attesting.{as_found, marks_written}
 use Rattle.array_recovery.proofs.Replaying.{after_batch}
 use Rattle.array_recovery.proofs.marks.read_marks.Goals as goal
 
@@ -33,11 +33,13 @@ loop-index-init g c = record {
       read_call g.V.Vault.seen g.V.Vault.may_leave g.V.Vault.moment g.V.Vault.left_since c.args.vault.now c.read_unit.new.self c.batches.new.self
       (record { finds = c.read_unit.ensures.seen known; time = c.read_unit.ensures.time known }) (c.batches.ensures.seen now) (c.batches.ensures.time now);
   attests = λ known x is. c.read_unit.ensures.attests known x (c.batches.ensures.attests (c.read_unit.ensures.stays known) x is);
-  marks = λ known. c.in_ok-known.ensures (Image.cells (g.V.Vault.seen c.args.vault.now)) c.read_unit.new.out (c.in_ok-read.ensures.found known);
+  marks = λ known.
+      let base = g.V.Vault.seen c.args.vault.now in
+      marks_written (g.V.Vault.attested c.args.vault.now) base.cells base.cells c.read_unit.new.out _ _ c.in_ok-known.ensures.0 c.in_ok-known.ensures.1
+      (as_found (g.V.Vault.attested c.args.vault.now) 0 [] base).table (c.in_ok-read.ensures.attested known) (c.in_ok-read.ensures.found known);
   honest = λ known written last.
-      c.in_ok-known.ensures written c.read_unit.new.out
-      (unit_written (g.V.Vault.attested c.args.vault.now) written (Image.cells (g.V.Vault.seen c.args.vault.now)) (record { drive = 16; address = 0 }) c.read_unit.new.out _ last
-      (c.in_ok-read.ensures.attested known) (c.in_ok-read.ensures.found known));
+      marks_written (g.V.Vault.attested c.args.vault.now) written (Image.cells (g.V.Vault.seen c.args.vault.now)) c.read_unit.new.out _ _ c.in_ok-known.ensures.0 c.in_ok-known.ensures.1 last
+      (c.in_ok-read.ensures.attested known) (c.in_ok-read.ensures.found known);
 }
 
 pub returns-in_err-read_batch-clause-attests : goal.returns-in_err-read_batch-clause-attests

@@ -6,6 +6,8 @@ use Rattle.array_store.specs.Stores.{StoreView}
 use Rattle.journaled_store.specs.Left.{HasBoth, HasKeys}
 use Rattle.journaled_store.specs.Outlasting.{OutlastsSince, Point, Works, point}
 use Rattle.vault.specs.declared.store.Stop.TheVariants.{Killed}
+use Rattle.vault.specs.Images.{recovered}
+use Rattle.array_recovery.specs.Found.{IsTable, with_cells}
 use Rattle.array_recovery.proofs.Attesting.{as_found}
 use Rattle.array_recovery.proofs.Outlasting.{opened_during, works}
 use Rattle.array_recovery.proofs.open.open_store.Goals as goal
@@ -94,17 +96,19 @@ returns-in-Ok-clause-map g c = λ known keys left block.
 
 pub returns-in-Ok-clause-honest : goal.returns-in-Ok-clause-honest
 returns-in-Ok-clause-honest g c = λ known written last what long left.
-    let parts = c.new.ensures.parts.0 in
-    let there = subst (λ (s : StoreView). HasBoth s.tiers what) (sym parts) (c.in-Ok.ensures.honest known written last what long left) in (
+    let parts = c.new.ensures.parts in
+    let opened = c.in-Ok.ensures.honest known written last what long left in
+    let there = subst (λ (s : StoreView). HasBoth s.tiers what) (sym parts.0) opened.0 in (
       record { bytes_are = refl; keys_are = there.keys_are },
       record {
         holds = there.holds;
-        long = long ∙ sym (ap (λ (s : StoreView). s.size) parts ∙ c.in-Ok.ensures.size);
+        long = long ∙ sym (ap (λ (s : StoreView). s.size) parts.0 ∙ c.in-Ok.ensures.size);
         noted = sym c.new.ensures.flags.0;
       },
+      subst (λ d. IsTable d.noted (recovered (with_cells (g.V.Vault.seen c.args.vault) written))) (sym parts.1) opened.1,
     )
 
 pub returns-in-Ok-clause-both : goal.returns-in-Ok-clause-both
 returns-in-Ok-clause-both g c = λ known what long left.
     let base = g.V.Vault.seen c.args.vault in
-    returns-in-Ok-clause-honest g c known base.cells (as_found (g.V.Vault.attested c.args.vault) c.args.absent.now base) what long left
+    let is = returns-in-Ok-clause-honest g c known base.cells (as_found (g.V.Vault.attested c.args.vault) c.args.drives c.args.absent.now base) what long left in (is.0, is.1)

@@ -36,15 +36,18 @@ returns-clause-honest g c = λ known written last what long left.
     let reported = c.in_ok-found.ensures in
     let found = reported.honest known written last in
     let here = subst (λ n. IsLeftOf HasBoth what c.args.groups n c.args.absent.now cells) (sym reported.many) left in
-    of_both c.open_found.result _ _ _ c.open_found.ensures.reopened c.open_found.ensures.map (λ r bytes map. record {
+    of_both c.open_found.result _ _ _
+    (of_both c.open_found.result _ _ (λ r. HasBoth r.0.tiers what) c.open_found.ensures.reopened c.open_found.ensures.map (λ r bytes map. record {
       holds = (bytes cells c.args.absent.now what.bytes found long (bytes_left what _ _ c.args.absent.now cells here)).holds;
       keys_are = λ block. sym (map cells c.args.absent.now what.keys found (keys_left what _ _ c.args.absent.now cells here) block);
-    })
+    }))
+    c.open_found.ensures.marks (λ r has is. (has, subst (λ (l : List ℕ). IsTable l cells) (sym is) found.table))
 
 pub returns-clause-both : goal.returns-clause-both
 returns-clause-both g c = λ known what long left.
     let base = g.V.Vault.seen c.args.vault.now in
-    returns-clause-honest g c known base.cells (as_found (g.V.Vault.attested c.args.vault.now) c.args.absent.now base) what long left
+    IfOk-weaker c.open_found.result _ _ (λ r h. h.0)
+    (returns-clause-honest g c known base.cells (as_found (g.V.Vault.attested c.args.vault.now) c.args.drives c.args.absent.now base) what long left)
 
 pub returns-clause-live : goal.returns-clause-live
 returns-clause-live g c = λ known lost.

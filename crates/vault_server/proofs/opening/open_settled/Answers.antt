@@ -28,7 +28,7 @@ returns-in-Ok-clause-honest g c = λ known written last what long left.
 pub returns-in-Ok-clause-both : goal.returns-in-Ok-clause-both
 returns-in-Ok-clause-both g c = λ known what long left.
     let base = g.V.Vault.seen c.args.vault in
-    returns-in-Ok-clause-honest g c known base.cells (as_found (g.V.Vault.attested c.args.vault) c.args.absent.now base) what long left
+    returns-in-Ok-clause-honest g c known base.cells (as_found (g.V.Vault.attested c.args.vault) c.args.drives c.args.absent.now base) what long left
 
 pub returns-in-Ok-clause-same : goal.returns-in-Ok-clause-same
 returns-in-Ok-clause-same g c = λ known what long left.

@@ -14,7 +14,7 @@ use Rattle.vault_server.proofs.opening.recovered_store.Goals as goal
 pub returns-in-Ok-clause-honest : goal.returns-in-Ok-clause-honest
 returns-in-Ok-clause-honest g c = λ known written last what long left.
     let parts = c.new.ensures.parts.0 in
-    let there = subst (λ (s : StoreView). HasBoth s.tiers what) (sym parts) (c.in-Ok.ensures.honest known written last what long left) in (
+    let there = subst (λ (s : StoreView). HasBoth s.tiers what) (sym parts) (c.in-Ok.ensures.honest known written last what long left).0 in (
       record { bytes_are = refl; keys_are = there.keys_are },
       record {
         holds = there.holds;
@@ -26,7 +26,7 @@ returns-in-Ok-clause-honest g c = λ known written last what long left.
 pub returns-in-Ok-clause-both : goal.returns-in-Ok-clause-both
 returns-in-Ok-clause-both g c = λ known what long left.
     let base = g.V.Vault.seen c.args.vault in
-    returns-in-Ok-clause-honest g c known base.cells (as_found (g.V.Vault.attested c.args.vault) c.args.absent.now base) what long left
+    returns-in-Ok-clause-honest g c known base.cells (as_found (g.V.Vault.attested c.args.vault) c.args.drives c.args.absent.now base) what long left
 
 pub returns-in-Ok-clause-begins : goal.returns-in-Ok-clause-begins
 returns-in-Ok-clause-begins g c = λ known what is.
