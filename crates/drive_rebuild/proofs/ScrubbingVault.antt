@@ -60,7 +60,7 @@ module _ (drives units size : ℕ) (lost : List Bool) (c : Cells) (caches : List
   answer : AnswerOrLost parts.drives.items
   answer d m e = elim (bool_cases (is_lost lost d)) [ inl gone ↦ inr (without.gone d m e gone) | inr alive ↦ inl (formed.present d m (is_of d m e alive)) ]
 
-  holds : Cells
+  abbrev holds : Cells
   holds = cells_in held_units held_lost parts
 
   at_there : (d at : ℕ) → d < drives → at < units → is_lost lost d ≡ false → holds d at ≡ c d at

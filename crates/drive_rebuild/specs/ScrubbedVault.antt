@@ -9,7 +9,7 @@ use Rattle.unit_store.specs.Slots.{cells_in}
 use Rattle.vault.specs.Images.{is_lost}
 use Rattle.drive_rebuild.specs.Scrubbed.{ReportsUnsound}
 use Rattle.array_recovery.specs.Found.{AreGone, IsTable}
-use Rattle.drive_rebuild.specs.declared.scrub_vault.Scrubbed.{Scrubbed}
+use Rattle.drive_rebuild.specs.declared.scrubbed.Scrubbed.{Scrubbed}
 
 -- drives in memory, of which the lost ones say that they are, and the others are as before
 pub record AreWithoutLost (lost : List Bool) (old new : List Held) : Type 0 where

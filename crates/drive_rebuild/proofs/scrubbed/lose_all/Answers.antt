@@ -1,11 +1,11 @@
 use Rattle.std.proofs.Common.{◌≡◌, ◌∙◌, ◌<◌, inl, inr, Some, length, slice_get, slice_set, true, refl, sym, ap, subst, arith}
 use Rattle.std.proofs.lemmas.List.{length-set}
-use Rattle.std.proofs.lemmas.Option.{slice_get_read, slice_get_within, same_Some}
+use Rattle.std.proofs.lemmas.Option.{same_Some, slice_get-get_or, slice_get_within}
 use Rattle.extents.specs.Condition.{Held}
 use Rattle.extent_groups.proofs.Places.{same_or_not, get-set_same, get-set_other}
 use Rattle.unit_store.specs.Memory.{held_lost}
 use Rattle.vault.specs.Images.{is_lost}
-use Rattle.drive_rebuild.proofs.scrub_vault.lose_all.Goals as goal
+use Rattle.drive_rebuild.proofs.scrubbed.lose_all.Goals as goal
 
 pub loop-drive-init : goal.loop-drive-init
 loop-drive-init c = record { many = refl; kept = λ d alive. refl; gone = λ d m low. absurd (omega (arith, low)) }
@@ -14,11 +14,10 @@ pub loop-drive-preserved : goal.loop-drive-preserved
 loop-drive-preserved c =
     let n = c.loop-drive.drive in
     let caches = c.loop-drive.caches in
-    let was = c.index-caches-drive.result in
     let now = c.lose_if.new.cache in
     let inv = c.loop-drive.invariant in
     let low : n < length caches = (let many = inv.many in omega (arith, c.loop-drive-test.true, many)) in
-    let at : slice_get caches n ≡ Some was = slice_get_read caches (length caches) n was refl low c.index-caches-drive.is in
+    let at = slice_get-get_or caches n c.index-caches-drive.result low in
     record {
       many = length-set caches n now ∙ inv.many;
       kept = λ d alive. elim (same_or_not d n) [

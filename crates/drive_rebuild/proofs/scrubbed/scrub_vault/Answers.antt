@@ -5,7 +5,7 @@ use Rattle.vault.specs.Images.{recovered}
 use Rattle.array_recovery.specs.Found.{with_cells}
 use Rattle.array_recovery.proofs.Attesting.{as_found}
 use Rattle.drive_rebuild.proofs.ScrubbingVault.{reports_vault}
-use Rattle.drive_rebuild.proofs.scrub_vault.scrub_vault.Goals as goal
+use Rattle.drive_rebuild.proofs.scrubbed.scrub_vault.Goals as goal
 
 pub returns-clause-honest : goal.returns-clause-honest
 returns-clause-honest g c = λ known written last.

@@ -2,7 +2,7 @@ use Rattle.std.proofs.Common.{◌≡◌, ◌<◌, ◌≤◌, ℕ, Bool, true, fa
 use Rattle.extents.specs.Condition.{Held}
 use Rattle.unit_store.specs.Memory.{held_lost}
 use Rattle.vault.specs.Images.{is_lost}
-use Rattle.drive_rebuild.proofs.scrub_vault.lose_all.Given as goal
+use Rattle.drive_rebuild.proofs.scrubbed.lose_all.Given as goal
 
 -- the first drives
 abbrev pub invariant-loop-drive : goal.invariant-loop-drive
