@@ -44,11 +44,9 @@ pub fn open_store<N: Chronicle, V: Vault + Drop>(
     ensures read { V.known vault → IfOk result (λ s. V.known s.vault × OnlyRead V.seen V.may_leave V.moment V.left_since vault s.vault) }
     ensures back { V.known vault → IfErr result (λ e. V.known e.1 × OnlyRead V.seen V.may_leave V.moment V.left_since vault e.1) }
 
-    // A store of which the vault has all is opened with the same bytes.
+    // A store of which the vault has all is opened with the same bytes, and the same block map: of each block the newest record.
     ensures reopened { V.known vault → (bytes : List ℕ) → length bytes ≡ size → IsLeftOf Holds bytes groups drives absent.now (recovered (V.seen vault))
         → IfOk result (λ s. ⟦<JournaledStore<N, V> as ByteStore>⟧.represents s (record { bytes = bytes; unsynced = false })) }
-
-    // And with the same block map: of each block the newest record of before.
     ensures map { V.known vault → (keys : List ℕ) → IsLeftOf HasKeys keys groups drives absent.now (recovered (V.seen vault))
         → IfOk result (λ s. IsSame (key_at s.store.tiers.world.array) (slice_index keys)) }
 
@@ -76,8 +74,6 @@ pub fn open_store<N: Chronicle, V: Vault + Drop>(
     ensures both_last { V.known vault → (what : Shown)
         → IsSoundFor HasBoth V.seen V.may_leave what groups drives (shape.now.extents * extent_units shape.now.segments) absent.now vault
         → IfOk result (λ s. ⟦<JournaledStore<N, V> as ByteStore>⟧.outlasts s (what ∷ []) (what ∷ [])) }
-
-    // And so does one while it was opened.
     ensures during { V.known vault → (what : Shown)
         → IsSoundFor HasBoth V.seen V.may_leave what groups drives (shape.now.extents * extent_units shape.now.segments) absent.now vault
         → IfOk result (λ s. (V.moment vault ≤ V.moment s.vault) × OutlastsSince HasBoth V.left_since (point s) (V.moment vault) (what ∷ []) (what ∷ [])) }
