@@ -92,11 +92,11 @@ module _ (drives units size : ℕ) (lost : List Bool) (c : Cells) (caches : List
         ])
   ]
 
-  pub reports_vault : (marks : List ℕ) (absent : List Bool) → IsTable marks c → AreGone marks absent lost → LosesOnly held_units held_lost held_failures parts tested
+  reports_all : (marks : List ℕ) (absent : List Bool) → IsTable marks c → AreGone marks absent lost → LosesOnly held_units held_lost held_failures parts tested
       → ReportsUnsound parts.groups (cells_in held_units held_lost parts) (cells_in held_units held_lost tested) findings
       → (findings.unsound ≡ 0 → AreSound tested.groups (cells_in held_units held_lost tested))
       → ReportsVault parts.groups drives units absent c (record { findings = findings; lost = lost; parts = tested })
-  reports_vault marks absent table marked only reported sound =
+  reports_all marks absent table marked only reported sound =
       let still = cells_still parts.drives.items tested.drives.items only.drives answer in
       record {
         marks = marks;
@@ -109,3 +109,13 @@ module _ (drives units size : ℕ) (lost : List Bool) (c : Cells) (caches : List
         reported = subst (λ (n : Cells). ReportsUnsound parts.groups n (cells_in held_units held_lost tested) findings) still reported;
         sound = λ none. subst (λ (g : Groups). AreSound g (cells_in held_units held_lost tested)) only.tables.groups (sound none);
       }
+
+-- the same, given what the test left of the parts first
+pub reports_vault : (drives units size : ℕ) (lost : List Bool) (c : Cells) (caches : List Held) → length caches ≡ drives → AreFormed units size caches → HaveUnits lost c caches
+    → (parts tested : Parts Held) (findings : Findings) → LosesOnly held_units held_lost held_failures parts tested → AreWithoutLost lost caches parts.drives.items
+    → (marks : List ℕ) (absent : List Bool) → IsTable marks c → AreGone marks absent lost
+    → ReportsUnsound parts.groups (cells_in held_units held_lost parts) (cells_in held_units held_lost tested) findings
+    → (findings.unsound ≡ 0 → AreSound tested.groups (cells_in held_units held_lost tested))
+    → ReportsVault parts.groups drives units absent c (record { findings = findings; lost = lost; parts = tested })
+reports_vault drives units size lost c caches many formed have parts tested findings only without marks absent table marked reported sound =
+    reports_all drives units size lost c caches parts tested findings many formed have without marks absent table marked only reported sound
