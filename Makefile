@@ -10,7 +10,7 @@ help:
 	@echo "make build   proves and optimises raid_bench, and answers the examples: 20 to 40 minutes"
 	@echo "make test    the gate: all proofs, must-fail edits, tests and cases: 114 minutes on two processors"
 	@echo "make faces   a script's drives kept in files, one left out, and all recovered: a second after make test"
-	@echo "make faults  the long run of injected faults: a minute after make test, else 30 to 60 minutes of proofs first"
+	@echo "make faults  the long run of injected faults: half an hour after make test, else 30 to 60 minutes of proofs first"
 	@echo "make mutants the must-fail edits that the gate leaves out: over an hour after make test, estimated"
 	@echo "make bench   times against plain Rust programs: a quarter of an hour after make test"
 	@echo
