@@ -43,31 +43,11 @@ fn read_fronts<D: Drive>(
     ensures leaves { ReadLeaves D.units D.lost D.failures groups.now (at.now.slot / 128) drives.old drives.new }
 {
     let (first, second) = groups.pair_among(members, at);
-    read_pair(drives, first, second, buffer, scratch)
-}
-
-/// Reads the first bytes of the first copy whose drive isn't lost, `front.len()` of them; false where both are lost.
-#[inline(always)]
-fn read_pair<D: Drive>(
-    drives: &mut [D],
-    first: Place,
-    second: Place,
-    front: &mut [u8],
-    scratch: &mut [u8],
-) -> bool
-    requires first { IsPlace D.units drives.old first }
-    requires second { IsPlace D.units drives.old second }
-    requires size { HaveFronts D.units (length front.old) drives.old }
-    requires scratch { HaveRoom D.units (length front.old) (length scratch.old) drives.old }
-    ensures unit { unit_at (length front.old) (cells (front_units (length front.old) D.units) D.lost drives.new) (Pair first second) ≡ if_ok result front.new }
-    ensures touched { KeepsDrives D.units D.lost D.failures NoPlace drives.old drives.new }
-    ensures elsewhere { SameBut (λ d. (d ≡ first.drive) ⊎ (d ≡ second.drive)) drives.old drives.new }
-{
     // The first before the second, because the slot's effective unit is the first copy even where the two differ.
-    if read_front(drives, first, front, scratch) {
+    if read_front(drives, first, buffer, scratch) {
         return true;
     }
-    read_front(drives, second, front, scratch)
+    read_front(drives, second, buffer, scratch)
 }
 
 /// Reads the effective unit of a slot; refused where both copies' drives are lost.

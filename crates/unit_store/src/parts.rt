@@ -12,8 +12,8 @@ ghost use Rattle.unit_store.specs.Losses.{AllFare, KeepsTables, LosesOnly};
 ghost use Rattle.unit_store.specs.Slots.{IsSlot, cells_in, missing_in, HoldsUnit, ReportsGone};
 
 use crate::note::Note;
-use crate::slots::{read_group_headers, read_slot, read_slot_header, write_slot};
-use extent_groups::{GroupTable, sync_drives};
+use crate::slots::{read_group_headers, read_slot_header, write_slot};
+use extent_groups::{Class, GroupTable, SLOTS, sync_drives};
 use extents::{Drive, ExtentTable, HEADER_BYTES, Shape};
 use flat_machine::Refusal;
 
@@ -100,7 +100,12 @@ impl<D: Drive> Parts<D> {
         ensures fit { IsFit D.units self.new }
     {
         let drives: &mut [D] = &mut self.drives;
-        read_slot(&self.groups, drives, slot, unit, scratch)
+        if let Some(Class::Mirrored) = self.groups.class_of(slot / SLOTS) {
+            return mirrored_store::read(&self.groups, drives, slot, unit)
+                .ok()
+                .ok_or(Refusal::Gone(slot));
+        }
+        parity_store::read(&self.groups, drives, slot, unit, scratch)
             .ok()
             .ok_or(Refusal::Gone(slot))
     }
