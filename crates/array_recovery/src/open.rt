@@ -5,7 +5,7 @@ ghost use Rattle.extents.specs.Sizes.{extent_units};
 ghost use Rattle.extent_groups.specs.Cells.{Cells};
 ghost use Rattle.slot_tables.specs.Views.{key_at};
 ghost use Rattle.vault.specs.Images.{recovered};
-ghost use Rattle.byte_store.specs.Lasting.{Shown, Shows};
+ghost use Rattle.byte_store.specs.Lasting.{Shown, ShowsState};
 ghost use Rattle.array_store.specs.Blocks.{Holds};
 ghost use Rattle.journaled_store.specs.Left.{HasBoth, HasKeys, IsLeftOf};
 ghost use Rattle.journaled_store.specs.Outlasting.{Outlasts, OutlastsSince, point};
@@ -52,13 +52,13 @@ pub fn open_store<N: Chronicle, V: Vault + Drop>(
 
     // One that showed both shows both: they are of one state.
     ensures both { V.known vault → (what : Shown) → length what.bytes ≡ size → IsLeftOf HasBoth what groups drives absent.now (recovered (V.seen vault))
-        → IfOk result (λ s. Shows (⟦<JournaledStore<N, V> as ByteStore>⟧.keys s) (record { bytes = what.bytes; unsynced = false }) what
+        → IfOk result (λ s. ShowsState (⟦<JournaledStore<N, V> as ByteStore>⟧.keys s) (record { bytes = what.bytes; unsynced = false }) what
         × ⟦<JournaledStore<N, V> as ByteStore>⟧.represents s (record { bytes = what.bytes; unsynced = false })) }
 
     // What is opened shows what was written last, where each unit that is as its digest says is that one: rotten units change nothing of it.
     ensures honest { V.known vault → (written : Cells) → AreLastIfAttested (V.attested vault) drives absent.now (V.seen vault) written
         → (what : Shown) → length what.bytes ≡ size → IsLeftOf HasBoth what groups drives absent.now (recovered (with_cells (V.seen vault) written))
-        → IfOk result (λ s. Shows (⟦<JournaledStore<N, V> as ByteStore>⟧.keys s) (record { bytes = what.bytes; unsynced = false }) what
+        → IfOk result (λ s. ShowsState (⟦<JournaledStore<N, V> as ByteStore>⟧.keys s) (record { bytes = what.bytes; unsynced = false }) what
         × ⟦<JournaledStore<N, V> as ByteStore>⟧.represents s (record { bytes = what.bytes; unsynced = false })
         × IsTable s.changes.noted (recovered (with_cells (V.seen vault) written))) }
     ensures works { IfOk result (λ s. (s.store.size ≡ size) × (s.failed ≡ false)) }

@@ -12,17 +12,17 @@ abbrev pub SameKeys : List ℕ → List ℕ → Type 0
 SameKeys some others = (k : ℕ) → slice_index some k ≡ slice_index others k
 
 -- a store with these keys shows this in a state of the flat store
-pub record Shows (keys : List ℕ) (F : StoreState) (what : Shown) : Type 0 where
+pub record ShowsState (keys : List ℕ) (F : StoreState) (what : Shown) : Type 0 where
   pub bytes_are : what.bytes ≡ F.bytes
   pub keys_are : SameKeys what.keys keys
 
 -- a list has all of another
-abbrev pub Within : {X : Type 0} → List X → List X → Type 0
-Within {X} some more = (b : X) → Contains some b → Contains more b
+abbrev pub HasAllOf : {X : Type 0} → List X → List X → Type 0
+HasAllOf {X} some more = (b : X) → Contains some b → Contains more b
 
 -- a list has all of another, and what was shown before and after a call
 pub record Covers {X : Type 0} (more some : List X) (before now : X) : Type 0 where
-  pub each : Within some more
+  pub each : HasAllOf some more
   pub has_before : Contains more before
   pub has_now : Contains more now
 
@@ -38,7 +38,7 @@ pub record Lasts {S X : Type 0} (outlasts : S → List X → List X → Type 0) 
   -- for a run that began earlier
   pub earlier : (t : ℕ) (since_killed since_cut killed cut more_killed more_cut : List X) → t ≤ moment old
       → outlasts_since old t since_killed since_cut → outlasts old killed cut
-      → Within since_killed more_killed → Within since_cut more_cut → Covers more_killed killed before now → Covers more_cut cut before now
+      → HasAllOf since_killed more_killed → HasAllOf since_cut more_cut → Covers more_killed killed before now → Covers more_cut cut before now
       → outlasts_since new t more_killed more_cut
 
 -- after a kill the store shows what it shows now; after a loss of power it may show what it did before, or might have shown before

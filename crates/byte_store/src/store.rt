@@ -2,7 +2,7 @@
 ghost use Rattle.std.specs.Prelude.{◌≡◌, ℕ, ◌+◌, ◌≤◌, List, [], length, replicate, slice_range, OnOk, IfErr, ⊤};
 ghost use Rattle.byte_store.specs.Flat.{StoreState, Sizes};
 ghost use Rattle.byte_store.specs.Changes.{IsChanged, IsFlushed};
-ghost use Rattle.byte_store.specs.Lasting.{Acknowledges, Flushes, Lasts, SameKeys, Shown, Shows};
+ghost use Rattle.byte_store.specs.Lasting.{Acknowledges, Flushes, Lasts, SameKeys, Shown, ShowsState};
 ghost use Rattle.byte_store.specs.declared.fault.StoreFault.{StoreFault};
 
 use crate::StoreFault;
@@ -54,7 +54,7 @@ pub trait ByteStore {
         ensures cause { IfErr result may_refuse }
         ensures sizes { sizes self.new ≡ sizes self.old }
         ensures stays { (F : StoreState) → represents self.old F → stays self.old self.new }
-        ensures lasts { (F : StoreState) (a : Shown) → represents self.old F → Shows (keys self.old) F a
+        ensures lasts { (F : StoreState) (a : Shown) → represents self.old F → ShowsState (keys self.old) F a
             → Lasts outlasts moment outlasts_since a a self.old self.new };
 
     /// Writes bytes from an offset on. A refused write may have stopped in its middle.
@@ -66,9 +66,9 @@ pub trait ByteStore {
         ensures sizes { sizes self.new ≡ sizes self.old }
         ensures stays { (F : StoreState) → represents self.old F → stays self.old self.new }
         ensures lasts { (F G : StoreState) (a b : Shown) → represents self.old F → represents self.new G
-            → Shows (keys self.old) F a → Shows (keys self.new) G b → Lasts outlasts moment outlasts_since a b self.old self.new }
+            → ShowsState (keys self.old) F a → ShowsState (keys self.new) G b → Lasts outlasts moment outlasts_since a b self.old self.new }
         ensures acknowledged { (F G : StoreState) (a b : Shown) → represents self.old F → represents self.new G
-            → Shows (keys self.old) F a → Shows (keys self.new) G b → OnOk result (Acknowledges outlasts a b self.old self.new) };
+            → ShowsState (keys self.old) F a → ShowsState (keys self.new) G b → OnOk result (Acknowledges outlasts a b self.old self.new) };
 
     /// Makes the bytes from an offset on zero. A refusal may have come in its middle.
     fn zero(&mut self, alloc: Global, offset: u64, length: u32) -> Result<(), StoreFault>
@@ -79,9 +79,9 @@ pub trait ByteStore {
         ensures sizes { sizes self.new ≡ sizes self.old }
         ensures stays { (F : StoreState) → represents self.old F → stays self.old self.new }
         ensures lasts { (F G : StoreState) (a b : Shown) → represents self.old F → represents self.new G
-            → Shows (keys self.old) F a → Shows (keys self.new) G b → Lasts outlasts moment outlasts_since a b self.old self.new }
+            → ShowsState (keys self.old) F a → ShowsState (keys self.new) G b → Lasts outlasts moment outlasts_since a b self.old self.new }
         ensures acknowledged { (F G : StoreState) (a b : Shown) → represents self.old F → represents self.new G
-            → Shows (keys self.old) F a → Shows (keys self.new) G b → OnOk result (Acknowledges outlasts a b self.old self.new) };
+            → ShowsState (keys self.old) F a → ShowsState (keys self.new) G b → OnOk result (Acknowledges outlasts a b self.old self.new) };
 
     /// Makes all bytes durable.
     fn flush(&mut self) -> Result<(), StoreFault>
@@ -91,9 +91,9 @@ pub trait ByteStore {
         ensures sizes { sizes self.new ≡ sizes self.old }
         ensures stays { (F : StoreState) → represents self.old F → stays self.old self.new }
         ensures keys { (F : StoreState) → represents self.old F → SameKeys (keys self.new) (keys self.old) }
-        ensures lasts { (F : StoreState) (a : Shown) → represents self.old F → Shows (keys self.old) F a
+        ensures lasts { (F : StoreState) (a : Shown) → represents self.old F → ShowsState (keys self.old) F a
             → Lasts outlasts moment outlasts_since a a self.old self.new }
-        ensures flushed { (F : StoreState) (a : Shown) → represents self.old F → Shows (keys self.old) F a
+        ensures flushed { (F : StoreState) (a : Shown) → represents self.old F → ShowsState (keys self.old) F a
             → OnOk result (Flushes outlasts a self.old self.new) };
 
     /// Called while nobody waits for the store, so that it can do ahead what later requests would wait for. The bytes stay. A
@@ -102,6 +102,6 @@ pub trait ByteStore {
         ensures kept { (F : StoreState) → represents self.old F → represents self.new F }
         ensures sizes { sizes self.new ≡ sizes self.old }
         ensures stays { (F : StoreState) → represents self.old F → stays self.old self.new }
-        ensures lasts { (F : StoreState) (b : Shown) → represents self.old F → Shows (keys self.new) F b
+        ensures lasts { (F : StoreState) (b : Shown) → represents self.old F → ShowsState (keys self.new) F b
             → Lasts outlasts moment outlasts_since b b self.old self.new };
 }

@@ -36,15 +36,15 @@ IsChoiceUpTo bound sights drive (At index) = IsClaimedUpTo bound sights drive in
 IsChoiceUpTo bound sights drive Twice = IsClaimedTwice sights drive
 
 -- no path has it; that of this index has it, and no other
-abbrev pub IsUnclaimed : List Sight → ℕ → Type 0
-IsUnclaimed sights drive = IsUnclaimedUpTo (length sights) sights drive
+abbrev pub IsUnclaimedPath : List Sight → ℕ → Type 0
+IsUnclaimedPath sights drive = IsUnclaimedUpTo (length sights) sights drive
 
 abbrev pub IsClaimedAt : List Sight → ℕ → ℕ → Type 0
 IsClaimedAt sights drive index = IsClaimedUpTo (length sights) sights drive index
 
 -- a choice among all paths
-abbrev pub IsChoice : List Sight → ℕ → Choice → Type 0
-IsChoice sights drive choice = IsChoiceUpTo (length sights) sights drive choice
+abbrev pub IsPathChoice : List Sight → ℕ → Choice → Type 0
+IsPathChoice sights drive choice = IsChoiceUpTo (length sights) sights drive choice
 
 -- the word for a drive that no path has, by what is at its own place
 abbrev pub word_at : Option Sight → ℕ → Verdict
@@ -61,4 +61,4 @@ word_at (Some (sight.Drive number)) drive = verdict.Misplaced
 abbrev pub IsVerdict : List Sight → ℕ → Verdict → Type 0
 IsVerdict sights drive verdict.Present = (index : ℕ) × IsClaimedAt sights drive index
 IsVerdict sights drive verdict.Doubled = IsClaimedTwice sights drive
-IsVerdict sights drive v = IsUnclaimed sights drive × (v ≡ word_at (slice_get sights drive) drive)
+IsVerdict sights drive v = IsUnclaimedPath sights drive × (v ≡ word_at (slice_get sights drive) drive)

@@ -1,6 +1,6 @@
 // Which of several paths has a drive's file.
 ghost use Rattle.std.specs.Prelude.{◌≡◌, ◌≢◌, ◌+◌, ℕ, List, Some, slice_get};
-ghost use Rattle.drive_places.specs.Claims.{IsChoice, IsChoiceUpTo};
+ghost use Rattle.drive_places.specs.Claims.{IsPathChoice, IsChoiceUpTo};
 
 use crate::sight::Sight;
 
@@ -31,7 +31,7 @@ fn with_next(choice: Choice, sight: Sight, drive: u8, index: usize) -> Choice
 
 /// Which of several paths has a drive's file.
 pub fn choose(sights: &[Sight], drive: u8) -> Choice
-    ensures { IsChoice sights.now drive result }
+    ensures { IsPathChoice sights.now drive result }
 {
     let mut choice = Choice::Nowhere;
     for index in 0..sights.len() {

@@ -1,6 +1,6 @@
 // What is said of a drive's file.
 ghost use Rattle.std.specs.Prelude.{◌≡◌, List, Some, slice_get};
-ghost use Rattle.drive_places.specs.Claims.{IsUnclaimed, IsVerdict};
+ghost use Rattle.drive_places.specs.Claims.{IsUnclaimedPath, IsVerdict};
 
 use crate::choice::{Choice, choose};
 use crate::sight::Sight;
@@ -41,7 +41,7 @@ impl Verdict {
 
 // What is said of a drive whose file was seen nowhere, by what is at its own place.
 fn verdict_without(sight: Sight, drive: u8) -> Verdict
-    ensures { (sights : List Sight) → slice_get sights drive ≡ Some sight → IsUnclaimed sights drive → IsVerdict sights drive result }
+    ensures { (sights : List Sight) → slice_get sights drive ≡ Some sight → IsUnclaimedPath sights drive → IsVerdict sights drive result }
 {
     match sight {
         Sight::Absent => Verdict::Absent,

@@ -20,7 +20,7 @@ use Rattle.array_recovery.specs.Found.{is_marked}
 use Rattle.array_recovery.specs.Reopened.{EndsAt}
 use Rattle.array_recovery.proofs.Marking.{index_is}
 use Rattle.array_recovery.proofs.Reopening.{bool_cases}
-use Rattle.rotten_units.specs.Rows.{IsUsed, SameUsed}
+use Rattle.rotten_units.specs.Rows.{IsPlaceUsed, SameUsed}
 use Rattle.rotten_units.specs.Written.{DiffersAt}
 use Rattle.unit_repair.specs.Mended.{AreVerified, IsAtRest, IsMended, MayBeMended}
 use Rattle.unit_repair.proofs.Whole.{shows_same, used_inside, verified_now}

@@ -20,7 +20,7 @@ use Rattle.extent_groups.proofs.LayoutLaw.{slot_of}
 use Rattle.consistency_check.specs.Sound.{IsAnswer, IsSoundSlot, IsUnsoundSlot}
 use Rattle.drive_rebuild.specs.declared.scrub.Findings.{Findings}
 use Rattle.drive_rebuild.specs.declared.scrub.TheConstants.{NAMED}
-use Rattle.drive_rebuild.specs.Scrubbed.{AreUnsound, AreUnsoundBelow, Reports, slot_total, with_tested}
+use Rattle.drive_rebuild.specs.Scrubbed.{AreUnsound, AreUnsoundBelow, ReportsSlots, slot_total, with_tested}
 
 -- a sound site is sound after losses
 site_fades : (n : ℕ) (c new : Cells) (site : Site) → ((x : Place) → FadesAt c new x) → IsSoundAt n c site → IsSoundAt n new site
@@ -169,8 +169,8 @@ pub total_all : (t : Groups) (g sum : ℕ) → AreGroups t → 512 ≤ g → sum
 total_all t g sum are past so = so ∙ ap (sum_by (slots_in t.segments)) (take_all g t.table (omega (arith, past, are.numbers)))
 
 -- a slot that isn't sound is counted
-pub reports_more : (total slot : ℕ) (slots : List ℕ) (b : Bool) (old new : Findings) → b ≡ false → length slots < 4294967295 → Reports total slots old → new.slots ≡ old.slots
-    → new.unsound ≡ min (old.unsound + 1) 4294967295 → new.named.items ≡ take NAMED (slots ++ slot ∷ []) → Reports total (with_tested slots slot b) new
+pub reports_more : (total slot : ℕ) (slots : List ℕ) (b : Bool) (old new : Findings) → b ≡ false → length slots < 4294967295 → ReportsSlots total slots old → new.slots ≡ old.slots
+    → new.unsound ≡ min (old.unsound + 1) 4294967295 → new.named.items ≡ take NAMED (slots ++ slot ∷ []) → ReportsSlots total (with_tested slots slot b) new
 reports_more total slot slots true old new e few reported same count named = absurd (let both : true ≡ false = e in cc)
 reports_more total slot slots false old new e few reported same count named =
     let more : new.unsound ≡ length slots + 1 = omega (arith, count, reported.counted, few) in

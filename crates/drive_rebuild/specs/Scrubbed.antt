@@ -20,7 +20,7 @@ pub record AreUnsound (groups : Groups) (before after : Cells) (slots : List ℕ
   pub others : (slot : ℕ) → Contains slots slot ⊎ IsSoundSlot groups after slot
 
 -- the findings count these slots, name the lowest of them, and say how many were tested
-pub record Reports (total : ℕ) (slots : List ℕ) (findings : Findings) : Type 0 where
+pub record ReportsSlots (total : ℕ) (slots : List ℕ) (findings : Findings) : Type 0 where
   pub tested : findings.slots ≡ total
   pub counted : findings.unsound ≡ length slots
   pub named : findings.named.items ≡ take NAMED slots
@@ -29,7 +29,7 @@ pub record Reports (total : ℕ) (slots : List ℕ) (findings : Findings) : Type
 pub record ReportsUnsound (groups : Groups) (before after : Cells) (findings : Findings) : Type 0 where
   pub slots : List ℕ
   pub are : AreUnsound groups before after slots
-  pub reported : Reports (slot_total groups) slots findings
+  pub reported : ReportsSlots (slot_total groups) slots findings
 
 -- as `AreUnsound`, of the slots below a bound
 pub record AreUnsoundBelow (groups : Groups) (before after : Cells) (bound : ℕ) (slots : List ℕ) : Type 0 where
@@ -43,7 +43,7 @@ pub record AreUnsoundBelow (groups : Groups) (before after : Cells) (bound : ℕ
 pub record ReportsBelow (groups : Groups) (before after : Cells) (total bound : ℕ) (findings : Findings) : Type 0 where
   pub slots : List ℕ
   pub are : AreUnsoundBelow groups before after bound slots
-  pub reported : Reports total slots findings
+  pub reported : ReportsSlots total slots findings
 
 -- the slots with one more, which isn't among them if it is sound
 abbrev pub with_tested : List ℕ → ℕ → Bool → List ℕ

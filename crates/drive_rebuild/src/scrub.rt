@@ -9,7 +9,7 @@ ghost use Rattle.unit_store.specs.Fit.{IsFit};
 ghost use Rattle.unit_store.specs.Losses.{LosesOnly};
 ghost use Rattle.unit_store.specs.Slots.{cells_in};
 ghost use Rattle.drive_rebuild.specs.declared.fault.RebuildFault.TheVariants.{Memory, Misfit};
-ghost use Rattle.drive_rebuild.specs.Scrubbed.{Reports, ReportsBelow, ReportsUnsound, slot_total, with_tested};
+ghost use Rattle.drive_rebuild.specs.Scrubbed.{ReportsSlots, ReportsBelow, ReportsUnsound, slot_total, with_tested};
 
 use crate::fault::RebuildFault;
 use consistency_check::{find_unsound, is_sound};
@@ -46,8 +46,8 @@ fn slots_in(groups: &GroupTable) -> u32
 // Notes a slot that was tested, if it isn't sound.
 fn note(findings: &mut Findings, slot: u16, is_sound: bool) -> Result<(), RebuildFault>
     ensures none { OnOk result (findings.new.unsound ≡ 0 → is_sound ≡ true) }
-    ensures reported { (total : ℕ) (slots : List ℕ) → length slots ≤ slot → Reports total slots findings.old
-        → OnOk result (Reports total (with_tested slots slot is_sound) findings.new) }
+    ensures reported { (total : ℕ) (slots : List ℕ) → length slots ≤ slot → ReportsSlots total slots findings.old
+        → OnOk result (ReportsSlots total (with_tested slots slot is_sound) findings.new) }
     ensures memory { IsOkUnless result Memory }
 {
     if is_sound {
@@ -98,7 +98,7 @@ fn scrub_groups<D: Drive>(
     requires other { length other.old ≡ unit_bytes parts.old.groups }
     ensures fit { IsFit D.units parts.new }
     ensures only { LosesOnly D.units D.lost D.failures parts.old parts.new }
-    ensures reported { Reports (slot_total parts.old.groups) [] findings.old
+    ensures reported { ReportsSlots (slot_total parts.old.groups) [] findings.old
         → OnOk result (ReportsUnsound parts.old.groups (cells_in D.units D.lost parts.old) (cells_in D.units D.lost parts.new) findings.new) }
     ensures memory { IsOkUnless result Memory }
 {
@@ -119,7 +119,7 @@ fn name_unsound<D: Drive>(
     requires unit { length unit.old ≡ unit_bytes parts.old.groups }
     requires other { length other.old ≡ unit_bytes parts.old.groups }
     ensures sound { OnOk result (findings.new.unsound ≡ 0 → AreSound parts.new.groups (cells_in D.units D.lost parts.new)) }
-    ensures reported { Reports (slot_total parts.old.groups) [] findings.old
+    ensures reported { ReportsSlots (slot_total parts.old.groups) [] findings.old
         → OnOk result (ReportsUnsound parts.old.groups (cells_in D.units D.lost parts.old) (cells_in D.units D.lost parts.new) findings.new) }
     ensures memory { IsOkUnless result Memory }
     ensures only { LosesOnly D.units D.lost D.failures parts.old parts.new }

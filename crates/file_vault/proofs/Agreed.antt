@@ -5,7 +5,7 @@ use Rattle.vault.specs.declared.store.Stop.{Stop}
 use Rattle.vault.specs.Moments.{Within}
 use Rattle.extent_groups.proofs.Places.{get-set_same, get-set_other}
 use Rattle.file_vault.specs.Folders.{Bytes, Folder, part, Mixed, mixed_at}
-use Rattle.file_vault.specs.Generations.{code, stamp_offset, HasGeneration, is_some_true, is_flagged, IsCurrent, AgreeIn, AgreeAtStops, AreCurrentAtStops, AreKept}
+use Rattle.file_vault.specs.Generations.{stamp_bytes, stamp_offset, HasGeneration, is_some_true, is_flagged, IsCurrent, AgreeIn, AgreeAtStops, AreCurrentAtStops, HaveGenerations}
 use Rattle.file_vault.proofs.Puts.{below_or}
 use Rattle.file_vault.proofs.Stamps.{mixed_from, mixed_on, mixed_other}
 
@@ -24,7 +24,7 @@ marked_other : (marks : List Bool) (d e : ℕ) → e ≢ d → is_flagged (slice
 marked_other marks d e ne = ap is_some_true (get-set_other marks d e true ne)
 
 -- a drive's generation is raised; a stop may cut that short
-module _ (d n : ℕ) (current raised : List Bool) (f g : Folder) (low : d < 16) (mixed : Mixed d (stamp_offset d) (code 8 (suc n)) f g) (agree : AgreeIn n current raised f) where
+module _ (d n : ℕ) (current raised : List Bool) (f g : Folder) (low : d < 16) (mixed : Mixed d (stamp_offset d) (stamp_bytes 8 (suc n)) f g) (agree : AgreeIn n current raised f) where
   apart : 16 ≢ d
   apart e = omega (arith, e, low)
 
@@ -56,9 +56,9 @@ module _ (d n : ℕ) (current raised : List Bool) (f g : Folder) (low : d < 16) 
   }
 
 module _ {F : Type 0} (may_leave : F → Stop → Folder → Type 0) (old new : F) (d n m : ℕ) (current raised : List Bool) (low : d < 16) (is : m ≡ suc n) (agree : AgreeAtStops may_leave old n current raised)
-    (within : (stop : Stop) → Within (may_leave new stop) (mixed_at d (stamp_offset d) (code 8 m) (may_leave old stop))) where
-  mixed_as : (f g : Folder) → Mixed d (stamp_offset d) (code 8 m) f g → Mixed d (stamp_offset d) (code 8 (suc n)) f g
-  mixed_as f g mixed = subst (λ k. Mixed d (stamp_offset d) (code 8 k) f g) is mixed
+    (within : (stop : Stop) → Within (may_leave new stop) (mixed_at d (stamp_offset d) (stamp_bytes 8 m) (may_leave old stop))) where
+  mixed_as : (f g : Folder) → Mixed d (stamp_offset d) (stamp_bytes 8 m) f g → Mixed d (stamp_offset d) (stamp_bytes 8 (suc n)) f g
+  mixed_as f g mixed = subst (λ k. Mixed d (stamp_offset d) (stamp_bytes 8 k) f g) is mixed
 
   pub stops_torn : AgreeAtStops may_leave new n current raised
   stops_torn stop g now = let from = within stop g now in agree_torn d n current raised from.0 g low (mixed_as from.0 g from.2) (agree stop from.0 from.1)
@@ -69,7 +69,7 @@ module _ {F : Type 0} (may_leave : F → Stop → Folder → Type 0) (old new : 
       agree_raised d n current raised from.0 g low (mixed_as from.0 g from.2) (agree stop from.0 from.1) (subst (λ k. HasGeneration g d k) is (has stop g now))
 
 -- the table's generation is raised, once only drives have the mark that have the next
-module _ (n : ℕ) (raised : List Bool) (f g : Folder) (mixed : Mixed 16 (stamp_offset 16) (code 8 (suc n)) f g) (ups : (d : ℕ) → d < 16 → is_flagged raised d ≡ true → HasGeneration f d (suc n)) where
+module _ (n : ℕ) (raised : List Bool) (f g : Folder) (mixed : Mixed 16 (stamp_offset 16) (stamp_bytes 8 (suc n)) f g) (ups : (d : ℕ) → d < 16 → is_flagged raised d ≡ true → HasGeneration f d (suc n)) where
   still : (d : ℕ) → d < 16 → is_flagged raised d ≡ true → HasGeneration g d (suc n)
   still d small mark = mixed_other 16 n f g mixed d (suc n) (λ e. omega (arith, e, small)) (ups d small mark)
 
@@ -88,9 +88,9 @@ module _ (n : ℕ) (raised : List Bool) (f g : Folder) (mixed : Mixed 16 (stamp_
   }
 
 module _ {F : Type 0} (may_leave : F → Stop → Folder → Type 0) (old new : F) (n m : ℕ) (current raised : List Bool) (is : m ≡ suc n) (agree : AgreeAtStops may_leave old n current raised)
-    (within : (stop : Stop) → Within (may_leave new stop) (mixed_at 16 (stamp_offset 16) (code 8 m) (may_leave old stop))) where
-  table_as : (f g : Folder) → Mixed 16 (stamp_offset 16) (code 8 m) f g → Mixed 16 (stamp_offset 16) (code 8 (suc n)) f g
-  table_as f g mixed = subst (λ k. Mixed 16 (stamp_offset 16) (code 8 k) f g) is mixed
+    (within : (stop : Stop) → Within (may_leave new stop) (mixed_at 16 (stamp_offset 16) (stamp_bytes 8 m) (may_leave old stop))) where
+  table_as : (f g : Folder) → Mixed 16 (stamp_offset 16) (stamp_bytes 8 m) f g → Mixed 16 (stamp_offset 16) (stamp_bytes 8 (suc n)) f g
+  table_as f g mixed = subst (λ k. Mixed 16 (stamp_offset 16) (stamp_bytes 8 k) f g) is mixed
 
   pub stops_table_torn : AgreeAtStops may_leave new n raised raised
   stops_table_torn stop g now =
@@ -114,7 +114,7 @@ stops_current may_leave files n current raised agree stop g now d low mark =
     ⊎_elim (λ has. (n, has.1, inl has.0)) (λ up. ⊎_elim (λ t. (n, t, inr up)) (λ t. (suc n, t, inl up)) is.table) (is.drive d low mark)
 
 -- what is found at first
-pub agree_first : {F : Type 0} (may_leave : F → Stop → Folder → Type 0) (files : F) (n : ℕ) (current none : List Bool) → AreKept may_leave files n current → ((stop : Stop) (g : Folder) → may_leave files stop g → HasGeneration g 16 n)
+pub agree_first : {F : Type 0} (may_leave : F → Stop → Folder → Type 0) (files : F) (n : ℕ) (current none : List Bool) → HaveGenerations may_leave files n current → ((stop : Stop) (g : Folder) → may_leave files stop g → HasGeneration g 16 n)
     → ((d : ℕ) → is_flagged none d ≡ false) → AgreeAtStops may_leave files n current none
 agree_first may_leave files n current none kept table unmarked stop g now = record {
   table = inl (table stop g now);
@@ -123,8 +123,8 @@ agree_first may_leave files n current none kept table unmarked stop g now = reco
 }
 
 -- one drive more is found
-pub kept_more : {F : Type 0} (may_leave : F → Stop → Folder → Type 0) (old new : F) (n d : ℕ) (marks : List Bool) (kept : Bool) → d < length marks → AreKept may_leave old n marks → ((stop : Stop) → Within (may_leave new stop) (may_leave old stop))
-    → (kept ≡ true → (stop : Stop) (g : Folder) → may_leave new stop g → IsCurrent g d n) → AreKept may_leave new n (slice_set marks d kept)
+pub kept_more : {F : Type 0} (may_leave : F → Stop → Folder → Type 0) (old new : F) (n d : ℕ) (marks : List Bool) (kept : Bool) → d < length marks → HaveGenerations may_leave old n marks → ((stop : Stop) → Within (may_leave new stop) (may_leave old stop))
+    → (kept ≡ true → (stop : Stop) (g : Folder) → may_leave new stop g → IsCurrent g d n) → HaveGenerations may_leave new n (slice_set marks d kept)
 kept_more may_leave old new n d marks kept low so_far within is e small = same_or (λ e. is_flagged (slice_set marks d kept) e ≡ true → (stop : Stop) (g : Folder) → may_leave new stop g → IsCurrent g e n) d e
     (λ mark. is (sym (ap is_some_true (get-set_same marks d kept low)) ∙ mark))
     (λ ne mark stop g now. so_far e small (sym (ap is_some_true (get-set_other marks d e kept ne)) ∙ mark) stop g (within stop g now))

@@ -5,7 +5,7 @@ use Rattle.extent_groups.specs.Planned.{Intended}
 use Rattle.vault.specs.Coding.{decoded, IsCode}
 use Rattle.file_vault.specs.Folders.{Bytes, part}
 use Rattle.file_vault.specs.Records.{from_digits, are_digits, nonzero, length_at, nonzero_at, body_at, next_at, is_whole}
-use Rattle.file_vault.specs.Journals.{AreAt, place_at, most}
+use Rattle.file_vault.specs.Journals.{AreAt, place_after, most}
 
 -- the same bytes where they are read
 pub part_same : (f g : Bytes) (at count : ℕ) → ((k : ℕ) → at ≤ k → k < at + count → g k ≡ f k) → part g at count ≡ part f at count
@@ -36,7 +36,7 @@ unfolding most
 few_places f places batches end are inside = let past = end_past f 4096 places batches end are in omega (arith, past, inside)
 
 -- the place of a record is no further than the end
-pub place_within : (f : Bytes) (at count : ℕ) (places : List ℕ) (batches : List (List Intended)) (end : ℕ) → AreAt f at places batches end → count ≤ length places → (at ≤ place_at places end count) × (place_at places end count ≤ end)
+pub place_within : (f : Bytes) (at count : ℕ) (places : List ℕ) (batches : List (List Intended)) (end : ℕ) → AreAt f at places batches end → count ≤ length places → (at ≤ place_after places end count) × (place_after places end count ≤ end)
 place_within f at zero [] [] end are le = (omega (arith, are), omega arith)
 place_within f at zero (s ∷ ss) (b ∷ bs) end are le = let past = end_past f at (s ∷ ss) (b ∷ bs) end are in let is = are.0 in (omega (arith, is), omega (arith, is, past))
 place_within f at zero [] (b ∷ bs) end are le = absurd are

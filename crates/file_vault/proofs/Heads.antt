@@ -11,7 +11,7 @@ use Rattle.std.proofs.lemmas.List.{length-set}
 use Rattle.std.specs.Prelude.{set}
 use mir.Val.{bool_byte}
 use Rattle.std.specs.Prelude.{not}
-use Rattle.file_vault.specs.Records.{digits, from_digits, are_digits, one_of, nonzero}
+use Rattle.file_vault.specs.Records.{digits, from_digits, are_digits, one_unless_zero, nonzero}
 
 pub length_digits : (count n : ℕ) → length (digits count n) ≡ count
 length_digits zero n = refl
@@ -49,9 +49,9 @@ pub nonzero_both : (xs ys : List ℕ) → nonzero (xs ++ ys) ≡ nonzero xs + no
 nonzero_both [] ys = omega arith
 nonzero_both (x ∷ xs) ys = let rest = nonzero_both xs ys in omega (arith, rest)
 
-pub nonzero_more : (bs : List ℕ) (i : ℕ) → i < length bs → nonzero (take (i + 1) bs) ≡ nonzero (take i bs) + one_of (get_or bs i 0)
+pub nonzero_more : (bs : List ℕ) (i : ℕ) → i < length bs → nonzero (take (i + 1) bs) ≡ nonzero (take i bs) + one_unless_zero (get_or bs i 0)
 nonzero_more bs i low =
-    let one : nonzero (get_or bs i 0 ∷ []) ≡ one_of (get_or bs i 0) = omega arith in
+    let one : nonzero (get_or bs i 0 ∷ []) ≡ one_unless_zero (get_or bs i 0) = omega arith in
     ap nonzero (take_more bs i 0 low) ∙ nonzero_both (take i bs) (get_or bs i 0 ∷ []) ∙ ap (λ n. nonzero (take i bs) + n) one
 
 -- a number is written, byte by byte
@@ -100,7 +100,7 @@ pub one_most : (b : Bool) → bool_byte (not b) ≤ 1
 one_most true = omega arith
 one_most false = omega arith
 
-pub counted_next : (bs : List ℕ) (i n m : ℕ) → i < length bs → n ≡ nonzero (take i bs) → m ≡ one_of (get_or bs i 0) → n + m ≡ nonzero (take (i + 1) bs)
+pub counted_next : (bs : List ℕ) (i n m : ℕ) → i < length bs → n ≡ nonzero (take i bs) → m ≡ one_unless_zero (get_or bs i 0) → n + m ≡ nonzero (take (i + 1) bs)
 counted_next bs i n m low so_far one = ap (λ k. k + m) so_far ∙ ap (λ k. nonzero (take i bs) + k) one ∙ sym (nonzero_more bs i low)
 
 -- no more than there are

@@ -14,7 +14,7 @@ use Rattle.vault.specs.Moments.{Within, HasJournal, HasUnitsAtStop, has_batch, w
 use Rattle.file_vault.specs.Folders.{Bytes, Folder, part, HasFile, mixed_at}
 use Rattle.file_vault.specs.Layouts.{Plan, count_of, cells_of, IsAttested}
 use Rattle.file_vault.specs.Records.{body_at, next_at}
-use Rattle.file_vault.specs.Journals.{AreAt, place_at, journal_of, image_of, IsSound, SameUnitFiles, MayPut, ended_at}
+use Rattle.file_vault.specs.Journals.{AreAt, place_after, journal_of, image_of, IsSound, SameUnitFiles, MayPut, ended_at}
 use Rattle.file_vault.specs.Recoveries.{leaves_read}
 use Rattle.file_vault.specs.Vaults.{left_of}
 use Rattle.file_vault.proofs.Chains.{as_many, place_within}
@@ -37,7 +37,7 @@ count_past counts drive past =
 
 -- one batch among others: its record, and the next one's place
 pub batch_at : (f : Bytes) (at : ℕ) (places : List ℕ) (batches : List (List Intended)) (end index : ℕ) → AreAt f at places batches end → index < length places
-    → IsCode (body_at f (place_at places end index)) × (slice_get batches index ≡ Some (decoded (body_at f (place_at places end index)))) × (place_at places end (index + 1) ≡ next_at f (place_at places end index))
+    → IsCode (body_at f (place_after places end index)) × (slice_get batches index ≡ Some (decoded (body_at f (place_after places end index)))) × (place_after places end (index + 1) ≡ next_at f (place_after places end index))
 batch_at f at [] bs end index are low = absurd (omega (arith, low))
 batch_at f at (s ∷ ss) [] end index are low = absurd are
 batch_at f at (s ∷ ss) (b ∷ bs) end zero (is, whole, code, back, more) low = (
@@ -47,7 +47,7 @@ batch_at f at (s ∷ ss) (b ∷ bs) end zero (is, whole, code, back, more) low =
 )
 batch_at f at (s ∷ ss) (b ∷ bs) end (suc index) (is, whole, code, back, more) low =
     let later = batch_at f (next_at f at) ss bs end index more (omega (arith, low)) in
-    let next : suc index + 1 ≡ suc (index + 1) = omega arith in (later.0, later.1, ap (λ n. place_at (s ∷ ss) end n) next ∙ later.2)
+    let next : suc index + 1 ≡ suc (index + 1) = omega arith in (later.0, later.1, ap (λ n. place_after (s ∷ ss) end n) next ∙ later.2)
 
 module _ (plan : Plan) where
   both_none : (f g : Folder) (x : Place) → count_of plan.counts x.drive ≡ 0 → held (cells_of plan g) x ≡ held (cells_of plan f) x
@@ -120,14 +120,14 @@ module _ (plan : Plan) where
     all_seen all stop i left = all_durable all stop i left ∙ sym seen_is
 
     -- the bytes of one of the batches, between its head and the next record
-    pub batch_read : (index p1 p2 at count : ℕ) (d1 d2 bytes : List ℕ) → index < length places → d1 ≡ places → d2 ≡ places → p1 ≡ place_at d1 end index → at ≡ min (p1 + 18) 18446744073709551615 → p2 ≡ place_at d2 end (index + 1)
+    pub batch_read : (index p1 p2 at count : ℕ) (d1 d2 bytes : List ℕ) → index < length places → d1 ≡ places → d2 ≡ places → p1 ≡ place_after d1 end index → at ≡ min (p1 + 18) 18446744073709551615 → p2 ≡ place_after d2 end (index + 1)
         → count ≡ p2 - at → bytes ≡ part (seen old 17) at count → IsCode bytes × (slice_get (journal_of (seen old)) index ≡ Some (decoded bytes))
     batch_read index p1 p2 at count d1 d2 bytes low is1 is2 first from second long read =
-        let place = place_at places end index in
+        let place = place_after places end index in
         let found = batch_at (seen old 17) 4096 places batches end index sound.lie low in
         let within = (place_within (seen old 17) 4096 index places batches end sound.lie (omega (arith, low))).1 in
-        let is_place : p1 ≡ place = first ∙ ap (λ (l : List ℕ). place_at l end index) is1 in
-        let is_next : p2 ≡ next_at (seen old 17) place = second ∙ ap (λ (l : List ℕ). place_at l end (index + 1)) is2 ∙ found.2 in
+        let is_place : p1 ≡ place = first ∙ ap (λ (l : List ℕ). place_after l end index) is1 in
+        let is_next : p2 ≡ next_at (seen old 17) place = second ∙ ap (λ (l : List ℕ). place_after l end (index + 1)) is2 ∙ found.2 in
         let inside = sound.inside in
         let is_from : at ≡ place + 18 = omega (arith, from, is_place, within, inside) in
         let body : bytes ≡ body_at (seen old 17) place = read ∙ body_between (seen old 17) place p2 at count is_next is_from long in

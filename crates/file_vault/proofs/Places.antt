@@ -8,16 +8,16 @@ use Rattle.vault.specs.declared.store.VaultError.TheVariants.{Memory}
 use Rattle.vault.specs.Moments.{HasCause}
 use Rattle.file_vault.specs.Folders.{Folder, Bytes, part, Reads}
 use Rattle.file_vault.specs.Records.{body_at, next_at}
-use Rattle.file_vault.specs.Journals.{place_at, IsSound}
+use Rattle.file_vault.specs.Journals.{place_after, IsSound}
 use Rattle.file_vault.proofs.Puts.{part_is}
 use Rattle.std.proofs.lemmas.List.{take_all}
 
-pub place_in : (places : List ℕ) (end index : ℕ) → index < length places → place_at places end index ≡ get_or places index 0
+pub place_in : (places : List ℕ) (end index : ℕ) → index < length places → place_after places end index ≡ get_or places index 0
 place_in [] end index low = absurd (omega (arith, low))
 place_in (s ∷ ss) end zero low = refl
 place_in (s ∷ ss) end (suc index) low = place_in ss end index (omega (arith, low))
 
-pub place_out : (places : List ℕ) (end index : ℕ) → length places ≤ index → place_at places end index ≡ end
+pub place_out : (places : List ℕ) (end index : ℕ) → length places ≤ index → place_after places end index ≡ end
 place_out [] end index past = refl
 place_out (s ∷ ss) end zero past = absurd (omega (arith, past))
 place_out (s ∷ ss) end (suc index) past = place_out ss end index (omega (arith, past))

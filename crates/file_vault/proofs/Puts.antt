@@ -9,8 +9,8 @@ use Rattle.vault.specs.declared.store.Stop.TheVariants.{Killed, PowerLost}
 use Rattle.vault.specs.Coding.{decoded, IsCode}
 use Rattle.vault.specs.Moments.{Elapses, Within}
 use Rattle.file_vault.specs.Folders.{Bytes, Folder, part, Wrote, Mixed, wrote_at, mixed_at}
-use Rattle.file_vault.specs.Records.{digits, from_digits, are_digits, one_of, nonzero, length_at, nonzero_at, body_at, next_at, is_whole, IsBatchRecord}
-use Rattle.file_vault.specs.Journals.{batches_from, AreAt, place_at, most, journal_of, KeepsFront, IsSound, MayPut}
+use Rattle.file_vault.specs.Records.{digits, from_digits, are_digits, one_unless_zero, nonzero, length_at, nonzero_at, body_at, next_at, is_whole, IsBatchRecord}
+use Rattle.file_vault.specs.Journals.{batches_from, AreAt, place_after, most, journal_of, KeepsFileFront, IsSound, MayPut}
 use Rattle.file_vault.proofs.Heads.{length_digits, back, are, are_both}
 use Rattle.file_vault.proofs.Chains.{end_past, as_many, few_places, place_within, are_same, one_more}
 use Rattle.file_vault.proofs.Torn.{EachOr, one_some, zero_torn, none_read, read_split}
@@ -95,8 +95,8 @@ module _ (bytes : List ℕ) (batch : List Intended) (record_is : IsBatchRecord b
   most_bytes [] = omega arith
   most_bytes (b ∷ bs) = let rest = most_bytes bs in let one = at_most b in omega (arith, rest, one)
     where
-      at_most : (b : ℕ) → one_of b ≤ 1
-      at_most b = elim (one_some b) [ inl e ↦ (let none = ap one_of e in omega (arith, none)) | inr e ↦ omega (arith, e) ]
+      at_most : (b : ℕ) → one_unless_zero b ≤ 1
+      at_most b = elim (one_some b) [ inl e ↦ (let none = ap one_unless_zero e in omega (arith, none)) | inr e ↦ omega (arith, e) ]
 
   module _ (h : Bytes) (at : ℕ) (lies : (j : ℕ) → j < length bytes → h (at + j) ≡ get_or bytes j 0) where
     head_part : part h at 18 ≡ first ++ second
@@ -150,7 +150,7 @@ module _ (bytes : List ℕ) (batch : List Intended) (record_is : IsBatchRecord b
     put_one = (refl, whole_is, code_is, batch_is, next_is)
 
 -- so many places, with one more
-pub place_more : (places : List ℕ) (place end count : ℕ) → count ≤ length places → place_at (places ++ place ∷ []) end count ≡ place_at places place count
+pub place_more : (places : List ℕ) (place end count : ℕ) → count ≤ length places → place_after (places ++ place ∷ []) end count ≡ place_after places place count
 place_more [] place end zero le = refl
 place_more [] place end (suc count) le = absurd (omega (arith, le))
 place_more (s ∷ ss) place end zero le = refl
@@ -164,24 +164,24 @@ module _ {F : Type 0} (seen : F → Folder) (may_leave : F → Stop → Folder �
   pub start_within : 4096 ≤ end
   start_within = let past = end_past f0 4096 places batches end sound.lie in omega (arith, past)
 
-  low_within : (4096 ≤ place_at places end durable) × (place_at places end durable ≤ end)
+  low_within : (4096 ≤ place_after places end durable) × (place_after places end durable ≤ end)
   low_within = place_within f0 4096 durable places batches end sound.lie sound.some
 
-  pub left_kept : (stop : Stop) (g : Folder) → may_leave old stop g → KeepsFront f0 (g 17) (place_at places end durable)
+  pub left_kept : (stop : Stop) (g : Folder) → may_leave old stop g → KeepsFileFront f0 (g 17) (place_after places end durable)
   left_kept Killed g now = record { same = λ k low high. sound.killed g now k low; rest = λ k low. inl (sound.killed g now k (let first = low_within.0 in omega (arith, low, first))) }
   left_kept PowerLost g now = sound.power g now
 
-  kept_each : (g : Bytes) → KeepsFront f0 g (place_at places end durable) → (k : ℕ) → 4096 ≤ k → (g k ≡ f0 k) ⊎ (g k ≡ 0)
-  kept_each g kept k low = elim (below_or k (place_at places end durable)) [
+  kept_each : (g : Bytes) → KeepsFileFront f0 g (place_after places end durable) → (k : ℕ) → 4096 ≤ k → (g k ≡ f0 k) ⊎ (g k ≡ 0)
+  kept_each g kept k low = elim (below_or k (place_after places end durable)) [
     | inl under ↦ inl (kept.same k low under)
     | inr more ↦ kept.rest k (elim more [ inl e ↦ omega (arith, e) | inr (j, e) ↦ omega (arith, e) ])
   ]
 
-  pub kept_zero : (g : Bytes) → KeepsFront f0 g (place_at places end durable) → (k : ℕ) → end ≤ k → g k ≡ 0
+  pub kept_zero : (g : Bytes) → KeepsFileFront f0 g (place_after places end durable) → (k : ℕ) → end ≤ k → g k ≡ 0
   kept_zero g kept k past = elim (kept_each g kept k (omega (arith, past, start_within))) [ inl same ↦ same ∙ sound.zeros k past | inr none ↦ none ]
 
   -- some of the first batches are read, and as many as are durable at least
-  pub kept_read : (g : Folder) → KeepsFront f0 (g 17) (place_at places end durable) → (count : ℕ) × (durable ≤ count) × (count ≤ length batches) × (journal_of g ≡ take count batches)
+  pub kept_read : (g : Folder) → KeepsFileFront f0 (g 17) (place_after places end durable) → (count : ℕ) × (durable ≤ count) × (count ≤ length batches) × (journal_of g ≡ take count batches)
   kept_read g kept =
       elim (read_split most f0 (g 17) 4096 places batches end durable sound.lie sound.some kept.same (λ k low high. kept_each (g 17) kept k low)
       (let few = few_places f0 places batches end sound.lie sound.inside in omega (arith, few))) [

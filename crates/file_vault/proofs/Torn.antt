@@ -6,8 +6,8 @@ use Rattle.std.proofs.lemmas.Bool.Decides.{eqb_tells}
 use Rattle.extent_groups.specs.Planned.{Intended}
 use Rattle.vault.specs.Coding.{decoded}
 use Rattle.file_vault.specs.Folders.{Bytes, part}
-use Rattle.file_vault.specs.Records.{are_digits, one_of, nonzero, length_at, nonzero_at, body_at, next_at, is_whole}
-use Rattle.file_vault.specs.Journals.{batches_from, AreAt, place_at}
+use Rattle.file_vault.specs.Records.{are_digits, one_unless_zero, nonzero, length_at, nonzero_at, body_at, next_at, is_whole}
+use Rattle.file_vault.specs.Journals.{batches_from, AreAt, place_after}
 use Rattle.file_vault.proofs.Heads.{and_both}
 use Rattle.file_vault.proofs.Chains.{part_same, at_before, end_past, place_within, length_same, nonzero_same, next_same, body_same, whole_same}
 
@@ -16,7 +16,7 @@ true_or true = inl refl
 true_or false = inr refl
 
 -- a byte that isn't 0 counts
-pub one_some : (b : ℕ) → (b ≡ 0) ⊎ (one_of b ≡ 1)
+pub one_some : (b : ℕ) → (b ≡ 0) ⊎ (one_unless_zero b ≡ 1)
 one_some b = elim (eqb_tells b 0) [ inl t ↦ inl t.1 | inr t ↦ inr (ap (λ v. if v then 0 else 1) t.0) ]
 
 -- each byte is that of the other file, or 0
@@ -29,8 +29,8 @@ fewer f g at zero each = omega arith
 fewer f g at (suc count) each =
     let rest = fewer f g (suc at) count (λ k low high. each k (omega (arith, low)) (omega (arith, high))) in
     elim (each at (omega arith) (omega arith)) [
-      | inl same ↦ (let one : one_of (g at) ≡ one_of (f at) = ap one_of same in omega (arith, rest, one))
-      | inr none ↦ (let one : one_of (g at) ≡ 0 = ap one_of none in omega (arith, rest, one))
+      | inl same ↦ (let one : one_unless_zero (g at) ≡ one_unless_zero (f at) = ap one_unless_zero same in omega (arith, rest, one))
+      | inr none ↦ (let one : one_unless_zero (g at) ≡ 0 = ap one_unless_zero none in omega (arith, rest, one))
     ]
 
 -- and where there are as many, it is the other's
@@ -41,11 +41,11 @@ as_full f g at (suc count) each equal k low high =
     let few = fewer f g (suc at) count after in
     let here : (g at ≡ f at) × (nonzero (part g (suc at) count) ≡ nonzero (part f (suc at) count)) =
     elim (each at (omega arith) (omega arith)) [
-      | inl same ↦ (same, (let one : one_of (g at) ≡ one_of (f at) = ap one_of same in omega (arith, equal, one)))
+      | inl same ↦ (same, (let one : one_unless_zero (g at) ≡ one_unless_zero (f at) = ap one_unless_zero same in omega (arith, equal, one)))
       | inr none ↦
-          let one : one_of (g at) ≡ 0 = ap one_of none in
+          let one : one_unless_zero (g at) ≡ 0 = ap one_unless_zero none in
           elim (one_some (f at)) [
-            | inl also ↦ (none ∙ sym also, (let two : one_of (f at) ≡ 0 = ap one_of also in omega (arith, equal, one, two)))
+            | inl also ↦ (none ∙ sym also, (let two : one_unless_zero (f at) ≡ 0 = ap one_unless_zero also in omega (arith, equal, one, two)))
             | inr counts ↦ absurd (omega (arith, equal, one, counts, few))
           ]
     ] in
@@ -145,14 +145,14 @@ pub record Goes (m : ℕ) (g : Bytes) (at : ℕ) (places : List ℕ) (batches : 
   pub enough : rest + length places ≡ m
   pub read : (h : Bytes) → ((k : ℕ) → at ≤ k → k < end → h k ≡ g k) → batches_from m h at ≡ batches ++ batches_from rest h end
 
-pub first_place : (f : Bytes) (at : ℕ) (places : List ℕ) (batches : List (List Intended)) (end : ℕ) → AreAt f at places batches end → place_at places end 0 ≡ at
+pub first_place : (f : Bytes) (at : ℕ) (places : List ℕ) (batches : List (List Intended)) (end : ℕ) → AreAt f at places batches end → place_after places end 0 ≡ at
 first_place f at [] [] end are = sym are
 first_place f at [] (b ∷ bs) end are = absurd are
 first_place f at (s ∷ ss) [] end are = absurd are
 first_place f at (s ∷ ss) (b ∷ bs) end are = are.0
 
 pub read_split : (m : ℕ) (f g : Bytes) (at : ℕ) (places : List ℕ) (batches : List (List Intended)) (end durable : ℕ) → AreAt f at places batches end → durable ≤ length places
-    → ((k : ℕ) → at ≤ k → k < place_at places end durable → g k ≡ f k) → EachOr f g at end → length places < m → Stops m g at batches end durable ⊎ Goes m g at places batches end
+    → ((k : ℕ) → at ≤ k → k < place_after places end durable → g k ≡ f k) → EachOr f g at end → length places < m → Stops m g at batches end durable ⊎ Goes m g at places batches end
 read_split zero f g at places batches end durable are some kept each few = absurd (omega (arith, few))
 read_split (suc m) f g at [] [] end durable are some kept each few = inr (record { rest = suc m; enough = omega arith; read = λ h same. ap (λ n. batches_from (suc m) h n) are })
 read_split (suc m) f g at [] (b ∷ bs) end durable are some kept each few = absurd are
@@ -192,12 +192,12 @@ read_split (suc m) f g at (s ∷ ss) (b ∷ bs) end durable (is, whole, code, ba
           ]
     ]
   where
-    none_durable : (durable : ℕ) → durable ≤ length (s ∷ ss) → ((k : ℕ) → at ≤ k → k < place_at (s ∷ ss) end durable → g k ≡ f k) → is_whole g at ≡ false → durable ≤ 0
+    none_durable : (durable : ℕ) → durable ≤ length (s ∷ ss) → ((k : ℕ) → at ≤ k → k < place_after (s ∷ ss) end durable → g k ≡ f k) → is_whole g at ≡ false → durable ≤ 0
     none_durable zero some kept torn = omega arith
     none_durable (suc durable) some kept torn = absurd (true≢false (sym whole ∙ sym (whole_same f g at (λ k low high. kept k low (omega (arith, high, (place_within f (next_at f at) durable ss bs end more (omega (arith, some))).0)))) ∙ torn))
 
-    kept_less : (durable : ℕ) → durable ≤ length (s ∷ ss) → ((k : ℕ) → at ≤ k → k < place_at (s ∷ ss) end durable → g k ≡ f k) → (k : ℕ) → next_at f at ≤ k → k < place_at ss end (durable - 1) → g k ≡ f k
+    kept_less : (durable : ℕ) → durable ≤ length (s ∷ ss) → ((k : ℕ) → at ≤ k → k < place_after (s ∷ ss) end durable → g k ≡ f k) → (k : ℕ) → next_at f at ≤ k → k < place_after ss end (durable - 1) → g k ≡ f k
     kept_less zero some kept k low high =
-        let under : k < place_at ss end 0 = subst (λ n. k < place_at ss end n) (omega arith) high in
+        let under : k < place_after ss end 0 = subst (λ n. k < place_after ss end n) (omega arith) high in
         let first = first_place f (next_at f at) ss bs end more in absurd (omega (arith, low, under, first))
-    kept_less (suc durable) some kept k low high = kept k (omega (arith, low, at_before f at)) (subst (λ n. k < place_at ss end n) (omega arith) high)
+    kept_less (suc durable) some kept k low high = kept k (omega (arith, low, at_before f at)) (subst (λ n. k < place_after ss end n) (omega arith) high)

@@ -10,13 +10,13 @@ use Rattle.extent_groups.specs.Cells.{held}
 use Rattle.extent_groups.specs.Planned.{with_unit, over}
 use Rattle.extent_groups.proofs.Finishing.{place_or_not, write_here, write_else}
 use Rattle.vault.specs.Images.{Alike, with_write}
-use Rattle.vault.specs.Moments.{Torn, IsMisfit, IsThere, IsUnitAt, IsAsAttested}
+use Rattle.vault.specs.Moments.{Torn, IsMisfit, IsUnitThere, IsUnitAt, IsAsAttested}
 use Rattle.vault.specs.declared.store.UnitRead.{UnitRead}
 use Rattle.vault.specs.declared.store.UnitRead.TheVariants.{Whole, Absent, Rotten}
 use Rattle.unit_digest.specs.Digests.{digest}
 use Rattle.unit_digest.proofs.Digested.{length-digest}
 use Rattle.file_vault.specs.Folders.{Bytes, Folder, part, Wrote, Mixed, Reads}
-use Rattle.file_vault.specs.Layouts.{Plan, count_of, size_of, offset_of, unit_in_file, digest_in_file, cells_of, IsAttested, IsOpened}
+use Rattle.file_vault.specs.Layouts.{Plan, count_of, size_of, offset_of, unit_in_file, digest_in_file, cells_of, IsAttested, IsWholeOrRotten}
 use Rattle.file_vault.specs.Journals.{journal_of, image_of, batches_from, most}
 use Rattle.file_vault.proofs.Chains.{part_same}
 use Rattle.file_vault.proofs.Puts.{part_is, below_or}
@@ -188,7 +188,7 @@ module _ (plan : Plan) where
         (λ j under. ap (f place.drive) (omega arith) ∙ sym (reads (size_at place.drive + j) (omega (arith, under, long))) ∙ sym (get_or-drop (size_at place.drive) bytes j 0))
         ∙ take_all 32 (drop (size_at place.drive) bytes) (omega (arith, l))
 
-    pub opened_read : (out : List ℕ) (read : UnitRead) → out ≡ take (size_at place.drive) bytes → IsOpened place.drive place.address (take (size_at place.drive) bytes) (drop (size_at place.drive) bytes) read
+    pub opened_read : (out : List ℕ) (read : UnitRead) → out ≡ take (size_at place.drive) bytes → IsWholeOrRotten place.drive place.address (take (size_at place.drive) bytes) (drop (size_at place.drive) bytes) read
         → IsUnitAt (cells_of plan f) place out read × IsAsAttested (IsAttested plan f place) read
     opened_read out Whole is opened = (some_at f place low ∙ ap (λ u. Some u) (unit_of ∙ sym is), λ there. digest_of ∙ opened ∙ ap (λ u. digest place.drive place.address u) (sym unit_of))
     opened_read out Absent is opened = absurd opened
@@ -197,10 +197,10 @@ module _ (plan : Plan) where
       λ attested. opened (sym digest_of ∙ attested low ∙ ap (λ u. digest place.drive place.address u) unit_of),
     )
 
-    pub opened_sized : (n : ℕ) → n ≡ size_at place.drive → (out : List ℕ) (read : UnitRead) → out ≡ take n bytes → IsOpened place.drive place.address (take n bytes) (drop n bytes) read
+    pub opened_sized : (n : ℕ) → n ≡ size_at place.drive → (out : List ℕ) (read : UnitRead) → out ≡ take n bytes → IsWholeOrRotten place.drive place.address (take n bytes) (drop n bytes) read
         → IsUnitAt (cells_of plan f) place out read × IsAsAttested (IsAttested plan f place) read
     opened_sized n same out read is opened =
-        opened_read out read (is ∙ ap (λ m. take m bytes) same) (subst (λ m. IsOpened place.drive place.address (take m bytes) (drop m bytes) read) same opened)
+        opened_read out read (is ∙ ap (λ m. take m bytes) same) (subst (λ m. IsWholeOrRotten place.drive place.address (take m bytes) (drop m bytes) read) same opened)
 
   -- a unit of another length
   pub attested_held : (f g : Folder) (x : Place) → (x.address < count_of plan.counts x.drive → (unit_in_file plan g x.drive x.address ≡ unit_in_file plan f x.drive x.address) ⊎ (digest_in_file plan g x.drive x.address ≢ digest x.drive x.address (unit_in_file plan g x.drive x.address)))
@@ -231,10 +231,10 @@ module _ (plan : Plan) where
   pub misfit : (f : Folder) (place : Place) (unit : List ℕ) → length unit ≢ size_at place.drive → IsMisfit (cells_of plan f) place unit
   misfit f place unit ne u is same = ne (sym same ∙ unit_length f place u is)
 
-  pub other_length : (f : Folder) (place : Place) (out : List ℕ) → length out ≢ size_at place.drive → IsThere (cells_of plan f) place out false
+  pub other_length : (f : Folder) (place : Place) (out : List ℕ) → length out ≢ size_at place.drive → IsUnitThere (cells_of plan f) place out false
   other_length f place out ne u is same = ne (sym same ∙ unit_length f place u is)
 
-  pub not_there : (f : Folder) (place : Place) (out : List ℕ) → count_of plan.counts place.drive ≤ place.address → IsThere (cells_of plan f) place out false
+  pub not_there : (f : Folder) (place : Place) (out : List ℕ) → count_of plan.counts place.drive ≤ place.address → IsUnitThere (cells_of plan f) place out false
   not_there f place out past u is = absurd (none (sym (none_at f place past) ∙ is))
     where
       none : ◌≡◌ {A = Option (List ℕ)} None (Some u) → ⊥

@@ -5,7 +5,7 @@ use Rattle.std.proofs.lemmas.Bool.{lt-ltb, le-ltb, le-leb, lt-leb, ne_eqb, false
 use Rattle.vault.specs.declared.store.Stop.{Stop}
 use Rattle.vault.specs.Moments.{Elapses, Within}
 use Rattle.file_vault.specs.Folders.{Bytes, Folder, Reads, Wrote, Mixed, WasCut, CutShort, wrote_at, mixed_at, cut_at, HasFile}
-use Rattle.file_vault.specs.Generations.{code, stamp_offset, HasGeneration, is_stamp, unstamped, unstamped_of, IsApart, AgreeIn, AgreeAtStops}
+use Rattle.file_vault.specs.Generations.{stamp_bytes, stamp_offset, HasGeneration, is_stamp, unstamped, unstamped_of, HasNoGeneration, AgreeIn, AgreeAtStops}
 use Rattle.file_vault.proofs.Heads.{never}
 use Rattle.file_vault.proofs.Chains.{part_same}
 use Rattle.file_vault.proofs.Puts.{below_or, inside_or}
@@ -28,13 +28,13 @@ after_stamp d k past =
     ap (λ t. nat_lt d 17 && (nat_le (stamp_offset d) k && t)) (le-ltb k (stamp_offset d + 8) past)
     ∙ ap (λ t. nat_lt d 17 && t) (never (nat_le (stamp_offset d) k)) ∙ never (nat_lt d 17)
 
-pub apart_high : (d at count : ℕ) → 17 ≤ d → IsApart d at count
+pub apart_high : (d at count : ℕ) → 17 ≤ d → HasNoGeneration d at count
 apart_high d at count high k from to = no_stamp d k high
 
-pub apart_table : (d at count : ℕ) → d ≡ 16 → at + count ≤ 65536 → IsApart d at count
+pub apart_table : (d at count : ℕ) → d ≡ 16 → at + count ≤ 65536 → HasNoGeneration d at count
 apart_table d at count is low k from to = before_stamp d k (let there = ap stamp_offset is in omega (arith, low, to, there))
 
-pub apart_drive : (d at count : ℕ) → d ≢ 16 → 4096 ≤ at → IsApart d at count
+pub apart_drive : (d at count : ℕ) → d ≢ 16 → 4096 ≤ at → HasNoGeneration d at count
 apart_drive d at count ne past k from to = after_stamp d k (let there : stamp_offset d ≡ 128 = ap (λ t. if t then 65536 else 128) (ne_eqb d 16 ne) in omega (arith, past, from, there))
 
 -- bytes that are none of a generation
@@ -48,7 +48,7 @@ file_seen : (f g : Folder) (d : ℕ) → g d ≡ f d → unstamped g d ≡ unsta
 file_seen f g d same i k = if is_stamp d k then 0 else same i k
 
 -- calls apart from generations, of files without them
-module _ (file at : ℕ) (bytes : List ℕ) (apart : IsApart file at (length bytes)) (f g : Folder) where
+module _ (file at : ℕ) (bytes : List ℕ) (apart : HasNoGeneration file at (length bytes)) (f g : Folder) where
   free : (j : ℕ) → j < length bytes → is_stamp file (at + j) ≡ false
   free j low = apart (at + j) (omega arith) (omega (arith, low))
 
@@ -66,7 +66,7 @@ module _ (file at : ℕ) (bytes : List ℕ) (apart : IsApart file at (length byt
     others = λ d ne. file_seen f g d (mixed.others d ne);
   }
 
-pub seen_reads : (file at : ℕ) (bytes : List ℕ) (f : Folder) → IsApart file at (length bytes) → Reads (f file) at bytes → Reads (unstamped f file) at bytes
+pub seen_reads : (file at : ℕ) (bytes : List ℕ) (f : Folder) → HasNoGeneration file at (length bytes) → Reads (f file) at bytes → Reads (unstamped f file) at bytes
 seen_reads file at bytes f apart reads j low = reads j low ∙ sym (seen_at f file (at + j) (apart (at + j) (omega arith) (omega (arith, low))))
 
 pub seen_cut : (file at : ℕ) (f g : Folder) → 17 ≤ file → WasCut file at f g → WasCut file at (unstamped f) (unstamped g)
@@ -93,13 +93,13 @@ unstamped_elapses m0 m1 past since during leaves all time to = record {
   ends = λ h now. subst all (sym now.2) (to now.0 (time.ends now.0 now.1));
 }
 
-pub unstamped_mixed_at : (file at : ℕ) (bytes : List ℕ) (outcomes : Folder → Type 0) → IsApart file at (length bytes) → (g : Folder) → mixed_at file at bytes outcomes g → mixed_at file at bytes (λ h. unstamped_of outcomes h) (unstamped g)
+pub unstamped_mixed_at : (file at : ℕ) (bytes : List ℕ) (outcomes : Folder → Type 0) → HasNoGeneration file at (length bytes) → (g : Folder) → mixed_at file at bytes outcomes g → mixed_at file at bytes (λ h. unstamped_of outcomes h) (unstamped g)
 unstamped_mixed_at file at bytes outcomes apart g (f, was, mixed) = (unstamped f, (f, was, refl), seen_mixed file at bytes apart f g mixed)
 
 pub unstamped_cut_at : (file at : ℕ) (outcomes : Folder → Type 0) → 17 ≤ file → (g : Folder) → cut_at file at outcomes g → cut_at file at (λ h. unstamped_of outcomes h) (unstamped g)
 unstamped_cut_at file at outcomes high g (f, was, cut) = (unstamped f, (f, was, refl), seen_short file at f g high cut)
 
-pub unstamped_killed : (file at : ℕ) (bytes : List ℕ) (first last : Folder → Type 0) → IsApart file at (length bytes) → Within last (wrote_at file at bytes first) → Within (λ h. unstamped_of last h) (wrote_at file at bytes (λ h. unstamped_of first h))
+pub unstamped_killed : (file at : ℕ) (bytes : List ℕ) (first last : Folder → Type 0) → HasNoGeneration file at (length bytes) → Within last (wrote_at file at bytes first) → Within (λ h. unstamped_of last h) (wrote_at file at bytes (λ h. unstamped_of first h))
 unstamped_killed file at bytes first last apart within h (g, now, is) =
     let from = within g now in
     (unstamped from.0, (from.0, from.1, refl), subst (λ (e : Folder). Wrote file at bytes (unstamped from.0) e) (sym is) (seen_wrote file at bytes apart from.0 g from.2))
@@ -147,7 +147,7 @@ agree_same n current raised f g same agree = record {
     drive : (d m : ℕ) → d < 16 → HasGeneration f d m → HasGeneration g d m
     drive d m low has = generation_same d m f g (omega (arith, low)) (same d) has
 
-pub stamps_mixed : (file at : ℕ) (bytes : List ℕ) (f g : Folder) → IsApart file at (length bytes) → Mixed file at bytes f g → SameStamps f g
+pub stamps_mixed : (file at : ℕ) (bytes : List ℕ) (f g : Folder) → HasNoGeneration file at (length bytes) → Mixed file at bytes f g → SameStamps f g
 stamps_mixed file at bytes f g apart mixed d k is = elim (below_or d file) [
   | inl under ↦ ap (λ (b : Bytes). b k) (mixed.others d (λ same. omega (arith, same, under)))
   | inr rest ↦ elim rest [
@@ -176,8 +176,8 @@ pub agree_on : {F : Type 0} (may_leave : F → Stop → Folder → Type 0) (old 
 agree_on may_leave old new n current raised agree leaves stop g now = let from = leaves stop g now in agree_same n current raised from.0 g from.2 (agree stop from.0 from.1)
 
 -- a generation is raised
-pub hidden_at : (d n : ℕ) (outcomes : Folder → Type 0) → d < 17 → (f : Folder) → mixed_at d (stamp_offset d) (code 8 n) outcomes f → unstamped_of outcomes (unstamped f)
-hidden_at d n outcomes low f (e, was, mixed) = (e, was, hidden_mixed d (code 8 n) e f low (length_code 8 n) mixed)
+pub hidden_at : (d n : ℕ) (outcomes : Folder → Type 0) → d < 17 → (f : Folder) → mixed_at d (stamp_offset d) (stamp_bytes 8 n) outcomes f → unstamped_of outcomes (unstamped f)
+hidden_at d n outcomes low f (e, was, mixed) = (e, was, hidden_mixed d (stamp_bytes 8 n) e f low (length_code 8 n) mixed)
 
 -- nothing is written, and nothing cut
 pub mixed_still : (file at : ℕ) (bytes : List ℕ) (f : Folder) → Mixed file at bytes f f
@@ -190,7 +190,7 @@ pub agree_read : {F : Type 0} (may_leave : F → Stop → Folder → Type 0) (ol
     → ((stop : Stop) → Within (may_leave new stop) (may_leave old stop)) → AgreeAtStops may_leave new n current raised
 agree_read may_leave old new n current raised agree within stop g now = agree stop g (within stop g now)
 
-pub agree_mixed : {F : Type 0} (may_leave : F → Stop → Folder → Type 0) (old new : F) (n : ℕ) (current raised : List Bool) (file at : ℕ) (bytes : List ℕ) → IsApart file at (length bytes) → AgreeAtStops may_leave old n current raised
+pub agree_mixed : {F : Type 0} (may_leave : F → Stop → Folder → Type 0) (old new : F) (n : ℕ) (current raised : List Bool) (file at : ℕ) (bytes : List ℕ) → HasNoGeneration file at (length bytes) → AgreeAtStops may_leave old n current raised
     → ((stop : Stop) → Within (may_leave new stop) (mixed_at file at bytes (may_leave old stop))) → AgreeAtStops may_leave new n current raised
 agree_mixed may_leave old new n current raised file at bytes apart agree within =
     agree_on may_leave old new n current raised agree (λ stop g now. let from = within stop g now in (from.0, from.1, stamps_mixed file at bytes from.0 g apart from.2))

@@ -10,14 +10,14 @@ use Rattle.file_vault.specs.Folders.{Folder, part}
 abbrev pub code_byte : ℕ → ℕ
 code_byte n = (n % 256 + 256 - (n / 256) % 256) % 256
 
-abbrev pub code : ℕ → ℕ → List ℕ
-code zero n = []
-code (suc count) n = code_byte n ∷ code count (n / 256)
+abbrev pub stamp_bytes : ℕ → ℕ → List ℕ
+stamp_bytes zero n = []
+stamp_bytes (suc count) n = code_byte n ∷ stamp_bytes count (n / 256)
 
 -- the number of such bytes
-abbrev pub decoded : List ℕ → ℕ
-decoded [] = 0
-decoded (b ∷ bs) = (b + decoded bs) % 256 + 256 * decoded bs
+abbrev pub stamp_number : List ℕ → ℕ
+stamp_number [] = 0
+stamp_number (b ∷ bs) = (b + stamp_number bs) % 256 + 256 * stamp_number bs
 
 -- where a file has it: a drive's in its first block, the table's after the table
 abbrev pub stamp_offset : ℕ → ℕ
@@ -25,7 +25,7 @@ stamp_offset d = if d == 16 then 65536 else 128
 
 -- a file of files has this generation
 abbrev pub HasGeneration : Folder → ℕ → ℕ → Type 0
-HasGeneration f d n = part (f d) (stamp_offset d) 8 ≡ code 8 n
+HasGeneration f d n = part (f d) (stamp_offset d) 8 ≡ stamp_bytes 8 n
 
 -- a drive's file has the table's generation, or the next
 abbrev pub IsCurrent : Folder → ℕ → ℕ → Type 0
@@ -43,8 +43,8 @@ abbrev pub unstamped_of : (Folder → Type 0) → Folder → Type 0
 unstamped_of outcomes h = (f : Folder) × outcomes f × (h ≡ unstamped f)
 
 -- a range has no byte of a generation
-abbrev pub IsApart : ℕ → ℕ → ℕ → Type 0
-IsApart d at count = (k : ℕ) → at ≤ k → k < at + count → is_stamp d k ≡ false
+abbrev pub HasNoGeneration : ℕ → ℕ → ℕ → Type 0
+HasNoGeneration d at count = (k : ℕ) → at ≤ k → k < at + count → is_stamp d k ≡ false
 
 abbrev pub is_some_true : Option Bool → Bool
 is_some_true None = false
@@ -71,8 +71,8 @@ AreCurrentAtStops may_leave files current = (stop : Stop) (g : Folder) → may_l
     → (t : ℕ) × HasGeneration g 16 t × (HasGeneration g d t ⊎ HasGeneration g d (suc t))
 
 -- each drive with the mark has this generation or the next, also after each stop
-abbrev pub AreKept : {F : Type 0} → (F → Stop → Folder → Type 0) → F → ℕ → List Bool → Type 0
-AreKept may_leave files n marks = (d : ℕ) → d < 16 → is_flagged marks d ≡ true → (stop : Stop) (g : Folder) → may_leave files stop g → IsCurrent g d n
+abbrev pub HaveGenerations : {F : Type 0} → (F → Stop → Folder → Type 0) → F → ℕ → List Bool → Type 0
+HaveGenerations may_leave files n marks = (d : ℕ) → d < 16 → is_flagged marks d ≡ true → (stop : Stop) (g : Folder) → may_leave files stop g → IsCurrent g d n
 
 -- files are known, and agree
 abbrev pub AreStamped : {F : Type 0} → (F → Type 0) → (F → Stop → Folder → Type 0) → F → ℕ → List Bool → List Bool → Type 0

@@ -36,13 +36,13 @@ AreAt f at (place ∷ places) (batch ∷ batches) end =
 AreAt f at places batches end = ⊥
 
 -- the place after so many records
-abbrev pub place_at : List ℕ → ℕ → ℕ → ℕ
-place_at [] end count = end
-place_at (place ∷ places) end zero = place
-place_at (place ∷ places) end (suc count) = place_at places end count
+abbrev pub place_after : List ℕ → ℕ → ℕ → ℕ
+place_after [] end count = end
+place_after (place ∷ places) end zero = place
+place_after (place ∷ places) end (suc count) = place_after places end count
 
 -- of a file that is left: it is as calls find it up to a place, and then each byte is as they find it, or 0
-pub record KeepsFront (f g : Bytes) (low : ℕ) : Type 0 where
+pub record KeepsFileFront (f g : Bytes) (low : ℕ) : Type 0 where
   pub same : (k : ℕ) → 4096 ≤ k → k < low → g k ≡ f k
   pub rest : (k : ℕ) → low ≤ k → (g k ≡ f k) ⊎ (g k ≡ 0)
 
@@ -54,7 +54,7 @@ pub record IsSound {F : Type 0} (seen : F → Folder) (may_leave : F → Stop �
   pub some : durable ≤ length places
   pub zeros : (k : ℕ) → end ≤ k → seen files 17 k ≡ 0
   pub killed : (g : Folder) → may_leave files Killed g → (k : ℕ) → 4096 ≤ k → g 17 k ≡ seen files 17 k
-  pub power : (g : Folder) → may_leave files PowerLost g → KeepsFront (seen files 17) (g 17) (place_at places end durable)
+  pub power : (g : Folder) → may_leave files PowerLost g → KeepsFileFront (seen files 17) (g 17) (place_after places end durable)
 
 -- the same files but for the journal's
 abbrev pub SameUnitFiles : Folder → Folder → Type 0

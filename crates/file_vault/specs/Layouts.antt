@@ -34,10 +34,10 @@ abbrev pub cells_of : Plan → Folder → Cells
 cells_of plan f drive at = if nat_lt at (count_of plan.counts drive) then Some (unit_in_file plan f drive at) else None
 
 -- a unit that was read with its digest is whole if that is its own, else rotten
-abbrev pub IsOpened : ℕ → ℕ → List ℕ → List ℕ → UnitRead → Type 0
-IsOpened drive at unit seal Whole = seal ≡ digest drive at unit
-IsOpened drive at unit seal Absent = ⊥
-IsOpened drive at unit seal Rotten = seal ≡ digest drive at unit → ⊥
+abbrev pub IsWholeOrRotten : ℕ → ℕ → List ℕ → List ℕ → UnitRead → Type 0
+IsWholeOrRotten drive at unit seal Whole = seal ≡ digest drive at unit
+IsWholeOrRotten drive at unit seal Absent = ⊥
+IsWholeOrRotten drive at unit seal Rotten = seal ≡ digest drive at unit → ⊥
 
 -- the digest at an address of a drive
 abbrev pub digest_in_file : Plan → Folder → ℕ → ℕ → List ℕ

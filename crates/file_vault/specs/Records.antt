@@ -21,13 +21,13 @@ are_digits [] = true
 are_digits (b ∷ bs) = nat_le 128 b && are_digits bs
 
 -- 1 for a byte that isn't 0
-abbrev pub one_of : ℕ → ℕ
-one_of b = if b == 0 then 0 else 1
+abbrev pub one_unless_zero : ℕ → ℕ
+one_unless_zero b = if b == 0 then 0 else 1
 
 -- how many bytes aren't 0
 abbrev pub nonzero : List ℕ → ℕ
 nonzero [] = 0
-nonzero (b ∷ bs) = one_of b + nonzero bs
+nonzero (b ∷ bs) = one_unless_zero b + nonzero bs
 
 -- the numbers of the head at a place: how long the batch's bytes are, and how many of them aren't 0
 abbrev pub length_at : Bytes → ℕ → ℕ

@@ -7,7 +7,7 @@ ghost use Rattle.vault.specs.declared.store.VaultError.TheVariants.{Memory, Jour
 ghost use Rattle.vault.specs.declared.store.Stop.{Stop};
 ghost use Rattle.file_vault.specs.Folders.{HasFile};
 ghost use Rattle.file_vault.specs.Layouts.{IsAttested};
-ghost use Rattle.file_vault.specs.Journals.{image_of, place_at};
+ghost use Rattle.file_vault.specs.Journals.{image_of, place_after};
 ghost use Rattle.file_vault.specs.Vaults.{plan_of, left_of, IsKnown, fault_of_file, AreSynced};
 
 use crate::files::{FileFault, Files};
@@ -55,8 +55,8 @@ pub(crate) fn fault_of(drive: u8) -> VaultError
 
 // The place of a batch's record; of one past the last, the place after them.
 #[tactic(auto, using(crate::proofs::Places::place_in, crate::proofs::Places::place_out))]
-fn place_at(places: &[u64], end: u64, index: usize) -> u64
-    ensures { result ≡ place_at places.now end index }
+fn place_after(places: &[u64], end: u64, index: usize) -> u64
+    ensures { result ≡ place_after places.now end index }
 {
     if index < places.len() {
         places[index]
@@ -278,8 +278,8 @@ impl<F: Files + Drop> Vault for FileVault<F> {
         if index >= self.places.len() {
             return Err(VaultError::Journal);
         }
-        let body = place_at(&self.places, self.end, index).saturating_add(HEAD as u64);
-        let length = place_at(&self.places, self.end, index + 1).saturating_sub(body);
+        let body = place_after(&self.places, self.end, index).saturating_add(HEAD as u64);
+        let length = place_after(&self.places, self.end, index + 1).saturating_sub(body);
         read_body(&mut self.files, body, length, &mut self.bytes)?;
         decode_into(batch, &self.bytes)
     }

@@ -2,7 +2,7 @@
 ghost use Rattle.std.specs.Prelude.{◌≡◌, ◌↔◌, IsTrue, ◌+◌, ◌++◌, length, take, drop, OnOk, IfOk, IfErr};
 ghost use Rattle.unit_digest.specs.Digests.{digest};
 ghost use Rattle.vault.specs.declared.store.VaultError.TheVariants.{Memory};
-ghost use Rattle.file_vault.specs.Layouts.{size_of, offset_of, IsOpened};
+ghost use Rattle.file_vault.specs.Layouts.{size_of, offset_of, IsWholeOrRotten};
 
 use crate::layout::Layout;
 use extent_groups::Place;
@@ -67,7 +67,7 @@ fn is_digest(bytes: &[u8], place: Place, unit: &[u8]) -> bool
 pub(crate) fn unseal(bytes: &[u8], place: Place, out: &mut [u8]) -> UnitRead
     requires { length bytes.now ≡ length out.old + 32 }
     ensures unit { out.new ≡ take (length out.old) bytes.now }
-    ensures read { IsOpened place.drive place.address (take (length out.old) bytes.now) (drop (length out.old) bytes.now) result }
+    ensures read { IsWholeOrRotten place.drive place.address (take (length out.old) bytes.now) (drop (length out.old) bytes.now) result }
 {
     let size = out.len();
     out.copy_from_slice(&bytes[..size]);

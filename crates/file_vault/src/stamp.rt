@@ -3,7 +3,7 @@ ghost use Rattle.std.specs.Prelude.{◌≡◌, ◌⊎◌, ◌<◌, ◌^◌, ℕ,
 ghost use Rattle.vault.specs.Moments.{Elapses};
 ghost use Rattle.vault.specs.declared.store.Stop.{Stop};
 ghost use Rattle.file_vault.specs.Folders.{Folder, HasFault, Wrote, Mixed, mixed_at};
-ghost use Rattle.file_vault.specs.Generations.{code, stamp_offset, HasGeneration, IsCurrent};
+ghost use Rattle.file_vault.specs.Generations.{stamp_bytes, stamp_offset, HasGeneration, IsCurrent};
 
 use crate::files::{FileFault, Files};
 use crate::header::read_part;
@@ -27,7 +27,7 @@ fn stamp_offset(file: u8) -> u64
 
 // Writes a generation's bytes, as many as there are.
 fn put_code(out: &mut [u8], generation: u64)
-    ensures { out.new ≡ code (length out.old) generation }
+    ensures { out.new ≡ stamp_bytes (length out.old) generation }
 {
     let mut rest = generation;
     for byte in out.iter_mut() {
@@ -38,7 +38,7 @@ fn put_code(out: &mut [u8], generation: u64)
 
 // A generation's bytes.
 fn code_of(generation: u64) -> [u8; 8]
-    ensures { result ≡ code 8 generation }
+    ensures { result ≡ stamp_bytes 8 generation }
 {
     let mut out = [0; 8];
     put_code(&mut out, generation);
@@ -57,8 +57,8 @@ fn number_in(bytes: &[u8; 8]) -> u64 {
 
 // Whether these are the bytes of a generation.
 fn is_code(bytes: &[u8; 8], generation: u64) -> bool
-    ensures own { result ≡ true → bytes.now ≡ code 8 generation }
-    ensures all { bytes.now ≡ code 8 generation → result ≡ true }
+    ensures own { result ≡ true → bytes.now ≡ stamp_bytes 8 generation }
+    ensures all { bytes.now ≡ stamp_bytes 8 generation → result ≡ true }
 {
     let own = code_of(generation);
     *bytes == own
@@ -67,8 +67,8 @@ fn is_code(bytes: &[u8; 8], generation: u64) -> bool
 // Reads the bytes of a file's generation.
 fn read_code<F: Files>(files: &mut F, file: u8) -> Result<[u8; 8], FileFault>
     ensures stays { F.known files.old → F.known files.new }
-    ensures bytes { F.known files.old → IfOk result (λ bytes. (n : ℕ) → bytes ≡ code 8 n → HasGeneration (F.seen files.old) file n) }
-    ensures back { F.known files.old → IfOk result (λ bytes. (n : ℕ) → HasGeneration (F.seen files.old) file n → bytes ≡ code 8 n) }
+    ensures bytes { F.known files.old → IfOk result (λ bytes. (n : ℕ) → bytes ≡ stamp_bytes 8 n → HasGeneration (F.seen files.old) file n) }
+    ensures back { F.known files.old → IfOk result (λ bytes. (n : ℕ) → HasGeneration (F.seen files.old) file n → bytes ≡ stamp_bytes 8 n) }
     ensures seen { F.known files.old → F.seen files.new ≡ F.seen files.old }
     ensures time { F.known files.old
         → (stop : Stop) → Elapses (F.moment files.old) (F.moment files.new) (F.left_since files.old stop) (F.left_since files.new stop)
@@ -101,8 +101,8 @@ pub fn read_generation<F: Files>(files: &mut F, file: u8) -> Result<Option<u64>,
 
 // Whether these are the bytes of a generation, or of the next.
 fn is_code_of(bytes: &[u8; 8], generation: u64) -> bool
-    ensures either { result ≡ true → (bytes.now ≡ code 8 generation) ⊎ ((suc generation < 2 ^ 64) × (bytes.now ≡ code 8 (suc generation))) }
-    ensures all { (bytes.now ≡ code 8 generation) ⊎ ((suc generation < 2 ^ 64) × (bytes.now ≡ code 8 (suc generation))) → result ≡ true }
+    ensures either { result ≡ true → (bytes.now ≡ stamp_bytes 8 generation) ⊎ ((suc generation < 2 ^ 64) × (bytes.now ≡ stamp_bytes 8 (suc generation))) }
+    ensures all { (bytes.now ≡ stamp_bytes 8 generation) ⊎ ((suc generation < 2 ^ 64) × (bytes.now ≡ stamp_bytes 8 (suc generation))) → result ≡ true }
 {
     if is_code(bytes, generation) {
         return true;
@@ -135,11 +135,11 @@ pub(crate) fn write_generation<F: Files>(
     generation: u64,
 ) -> Result<(), FileFault>
     ensures stays { F.known files.old → F.known files.new }
-    ensures wrote { F.known files.old → OnOk result (Wrote file (stamp_offset file) (code 8 generation) (F.seen files.old) (F.seen files.new)) }
-    ensures mixed { F.known files.old → Mixed file (stamp_offset file) (code 8 generation) (F.seen files.old) (F.seen files.new) }
+    ensures wrote { F.known files.old → OnOk result (Wrote file (stamp_offset file) (stamp_bytes 8 generation) (F.seen files.old) (F.seen files.new)) }
+    ensures mixed { F.known files.old → Mixed file (stamp_offset file) (stamp_bytes 8 generation) (F.seen files.old) (F.seen files.new) }
     ensures time { F.known files.old
         → (stop : Stop) → Elapses (F.moment files.old) (F.moment files.new) (F.left_since files.old stop) (F.left_since files.new stop)
-        (mixed_at file (stamp_offset file) (code 8 generation) (F.may_leave files.old stop)) (F.may_leave files.new stop) }
+        (mixed_at file (stamp_offset file) (stamp_bytes 8 generation) (F.may_leave files.old stop)) (F.may_leave files.new stop) }
     ensures cause { F.known files.old → HasFault (F.faults files.old) (F.faults files.new) result }
 {
     let code = code_of(generation);

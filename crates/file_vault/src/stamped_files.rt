@@ -3,8 +3,8 @@ ghost use Rattle.std.specs.Prelude.{◌≡◌, ◌⊎◌, ◌≤◌, ◌<◌, �
 ghost use Rattle.vault.specs.Moments.{Elapses, Within};
 ghost use Rattle.vault.specs.declared.store.Stop.{Stop};
 ghost use Rattle.file_vault.specs.Folders.{Folder, HasFault, HasFile, mixed_at};
-ghost use Rattle.file_vault.specs.Generations.{code, stamp_offset, HasGeneration, IsCurrent, IsApart, unstamped, unstamped_of};
-ghost use Rattle.file_vault.specs.Generations.{is_flagged, AgreeAtStops, AreKept, AreStamped};
+ghost use Rattle.file_vault.specs.Generations.{stamp_bytes, stamp_offset, HasGeneration, IsCurrent, HasNoGeneration, unstamped, unstamped_of};
+ghost use Rattle.file_vault.specs.Generations.{is_flagged, AgreeAtStops, HaveGenerations, AreStamped};
 
 use crate::files::{FileFault, Files};
 use crate::layout::HEADER;
@@ -15,7 +15,7 @@ use vault::TABLE;
 
 // Whether bytes of a file are apart from its generation. A drive's first block is no caller's.
 fn is_apart(file: u8, at: u64, count: usize) -> bool
-    ensures { result ≡ true → IsApart file at count }
+    ensures { result ≡ true → HasNoGeneration file at count }
 {
     if file > TABLE {
         return true;
@@ -34,7 +34,7 @@ fn raise<F: Files>(files: &mut F, file: u8, next: u64) -> Result<(), FileFault>
 
     // Each stop leaves a file's generation as it was, or in part this one, and no other byte is another.
     ensures leaves { F.known files.old → (stop : Stop)
-        → Within (F.may_leave files.new stop) (mixed_at file (stamp_offset file) (code 8 next) (F.may_leave files.old stop)) }
+        → Within (F.may_leave files.new stop) (mixed_at file (stamp_offset file) (stamp_bytes 8 next) (F.may_leave files.old stop)) }
     ensures raised { F.known files.old → OnOk result ((stop : Stop) (g : Folder) → F.may_leave files.new stop g → HasGeneration g file next) }
     ensures durable { F.known files.old → OnOk result ((stop : Stop) → HasFile file (F.seen files.new) (F.may_leave files.new stop)) }
     ensures time { F.known files.old → (stop : Stop) → Elapses (F.moment files.old) (F.moment files.new)
@@ -88,7 +88,7 @@ fn is_kept<F: Files>(files: &mut F, drive: u8, generation: u64) -> bool
 fn find_current<F: Files>(files: &mut F, generation: u64) -> [bool; DRIVES]
     ensures stays { F.known files.old → F.known files.new }
     ensures seen { F.known files.old → F.seen files.new ≡ F.seen files.old }
-    ensures kept { F.known files.old → AreKept F.may_leave files.new generation result }
+    ensures kept { F.known files.old → HaveGenerations F.may_leave files.new generation result }
     ensures time { F.known files.old
         → (stop : Stop) → Elapses (F.moment files.old) (F.moment files.new) (F.left_since files.old stop) (F.left_since files.new stop)
         (F.may_leave files.old stop) (F.may_leave files.new stop) }

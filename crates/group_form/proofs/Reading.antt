@@ -12,8 +12,8 @@ use Rattle.vault.specs.Images.{Image, flat}
 use Rattle.vault.specs.Moments.{Elapses}
 use Rattle.vault.specs.declared.store.Stop.{Stop}
 use Rattle.vault.proofs.Writes.{after_both, flat_last, take_next}
-use Rattle.group_form.specs.Form.{HasGroups, Spells, count_unit, group_unit}
-use Rattle.group_form.specs.Reading.{AreKnownOf, AreUnitsOf, WasRead}
+use Rattle.group_form.specs.Form.{HasGroups, SpellsGroups, count_unit, group_unit}
+use Rattle.group_form.specs.Reading.{AreKnownOf, AreUnitsOf, OnlyReadsVault}
 use Rattle.group_form.proofs.Writing.{over_there}
 
 -- a write of a batch, by its place and its unit
@@ -110,11 +110,11 @@ only_ok P Q (Ok x) p q = q x p
 only_ok P Q (Err e) p q = tt
 
 -- what the units of a table spell, the table has
-pub table_has : (groups : Groups) (count : ℕ) (units : List (List ℕ)) (c : Cells) → AreUnitsOf units c → Spells groups count units → HasGroups groups count c
+pub table_has : (groups : Groups) (count : ℕ) (units : List (List ℕ)) (c : Cells) → AreUnitsOf units c → SpellsGroups groups count units → HasGroups groups count c
 table_has groups count units c are spelled = record { each = λ u low. are.each u _ (spelled.each u low); last = are.each 1024 _ spelled.last }
 
 -- and what it has, they spell
-pub units_spell : (groups : Groups) (count : ℕ) (units : List (List ℕ)) (c : Cells) → length units ≡ 1025 → AreUnitsOf units c → HasGroups groups count c → Spells groups count units
+pub units_spell : (groups : Groups) (count : ℕ) (units : List (List ℕ)) (c : Cells) → length units ≡ 1025 → AreUnitsOf units c → HasGroups groups count c → SpellsGroups groups count units
 units_spell groups count units c many are has = record {
   many = many;
   each = λ u low. at u (group_unit groups u) (omega (arith, low)) (has.each u low);
@@ -129,14 +129,14 @@ units_spell groups count units c many are has = record {
 
 module _ {V : Type 0} (seen : V → Image) (may_leave : V → Stop → Image → Type 0) (moment : V → ℕ) (left_since : V → Stop → ℕ → Image → Type 0) where
   -- no call
-  pub read_none : (a : V) → WasRead seen may_leave moment left_since a a
+  pub read_none : (a : V) → OnlyReadsVault seen may_leave moment left_since a a
   read_none a = record {
     finds = refl;
     time = λ stop. record { later = omega arith; nothing_else = λ t i le since. inl since; keeps = λ t i le past. past; ends = λ i left. left };
   }
 
   -- one call more
-  pub read_more : (a b c : V) → WasRead seen may_leave moment left_since a b → WasRead seen may_leave moment left_since b c → WasRead seen may_leave moment left_since a c
+  pub read_more : (a b c : V) → OnlyReadsVault seen may_leave moment left_since a b → OnlyReadsVault seen may_leave moment left_since b c → OnlyReadsVault seen may_leave moment left_since a c
   read_more a b c one two = record {
     finds = two.finds ∙ one.finds;
     time = λ stop.
@@ -153,6 +153,6 @@ module _ {V : Type 0} (seen : V → Image) (may_leave : V → Stop → Image →
   }
 
   -- one call of the vault more
-  pub read_call : (a b c : V) → WasRead seen may_leave moment left_since a b → seen c ≡ seen b
-      → ((stop : Stop) → Elapses (moment b) (moment c) (left_since b stop) (left_since c stop) (may_leave b stop) (may_leave c stop)) → WasRead seen may_leave moment left_since a c
+  pub read_call : (a b c : V) → OnlyReadsVault seen may_leave moment left_since a b → seen c ≡ seen b
+      → ((stop : Stop) → Elapses (moment b) (moment c) (left_since b stop) (left_since c stop) (may_leave b stop) (may_leave c stop)) → OnlyReadsVault seen may_leave moment left_since a c
   read_call a b c one finds time = read_more a b c one (record { finds = finds; time = time })

@@ -7,7 +7,7 @@ use Rattle.extent_groups.specs.declared.class.Class.{Class}
 use Rattle.extent_groups.specs.declared.class.Class.TheVariants.{Mirrored, Parity}
 use Rattle.extent_groups.specs.declared.class.Member.{Member}
 use Rattle.extent_groups.specs.Groups.{AreGroups, Group, Groups, IsFormed, class_in, group_at, members_in, members_of}
-use Rattle.group_form.specs.Form.{Spells, bytes_of, class_number, count_unit, group_unit, half_code, member_code}
+use Rattle.group_form.specs.Form.{SpellsGroups, member_bytes, class_number, count_unit, group_unit, half_code, member_code}
 
 -- lists with the same elements are equal
 pub same_lists : {A : Type 0} (xs ys : List A) → ((k : ℕ) → slice_get xs k ≡ slice_get ys k) → xs ≡ ys
@@ -40,7 +40,7 @@ tail_is : {x y : ℕ} {xs ys : List ℕ} → x ∷ xs ≡ y ∷ ys → xs ≡ ys
 tail_is e = cc
 
 -- a member's class and extent, as the code has it
-bytes_are : (a b : Class) (m n : Member) → bytes_of a m ≡ bytes_of b n → (a ≡ b) × (m ≡ n)
+bytes_are : (a b : Class) (m n : Member) → member_bytes a m ≡ member_bytes b n → (a ≡ b) × (m ≡ n)
 bytes_are a b m n e =
     let one = tail_is e in
     let two = tail_is one in
@@ -183,7 +183,7 @@ module _ (a b : Groups) (are : AreGroups a) (too : AreGroups b) (same : (u : ℕ
 -- units spell one table of groups and one number of drives
 pub one_spelled : (a b : Groups) (n m : ℕ) (units : List (List ℕ)) → AreGroups a → AreGroups b
     → a.extents ≡ b.extents → a.segments ≡ b.segments → a.payload ≡ b.payload → a.blocks ≡ b.blocks
-    → Spells a n units → Spells b m units → (a ≡ b) × (n ≡ m)
+    → SpellsGroups a n units → SpellsGroups b m units → (a ≡ b) × (n ≡ m)
 one_spelled a b n m units are too e s p k one two = (
   same_groups a b are too (λ u low. same_Some _ _ (sym (one.each u low) ∙ two.each u low)) e s p k,
   head_is (same_Some (count_unit n) (count_unit m) (sym one.last ∙ two.last)),

@@ -15,13 +15,13 @@ class_number Mirrored = 1
 class_number Parity = 2
 
 -- the four bytes of a member of a group of this class
-abbrev pub bytes_of : Class → Member → List ℕ
-bytes_of class m = class_number class ∷ m.drive ∷ m.extent % 256 ∷ m.extent / 256 ∷ []
+abbrev pub member_bytes : Class → Member → List ℕ
+member_bytes class m = class_number class ∷ m.drive ∷ m.extent % 256 ∷ m.extent / 256 ∷ []
 
 abbrev pub member_code : Option Class → Option Member → List ℕ
 member_code None member = 0 ∷ 0 ∷ 0 ∷ 0 ∷ []
 member_code (Some class) None = 0 ∷ 0 ∷ 0 ∷ 0 ∷ []
-member_code (Some class) (Some m) = bytes_of class m
+member_code (Some class) (Some m) = member_bytes class m
 
 -- the unit of four members, from the one of this index on
 abbrev pub half_code : Option Class → List Member → ℕ → List ℕ
@@ -37,7 +37,7 @@ abbrev pub count_unit : ℕ → List ℕ
 count_unit count = count ∷ replicate 15 0
 
 -- units spell these groups and this number of drives
-pub record Spells (groups : Groups) (count : ℕ) (units : List (List ℕ)) : Type 0 where
+pub record SpellsGroups (groups : Groups) (count : ℕ) (units : List (List ℕ)) : Type 0 where
   pub many : length units ≡ 1025
   pub each : (u : ℕ) → u < 1024 → slice_get units u ≡ Some (group_unit groups u)
   pub last : slice_get units 1024 ≡ Some (count_unit count)

@@ -6,7 +6,7 @@ use Rattle.vault.specs.Moments.{Elapses}
 use Rattle.vault.specs.declared.store.Stop.{Stop}
 
 -- a vault was only read: later calls find what they found before, and a stop leaves what it left before
-pub record WasRead {V : Type 0} (seen : V → Image) (may_leave : V → Stop → Image → Type 0) (moment : V → ℕ) (left_since : V → Stop → ℕ → Image → Type 0) (old new : V) : Type 0 where
+pub record OnlyReadsVault {V : Type 0} (seen : V → Image) (may_leave : V → Stop → Image → Type 0) (moment : V → ℕ) (left_since : V → Stop → ℕ → Image → Type 0) (old new : V) : Type 0 where
   pub finds : seen new ≡ seen old
   pub time : (stop : Stop) → Elapses (moment old) (moment new) (left_since old stop) (left_since new stop) (may_leave old stop) (may_leave new stop)
 

@@ -4,7 +4,7 @@ ghost use Rattle.extents.specs.Shapes.{IsShapeOf};
 ghost use Rattle.extent_groups.specs.Groups.{Agree, AreGroups, Groups};
 ghost use Rattle.vault.specs.Images.{recovered};
 ghost use Rattle.group_form.specs.Form.{HasGroups};
-ghost use Rattle.group_form.specs.Reading.{WasRead};
+ghost use Rattle.group_form.specs.Reading.{OnlyReadsVault};
 
 use crate::fault::FormFault;
 use crate::read::{Spelled, read_groups};
@@ -21,7 +21,7 @@ pub fn find_groups<V: Vault>(
     shape: &Shape,
 ) -> Result<Spelled, FormFault>
     ensures stays { V.known vault.old → V.known vault.new }
-    ensures read { V.known vault.old → WasRead V.seen V.may_leave V.moment V.left_since vault.old vault.new }
+    ensures read { V.known vault.old → OnlyReadsVault V.seen V.may_leave V.moment V.left_since vault.old vault.new }
     ensures groups { V.known vault.old → IfOk result (λ s. HasGroups s.groups s.drives (recovered (V.seen vault.old))) }
     ensures shape { IfOk result (λ s. IsShapeOf shape.now s.groups.extents s.groups.segments s.groups.payload s.groups.blocks) }
     ensures agree { IfOk result (λ s. Agree s.groups s.extents) }

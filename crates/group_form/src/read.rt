@@ -2,7 +2,7 @@
 ghost use Rattle.std.specs.Prelude.{◌≡◌, ◌<◌, ℕ, Some, length, slice_get, IsTrue, IfOk, OnOk};
 ghost use Rattle.extents.specs.Shapes.{IsShapeOf};
 ghost use Rattle.extent_groups.specs.Groups.{Agree, AreGroups, Groups};
-ghost use Rattle.group_form.specs.Form.{Spells, group_unit};
+ghost use Rattle.group_form.specs.Form.{SpellsGroups, group_unit};
 
 use crate::fault::FormFault;
 use crate::spell::{FORM_BYTES, FORM_UNITS, GROUP_UNITS, put_count, put_group_unit};
@@ -143,7 +143,7 @@ fn spells(
     units: &[[u8; FORM_BYTES]],
 ) -> Result<bool, AllocError>
     requires many { length units.now ≡ 1025 }
-    ensures spelled { IfOk result (λ is. IsTrue is → Spells groups.now drives units.now) }
+    ensures spelled { IfOk result (λ is. IsTrue is → SpellsGroups groups.now drives units.now) }
     ensures groups { AreGroups groups.now }
 {
     let mut unit = Vec::new(alloc);
@@ -164,13 +164,13 @@ pub fn read_groups(
     shape: &Shape,
     units: &[[u8; FORM_BYTES]],
 ) -> Result<Spelled, FormFault>
-    ensures spelled { IfOk result (λ s. Spells s.groups s.drives units.now) }
+    ensures spelled { IfOk result (λ s. SpellsGroups s.groups s.drives units.now) }
     ensures shape { IfOk result (λ s. IsShapeOf shape.now s.groups.extents s.groups.segments s.groups.payload s.groups.blocks) }
     ensures agree { IfOk result (λ s. Agree s.groups s.extents) }
 
     // They spell no others.
     ensures only { (other : Groups) (count : ℕ) → AreGroups other → IsShapeOf shape.now other.extents other.segments other.payload other.blocks
-        → Spells other count units.now → IfOk result (λ s. (s.groups ≡ other) × (s.drives ≡ count)) }
+        → SpellsGroups other count units.now → IfOk result (λ s. (s.groups ≡ other) × (s.drives ≡ count)) }
 {
     if units.len() != FORM_UNITS as usize {
         return Err(FormFault::Misfit);

@@ -1,6 +1,6 @@
 // The units of groups.
 ghost use Rattle.std.specs.Prelude.{◌≡◌, ◌++◌, ◌<◌, slice_get, OnOk};
-ghost use Rattle.group_form.specs.Form.{bytes_of, class_number, count_unit, group_unit, half_code, member_code};
+ghost use Rattle.group_form.specs.Form.{member_bytes, class_number, count_unit, group_unit, half_code, member_code};
 
 use extent_groups::{Class, GroupTable, Member};
 use std::alloc::AllocError;
@@ -25,8 +25,8 @@ fn class_number(class: Class) -> u8
 }
 
 // The bytes of a member.
-fn bytes_of(class: Class, member: Member) -> [u8; 4]
-    ensures { result ≡ bytes_of class member }
+fn member_bytes(class: Class, member: Member) -> [u8; 4]
+    ensures { result ≡ member_bytes class member }
 {
     let low = (member.extent % 256) as u8;
     let high = (member.extent / 256) as u8;
@@ -41,7 +41,7 @@ fn code_at(class: Option<Class>, members: &[Member], index: usize) -> [u8; 4]
         return [0; 4];
     };
     match members.get(index) {
-        Some(member) => bytes_of(class, *member),
+        Some(member) => member_bytes(class, *member),
         None => [0; 4],
     }
 }

@@ -3,7 +3,7 @@ ghost use Rattle.std.specs.Prelude.{◌≡◌, is_some, suc, true, Some, IfOk, I
 ghost use Rattle.extent_groups.specs.Cells.{Cells};
 ghost use Rattle.extent_groups.specs.Planned.{after, with_unit};
 ghost use Rattle.vault.specs.Images.{Image, recovered};
-ghost use Rattle.group_form.specs.Reading.{AreKnownOf, AreUnitsOf, WasRead};
+ghost use Rattle.group_form.specs.Reading.{AreKnownOf, AreUnitsOf, OnlyReadsVault};
 
 use crate::fault::FormFault;
 use crate::spell::{FORM_BYTES, FORM_UNITS};
@@ -14,7 +14,7 @@ use vault::{Batch, TABLE, UnitRead, Vault};
 // The unit of an index, as the vault has it without its journal; none where it is rotten, as a stop leaves it that tore it.
 fn load_unit<V: Vault>(vault: &mut V, index: u16) -> Result<Option<[u8; FORM_BYTES]>, FormFault>
     ensures stays { V.known vault.old → V.known vault.new }
-    ensures read { V.known vault.old → WasRead V.seen V.may_leave V.moment V.left_since vault.old vault.new }
+    ensures read { V.known vault.old → OnlyReadsVault V.seen V.may_leave V.moment V.left_since vault.old vault.new }
     ensures unit { V.known vault.old → IfOk result (λ found. IfSome found (λ unit. Image.cells (V.seen vault.old) 16 (suc index) ≡ Some unit)) }
     ensures there { V.known vault.old → OnOk result (is_some (Image.cells (V.seen vault.old) 16 (suc index)) ≡ true) }
 {
@@ -37,7 +37,7 @@ fn load_units<V: Vault>(
     vault: &mut V,
 ) -> Result<Vec<Option<[u8; FORM_BYTES]>>, FormFault>
     ensures stays { V.known vault.old → V.known vault.new }
-    ensures read { V.known vault.old → WasRead V.seen V.may_leave V.moment V.left_since vault.old vault.new }
+    ensures read { V.known vault.old → OnlyReadsVault V.seen V.may_leave V.moment V.left_since vault.old vault.new }
     ensures units { V.known vault.old → IfOk result (λ units. AreKnownOf units.items (Image.cells (V.seen vault.old))) }
 {
     let mut units = Vec::new(alloc);
@@ -99,7 +99,7 @@ fn lay_journal<V: Vault>(
     units: &mut [Option<[u8; FORM_BYTES]>],
 ) -> Result<(), FormFault>
     ensures stays { V.known vault.old → V.known vault.new }
-    ensures read { V.known vault.old → WasRead V.seen V.may_leave V.moment V.left_since vault.old vault.new }
+    ensures read { V.known vault.old → OnlyReadsVault V.seen V.may_leave V.moment V.left_since vault.old vault.new }
     ensures units { V.known vault.old
         → OnOk result (AreKnownOf units.old (Image.cells (V.seen vault.old)) → AreKnownOf units.new (recovered (V.seen vault.old))) }
 {
@@ -135,7 +135,7 @@ pub(crate) fn table_units<V: Vault>(
     vault: &mut V,
 ) -> Result<Vec<[u8; FORM_BYTES]>, FormFault>
     ensures stays { V.known vault.old → V.known vault.new }
-    ensures read { V.known vault.old → WasRead V.seen V.may_leave V.moment V.left_since vault.old vault.new }
+    ensures read { V.known vault.old → OnlyReadsVault V.seen V.may_leave V.moment V.left_since vault.old vault.new }
     ensures units { V.known vault.old → IfOk result (λ units. AreUnitsOf units.items (recovered (V.seen vault.old))) }
 {
     let mut batch = Batch::new(alloc);

@@ -12,7 +12,7 @@ use Rattle.vault.specs.Images.{Image, recovered}
 use Rattle.vault.specs.declared.store.Stop.{Stop}
 use Rattle.vault.specs.declared.store.Stop.TheVariants.{Killed, PowerLost}
 use Rattle.extent_groups.specs.Cells.{Cells}
-use Rattle.byte_store.specs.Lasting.{Acknowledges, Flushes, Lasts, Shown, Within}
+use Rattle.byte_store.specs.Lasting.{Acknowledges, Flushes, Lasts, Shown, HasAllOf}
 use Rattle.byte_store.proofs.Lasts.{covering}
 use Rattle.tiered_array.specs.Matches.{RepresentsTiers}
 use Rattle.tiered_array.specs.Tiered.{Tiered}
@@ -44,13 +44,13 @@ has_head x xs = Contains-append_left (x ∷ []) xs x (0, omega arith, refl)
 has_rest : (x y : Shown) (ys : List Shown) → Contains ys y → Contains (x ∷ ys) y
 has_rest x y ys has = Contains-append_right (x ∷ []) ys y has
 
-within_one : (x : Shown) (more : List Shown) → Contains more x → Within (x ∷ []) more
+within_one : (x : Shown) (more : List Shown) → Contains more x → HasAllOf (x ∷ []) more
 within_one x more has b is = All-contains (Contains more) (x ∷ []) b (All-cons (Contains more) x [] has (All-nil (Contains more))) is
 
-within_both : (xs ys more : List Shown) → Within xs more → Within ys more → Within (xs ++ ys) more
+within_both : (xs ys more : List Shown) → HasAllOf xs more → HasAllOf ys more → HasAllOf (xs ++ ys) more
 within_both xs ys more one two b is = elim (Contains-append_cases xs ys b is) [ inl first ↦ one b first | inr second ↦ two b second ]
 
-within_left : (xs ys : List Shown) → Within xs (xs ++ ys)
+within_left : (xs ys : List Shown) → HasAllOf xs (xs ++ ys)
 within_left xs ys b is = Contains-append_left xs ys b is
 
 has_end : (xs : List Shown) (x : Shown) → Contains (xs ++ x ∷ []) x
@@ -167,7 +167,7 @@ module _ {V : Type 0} (known : V → Type 0) (seen : V → Image) (may_leave : V
   abbrev Lasting : Shown → Point V → Point V → Type 0
   Lasting now p q = Lasts (Outlasts HasBoth known seen may_leave) (λ (r : Point V). moment r.vault) (OutlastsSince HasBoth left_since) now now p q
 
-  since_wider : (p : Point V) (t : ℕ) (killed cut more_killed more_cut : List Shown) → Since p t killed cut → Within killed more_killed → Within cut more_cut → Since p t more_killed more_cut
+  since_wider : (p : Point V) (t : ℕ) (killed cut more_killed more_cut : List Shown) → Since p t killed cut → HasAllOf killed more_killed → HasAllOf cut more_cut → Since p t more_killed more_cut
   since_wider p t killed cut more_killed more_cut since k c stop i left =
       let o = since stop i left in record { what = o.what; listed = allowed_within stop killed cut more_killed more_cut k c o.what o.listed; left = λ absent d there same. o.left absent d there same }
 
@@ -177,7 +177,7 @@ module _ {V : Type 0} (known : V → Type 0) (seen : V → Image) (may_leave : V
   HeldAt p cut all [] = Unit {0}
   HeldAt p cut all (k ∷ kept) =
       (moment k.at.vault ≤ moment p.vault) × Since p (moment k.at.vault) (k.shown ∷ shown_in kept) all
-      × (k.call ≡ call.Flush → Within cut (k.shown ∷ shown_in kept) × Since p (moment k.at.vault) (k.shown ∷ shown_in kept) (k.shown ∷ shown_in kept)) × HeldAt p cut all kept
+      × (k.call ≡ call.Flush → HasAllOf cut (k.shown ∷ shown_in kept) × Since p (moment k.at.vault) (k.shown ∷ shown_in kept) (k.shown ∷ shown_in kept)) × HeldAt p cut all kept
 
   -- a run so far
   pub record Running (size since : ℕ) (T : Tiered) (before : List Shown) (first : Shown) (calls : List Call) (answers : List CallAnswer) (p : Point V) : Type 0 where
@@ -190,14 +190,14 @@ module _ {V : Type 0} (known : V → Type 0) (seen : V → Image) (may_leave : V
     pub rise : Rises moment since kept (moment p.vault)
     pub any : Since p since (before ++ first ∷ shown_in kept) (before ++ first ∷ shown_in kept)
     pub cut : List Shown
-    pub within : Within cut (before ++ first ∷ shown_in kept)
+    pub within : HasAllOf cut (before ++ first ∷ shown_in kept)
     pub now : Out p (last_shown first kept ∷ []) cut
     pub held : HeldAt p cut (before ++ first ∷ shown_in kept) kept
 
   -- after a call
   module _ (p q : Point V) (now : Shown) (lasts : Lasting now p q) where
     since_on : (t : ℕ) (killed some more_killed more_cut : List Shown) (was : Shown) (cut : List Shown) → t ≤ moment p.vault → Since p t killed some → Out p (was ∷ []) cut
-        → Within killed more_killed → Within some more_cut → Contains more_killed was → Contains more_killed now → Within cut more_cut → Contains more_cut now → Since q t more_killed more_cut
+        → HasAllOf killed more_killed → HasAllOf some more_cut → Contains more_killed was → Contains more_killed now → HasAllOf cut more_cut → Contains more_cut now → Since q t more_killed more_cut
     since_on t killed some more_killed more_cut was cut le since out k c has_was has_now within has_cut =
         lasts.earlier t killed some (was ∷ []) cut more_killed more_cut le since out k c
         (record { each = within_one was more_killed has_was; has_before = has_now; has_now = has_now }) (record { each = within; has_before = has_cut; has_now = has_cut })
@@ -208,7 +208,7 @@ module _ {V : Type 0} (known : V → Type 0) (seen : V → Image) (may_leave : V
   -- what the calls before it promise holds after it, too
   module _ (p q : Point V) (k : Completed V) (lasts : Lasting k.shown p q) where
     held_on : (x : Shown) (kept : List (Completed V)) (was : Shown) (cut all more_cut more_all : List Shown) → was ≡ last_shown x kept → Out p (was ∷ []) cut
-        → Within all more_all → Within cut more_all → Contains more_all k.shown → Within more_cut (cut ++ k.shown ∷ k.shown ∷ [])
+        → HasAllOf all more_all → HasAllOf cut more_all → Contains more_all k.shown → HasAllOf more_cut (cut ++ k.shown ∷ k.shown ∷ [])
         → HeldAt q more_cut more_all (k ∷ []) → HeldAt p cut all kept → HeldAt q more_cut more_all (kept ++ k ∷ [])
     unfolding last_shown
     held_on x [] was cut all more_cut more_all is out wider cut_wider has_now cut_in end held = end
@@ -217,10 +217,10 @@ module _ {V : Type 0} (known : V → Type 0) (seen : V → Image) (may_leave : V
         let list = e.shown ∷ shown_in kept in
         let more : List Shown = e.shown ∷ shown_in (kept ++ k ∷ []) in
         let same : more ≡ list ++ now ∷ [] = ap (λ xs. e.shown ∷ xs) (shown_more kept k) in
-        let grown : Within list more = subst (λ (xs : List Shown). Within list xs) (sym same) (within_left list (now ∷ [])) in
+        let grown : HasAllOf list more = subst (λ (xs : List Shown). HasAllOf list xs) (sym same) (within_left list (now ∷ [])) in
         let there : Contains more now = subst (λ (xs : List Shown). Contains xs now) (sym same) (has_end list now) in
         let has_was : Contains more was = grown was (subst (λ (y : Shown). Contains list y) (sym is) (has_last e.shown kept)) in
-        let twice : Within (now ∷ now ∷ []) more = within_both (now ∷ []) (now ∷ []) more (within_one now more there) (within_one now more there) in
+        let twice : HasAllOf (now ∷ now ∷ []) more = within_both (now ∷ []) (now ∷ []) more (within_one now more there) (within_one now more there) in
         let late = later p q now lasts was cut out in
         let le = held.0 in (
           omega (arith, le, late),
@@ -234,16 +234,16 @@ module _ {V : Type 0} (known : V → Type 0) (seen : V → Image) (may_leave : V
 
   -- what stops leave at the end
   module _ (p q : Point V) (now : Shown) (lasts : Lasting now p q) where
-    pub acknowledged_at : (x : Shown) (kept : List (Completed V)) (was : Shown) (cut all : List Shown) → was ≡ last_shown x kept → Out p (was ∷ []) cut → Within cut all
+    pub acknowledged_at : (x : Shown) (kept : List (Completed V)) (was : Shown) (cut all : List Shown) → was ≡ last_shown x kept → Out p (was ∷ []) cut → HasAllOf cut all
         → HeldAt p cut all kept → AreAcknowledged moment (OpensAmong left_since q) now kept
     unfolding last_shown
     acknowledged_at x [] was cut all is out within held = tt
     acknowledged_at x (e ∷ kept) was cut all is out within held =
         let list = e.shown ∷ shown_in kept in
-        let grown : Within list (list ++ now ∷ []) = within_left list (now ∷ []) in
+        let grown : HasAllOf list (list ++ now ∷ []) = within_left list (now ∷ []) in
         let there = has_end list now in
         let has_was : Contains (list ++ now ∷ []) was = grown was (subst (λ (y : Shown). Contains list y) (sym is) (has_last e.shown kept)) in
-        let all_grown : Within all (all ++ now ∷ []) = within_left all (now ∷ []) in (
+        let all_grown : HasAllOf all (all ++ now ∷ []) = within_left all (now ∷ []) in (
           (λ i left. since_on p q now lasts (moment e.at.vault) list all (list ++ now ∷ []) (all ++ now ∷ []) was cut held.0 held.1 out grown all_grown has_was there (λ y has. all_grown y (within y has)) (has_end all now)
               Killed i left),
           (λ flush stop i left. let f = held.2 flush in
@@ -257,7 +257,7 @@ module _ {V : Type 0} (known : V → Type 0) (seen : V → Image) (may_leave : V
     any_end size since T before first calls answers r =
         let was = last_shown first r.kept in
         let all = before ++ first ∷ shown_in r.kept in
-        let grown : Within all (all ++ now ∷ []) = within_left all (now ∷ []) in
+        let grown : HasAllOf all (all ++ now ∷ []) = within_left all (now ∷ []) in
         let there = has_end all now in
         let has_was : Contains (all ++ now ∷ []) was = grown was (Contains-append_right before (first ∷ shown_in r.kept) was (has_last first r.kept)) in
         since_on p q now lasts since all all (all ++ now ∷ []) (all ++ now ∷ []) was r.cut r.early r.any r.now grown grown has_was there (λ y has. grown y (r.within y has)) there
@@ -309,7 +309,7 @@ module _ {V : Type 0} (known : V → Type 0) (seen : V → Image) (may_leave : V
     module _ (size since : ℕ) (T : Tiered) (before : List Shown) (first : Shown) (calls : List Call) (answers : List CallAnswer) (p q : Point V)
         (r : Running size since T before first calls answers p) (asked : Call) (answer : CallAnswer) (U : Tiered) (what : Shown) (case : CallCase r.state asked answer U)
         (grows : Grows r.state.flat U.flat) (matches : RepresentsTiers q.tiers U) (shown : IsShownIn size U.flat what) (lasts : Lasting what p q) where
-      went_on : (cut : List Shown) → Out q (what ∷ []) cut → Within cut (r.cut ++ what ∷ what ∷ []) → (asked ≡ call.Flush → Within cut (what ∷ []))
+      went_on : (cut : List Shown) → Out q (what ∷ []) cut → HasAllOf cut (r.cut ++ what ∷ what ∷ []) → (asked ≡ call.Flush → HasAllOf cut (what ∷ []))
           → Running size since T before first (calls ++ asked ∷ []) (answers ++ answer ∷ []) q
       went_on cut out cut_in flushed =
           let k : Completed V = record { call = asked; state = U; shown = what; at = q } in
@@ -317,13 +317,13 @@ module _ {V : Type 0} (known : V → Type 0) (seen : V → Image) (may_leave : V
           let all : List Shown = before ++ first ∷ shown_in r.kept in
           let more : List Shown = before ++ first ∷ shown_in (r.kept ++ k ∷ []) in
           let same : more ≡ all ++ what ∷ [] = ap (λ xs. before ++ first ∷ xs) (shown_more r.kept k) ∙ sym (append_assoc before (first ∷ shown_in r.kept) (what ∷ [])) in
-          let grown : Within all more = subst (λ (xs : List Shown). Within all xs) (sym same) (within_left all (what ∷ [])) in
+          let grown : HasAllOf all more = subst (λ (xs : List Shown). HasAllOf all xs) (sym same) (within_left all (what ∷ [])) in
           let there : Contains more what = subst (λ (xs : List Shown). Contains xs what) (sym same) (has_end all what) in
-          let twice : Within (what ∷ what ∷ []) more = within_both (what ∷ []) (what ∷ []) more (within_one what more there) (within_one what more there) in
+          let twice : HasAllOf (what ∷ what ∷ []) more = within_both (what ∷ []) (what ∷ []) more (within_one what more there) (within_one what more there) in
           let has_was : Contains more was = grown was (Contains-append_right before (first ∷ shown_in r.kept) was (has_last first r.kept)) in
-          let cut_wide : Within r.cut more = λ b has. grown b (r.within b has) in
-          let cut_now : Within cut more = λ b has. within_both r.cut (what ∷ what ∷ []) more cut_wide twice b (cut_in b has) in
-          let cut_then : Within cut (all ++ what ∷ []) = subst (λ (xs : List Shown). Within cut xs) same cut_now in
+          let cut_wide : HasAllOf r.cut more = λ b has. grown b (r.within b has) in
+          let cut_now : HasAllOf cut more = λ b has. within_both r.cut (what ∷ what ∷ []) more cut_wide twice b (cut_in b has) in
+          let cut_then : HasAllOf cut (all ++ what ∷ []) = subst (λ (xs : List Shown). HasAllOf cut xs) same cut_now in
           let late = later p q what lasts was r.cut r.now in
           let early = r.early in
           let here = since_now q (what ∷ []) cut out in
@@ -334,7 +334,7 @@ module _ {V : Type 0} (known : V → Type 0) (seen : V → Image) (may_leave : V
                 (record {
                   matches = matches;
                   cut = cut;
-                  within = subst (λ (xs : List Shown). Within cut (xs ++ what ∷ [])) (sym (append_assoc before (first ∷ []) (shown_in r.kept))) cut_then;
+                  within = subst (λ (xs : List Shown). HasAllOf cut (xs ++ what ∷ [])) (sym (append_assoc before (first ∷ []) (shown_in r.kept))) cut_then;
                   durable = flushed;
                   outlasts = out;
                 });

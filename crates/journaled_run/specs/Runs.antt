@@ -3,7 +3,7 @@ use Rattle.std.specs.Prelude.{◌≡◌, ℕ, ◌≤◌, List, [], ◌∷◌, �
 use Rattle.vault.specs.Images.{Image, recovered}
 use Rattle.vault.specs.declared.store.Stop.{Stop}
 use Rattle.vault.specs.declared.store.Stop.TheVariants.{Killed}
-use Rattle.byte_store.specs.Lasting.{Shown, Within}
+use Rattle.byte_store.specs.Lasting.{Shown, HasAllOf}
 use Rattle.tiered_array.specs.Matches.{RepresentsTiers}
 use Rattle.tiered_array.specs.Tiered.{Tiered}
 use Rattle.tiered_array.specs.Views.{TiersView}
@@ -34,8 +34,8 @@ pub record Completed (V : Type 0) : Type 0 where
 pub record IsCompleted {V : Type 0} (known : V → Type 0) (seen : V → Image) (may_leave : V → Stop → Image → Type 0) (before : List Shown) (k : Completed V) : Type 0 where
   pub matches : RepresentsTiers k.at.tiers k.state
   pub cut : List Shown
-  pub within : Within cut (before ++ k.shown ∷ [])
-  pub durable : k.call ≡ call.Flush → Within cut (k.shown ∷ [])
+  pub within : HasAllOf cut (before ++ k.shown ∷ [])
+  pub durable : k.call ≡ call.Flush → HasAllOf cut (k.shown ∷ [])
   pub outlasts : Outlasts HasBoth known seen may_leave k.at (k.shown ∷ []) cut
 
 -- calls one after another, each from the state that the one before it left, with their answers

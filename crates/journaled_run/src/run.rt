@@ -1,6 +1,6 @@
 // A run of calls, each of which is kept by the vault before the next begins.
 ghost use Rattle.std.specs.Prelude.{◌≡◌, ◌<◌, ◌⊎◌, ◌++◌, All, IfErr, List, MatchResult, Some, length, slice_get, take, [], ◌∷◌};
-ghost use Rattle.byte_store.specs.Lasting.{Shown, Within};
+ghost use Rattle.byte_store.specs.Lasting.{Shown, HasAllOf};
 ghost use Rattle.tiered_array.specs.Matches.{RepresentsTiers};
 ghost use Rattle.tiered_array.specs.Tiered.{Tiered};
 ghost use Rattle.array_calls.specs.Calls.{FitsCall, IsMade};
@@ -41,7 +41,7 @@ pub fn run_calls<N: Chronicle, V: Vault + Drop>(
     ensures run { (T : Tiered) (before : List Shown) (first : Shown) → RepresentsTiers store.old.store.tiers T → IsShownIn store.old.store.size T.flat first
         → Outlasts HasBoth V.known V.seen V.may_leave (point store.old) (first ∷ []) before → MatchResult result
         (λ answers. (run : IsKeptRun V.known V.seen V.may_leave V.moment V.left_since store.old.store.size (V.moment store.old.vault) T before first calls.now
-        answers.items (point store.new)) × (run.last ≡ run.state) × (cut : List Shown) × Within cut (before ++ first ∷ shown_in run.kept)
+        answers.items (point store.new)) × (run.last ≡ run.state) × (cut : List Shown) × HasAllOf cut (before ++ first ∷ shown_in run.kept)
         × Outlasts HasBoth V.known V.seen V.may_leave (point store.new) (run.shown ∷ []) cut)
         (λ halted. (run : IsKeptRun V.known V.seen V.may_leave V.moment V.left_since store.old.store.size (V.moment store.old.vault) T before first
         (take halted.at calls.now) halted.answers.items (point store.new)) × ((run.last ≡ run.state)

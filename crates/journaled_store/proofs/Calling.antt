@@ -4,13 +4,13 @@ use Rattle.std.specs.Prelude.{Contains, Result, OnOk}
 use Rattle.std.proofs.lemmas.List.Elements.{All-cons, All-contains, All-nil}
 use Rattle.tiered_array.specs.Views.{TiersView}
 use Rattle.array_store.proofs.Holding.{follows_same}
-use Rattle.byte_store.specs.Lasting.{Acknowledges, Flushes, Within}
+use Rattle.byte_store.specs.Lasting.{Acknowledges, Flushes, HasAllOf}
 use Rattle.vault.specs.Images.{Image}
 use Rattle.vault.specs.declared.store.Stop.{Stop}
 use Rattle.journaled_store.specs.Outlasting.{Outlasts, Point}
 use Rattle.journaled_store.proofs.Lasting.{moved, on_ok_map}
 
-within_one : {X : Type 0} (x : X) (more : List X) → Contains more x → Within (x ∷ []) more
+within_one : {X : Type 0} (x : X) (more : List X) → Contains more x → HasAllOf (x ∷ []) more
 within_one x more has b is = All-contains (Contains more) (x ∷ []) b (All-cons (Contains more) x [] has (All-nil (Contains more))) is
 
 module _ {V X : Type 0} (shows : TiersView → X → Type 0) (known : V → Type 0) (seen : V → Image) (may_leave : V → Stop → Image → Type 0) (moment : V → ℕ) (left_since : V → Stop → ℕ → Image → Type 0)

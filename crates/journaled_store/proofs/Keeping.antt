@@ -8,7 +8,7 @@ use Rattle.cached_drive.specs.Saving.{Units}
 use Rattle.tiered_array.specs.Views.{TiersView}
 use Rattle.slot_tables.specs.Views.{key_at}
 use Rattle.byte_store.specs.Flat.{StoreState}
-use Rattle.byte_store.specs.Lasting.{Covers, Lasts, Shows, Shown, Within}
+use Rattle.byte_store.specs.Lasting.{Covers, Lasts, ShowsState, Shown, HasAllOf}
 use Rattle.byte_store.proofs.Lasts.{lasts_after}
 use Rattle.array_store.specs.Stores.{Follows, IsStoreOf, StoreView}
 use Rattle.array_store.proofs.Holding.{follows_more, follows_same}
@@ -32,11 +32,11 @@ module _ {V X : Type 0} (shows : TiersView → X → Type 0) (known : V → Type
   abbrev q : Point V
   q = record { keeper = p.keeper; noted = p.noted; batch = p.batch; failed = p.failed; tiers = p.tiers; vault = vault }
 
-  as_more : (list more : List X) (c : Cells) → Within list more → OpensAs shows list (parts_of p.tiers).groups (length (parts_of p.tiers).drives) c
+  as_more : (list more : List X) (c : Cells) → HasAllOf list more → OpensAs shows list (parts_of p.tiers).groups (length (parts_of p.tiers).drives) c
       → OpensAs shows more (parts_of p.tiers).groups (length (parts_of p.tiers).drives) c
   as_more list more c within o = record { what = o.what; listed = within o.what o.listed; left = λ absent d there same. o.left absent d there same }
 
-  module _ (killed cut more_killed more_cut : List X) (out : Outlasts shows known seen may_leave p killed cut) (k : Within killed more_killed) (c : Within cut more_cut) where
+  module _ (killed cut more_killed more_cut : List X) (out : Outlasts shows known seen may_leave p killed cut) (k : HasAllOf killed more_killed) (c : HasAllOf cut more_cut) where
     now : OnlyReadKnown known seen may_leave moment left_since p.vault vault
     now = read out.is_known
 

@@ -11,7 +11,7 @@ use Rattle.history.specs.Entries.{Course}
 use Rattle.cached_drive.specs.Saving.{Units}
 use Rattle.tiered_array.specs.Views.{TiersView}
 use Rattle.array_store.specs.Stores.{Follows}
-use Rattle.byte_store.specs.Lasting.{Acknowledges, Covers, Flushes, Lasts, Within}
+use Rattle.byte_store.specs.Lasting.{Acknowledges, Covers, Flushes, Lasts, HasAllOf}
 use Rattle.byte_store.proofs.Lasts.{covering, lasts_ahead}
 use Rattle.vault.specs.Images.{Image, flat, is_lost, recovered}
 use Rattle.vault.specs.Moments.{IsLogged, LeavesOnly, RepresentsSome}
@@ -30,7 +30,7 @@ pub either : (b : Bool) → (b ≡ true) ⊎ (b ≡ false)
 either true = inl refl
 either false = inr refl
 
-pub allowed_within : {X : Type 0} (stop : Stop) (killed cut more_killed more_cut : List X) → Within killed more_killed → Within cut more_cut → Within (allowed stop killed cut) (allowed stop more_killed more_cut)
+pub allowed_within : {X : Type 0} (stop : Stop) (killed cut more_killed more_cut : List X) → HasAllOf killed more_killed → HasAllOf cut more_cut → HasAllOf (allowed stop killed cut) (allowed stop more_killed more_cut)
 allowed_within Killed killed cut more_killed more_cut k c = k
 allowed_within PowerLost killed cut more_killed more_cut k c = c
 
@@ -109,13 +109,13 @@ module _ {V X : Type 0} (shows : TiersView → X → Type 0) (known : V → Type
   -- the vault is as it was
   module _ (p q : Point V) (vault : q.vault ≡ p.vault) (follows : Follows p.tiers q.tiers) (works : q.failed ≡ false → p.failed ≡ false)
       (step : (lost : List Bool) (c : Cells) → IsUpToDate lost p.keeper p.noted p.batch c → IsUpToDate lost q.keeper q.noted q.batch c) where
-    as_then : (list more : List X) (c : Cells) → Within list more → OpensAs shows list (parts_of p.tiers).groups (length (parts_of p.tiers).drives) c
+    as_then : (list more : List X) (c : Cells) → HasAllOf list more → OpensAs shows list (parts_of p.tiers).groups (length (parts_of p.tiers).drives) c
         → OpensAs shows more (parts_of q.tiers).groups (length (parts_of q.tiers).drives) c
     as_then list more c within o =
         subst (λ n. OpensAs shows more (parts_of q.tiers).groups n c) (sym follows.many)
         (subst (λ g. OpensAs shows more g (length (parts_of p.tiers).drives) c) (sym follows.groups) (record { what = o.what; listed = within o.what o.listed; left = λ absent d there same. o.left absent d there same }))
 
-    but_then : (lost : List Bool) → is_lost lost 16 ≡ false → (list more : List X) (c : Cells) → Within list more
+    but_then : (lost : List Bool) → is_lost lost 16 ≡ false → (list more : List X) (c : Cells) → HasAllOf list more
         → OpensBut shows lost list (parts_of p.tiers).groups (length (parts_of p.tiers).drives) c → OpensBut shows lost more (parts_of q.tiers).groups (length (parts_of q.tiers).drives) c
     but_then lost there list more c within o =
         subst (λ n. OpensBut shows lost more (parts_of q.tiers).groups n c) (sym follows.many)
@@ -125,7 +125,7 @@ module _ {V X : Type 0} (shows : TiersView → X → Type 0) (known : V → Type
     groups_then : (c : Cells) → HasGroups (parts_of p.tiers).groups (length (parts_of p.tiers).drives) c → HasGroups (parts_of q.tiers).groups (length (parts_of q.tiers).drives) c
     groups_then c has = subst (λ n. HasGroups (parts_of q.tiers).groups n c) (sym follows.many) (subst (λ g. HasGroups g (length (parts_of p.tiers).drives) c) (sym follows.groups) has)
 
-    module _ (killed cut more_killed more_cut : List X) (out : Outlasts shows known seen may_leave p killed cut) (k : Within killed more_killed) (c : Within cut more_cut) where
+    module _ (killed cut more_killed more_cut : List X) (out : Outlasts shows known seen may_leave p killed cut) (k : HasAllOf killed more_killed) (c : HasAllOf cut more_cut) where
       with_vault : (v : V) → v ≡ p.vault → Outlasts shows known seen may_leave (record { keeper = q.keeper; noted = q.noted; batch = q.batch; failed = q.failed; tiers = q.tiers; vault = v }) more_killed more_cut
       with_vault v same = subst (λ u. Outlasts shows known seen may_leave (record { keeper = q.keeper; noted = q.noted; batch = q.batch; failed = q.failed; tiers = q.tiers; vault = u }) more_killed more_cut)
           (sym same) (record {
@@ -147,7 +147,7 @@ module _ {V X : Type 0} (shows : TiersView → X → Type 0) (known : V → Type
       pub moved : Outlasts shows known seen may_leave q more_killed more_cut
       moved = with_vault q.vault vault
 
-    moved_since : (t : ℕ) (since_killed since_cut more_killed more_cut : List X) → Within since_killed more_killed → Within since_cut more_cut
+    moved_since : (t : ℕ) (since_killed since_cut more_killed more_cut : List X) → HasAllOf since_killed more_killed → HasAllOf since_cut more_cut
         → OutlastsSince shows left_since p t since_killed since_cut → OutlastsSince shows left_since q t more_killed more_cut
     moved_since t since_killed since_cut more_killed more_cut k c since stop i left =
         as_then (allowed stop since_killed since_cut) (allowed stop more_killed more_cut) (recovered i) (allowed_within stop since_killed since_cut more_killed more_cut k c)
@@ -238,7 +238,7 @@ module _ {V X : Type 0} (shows : TiersView → X → Type 0) (known : V → Type
 
     module _ (killed cut more_killed more_cut : List X) (out : Outlasts shows known seen may_leave p killed cut)
         (kc : Covers more_killed killed now now) (cc : Covers more_cut cut now now) where
-      in_more : (stop : Stop) → Within (allowed stop killed cut) (allowed stop more_killed more_cut)
+      in_more : (stop : Stop) → HasAllOf (allowed stop killed cut) (allowed stop more_killed more_cut)
       in_more stop = allowed_within stop killed cut more_killed more_cut kc.each cc.each
 
       has_now : (stop : Stop) → Contains (allowed stop more_killed more_cut) now
@@ -352,7 +352,7 @@ module _ {V X : Type 0} (shows : TiersView → X → Type 0) (known : V → Type
       }
 
       pub earlier_by : (t : ℕ) (since_killed since_cut : List X) → t ≤ moment p.vault → OutlastsSince shows left_since p t since_killed since_cut
-          → Within since_killed more_killed → Within since_cut more_cut → OutlastsSince shows left_since q t more_killed more_cut
+          → HasAllOf since_killed more_killed → HasAllOf since_cut more_cut → OutlastsSince shows left_since q t more_killed more_cut
       earlier_by t since_killed since_cut le since k c stop i left = left_at t le stop i left (λ was. let o = since stop i was in
           as_new (allowed stop more_killed more_cut) (recovered i)
           (record { what = o.what; listed = allowed_within stop since_killed since_cut more_killed more_cut k c o.what o.listed; left = λ absent d there same. o.left absent d there same }))

@@ -8,7 +8,7 @@ use Rattle.extent_groups.specs.Cells.{Cells}
 use Rattle.extent_groups.specs.Planned.{Intended, after}
 use Rattle.unit_store.specs.Views.{DriveView, PartsView, drive_lost, lost_of}
 use Rattle.tiered_array.specs.Views.{TiersView}
-use Rattle.byte_store.specs.Lasting.{Within}
+use Rattle.byte_store.specs.Lasting.{HasAllOf}
 use Rattle.vault.specs.Images.{Image, SameOn, flat, is_lost, recovered}
 use Rattle.vault.specs.Moments.{IsLogged, RepresentsSome}
 use Rattle.vault.specs.declared.store.Stop.{Stop}
@@ -23,7 +23,7 @@ use Rattle.journaled_store.proofs.Settled.{groups_on, kept_on, table_on}
 pub alone : {X : Type 0} (b : X) → Contains (b ∷ []) b
 alone b = (0, omega arith, refl)
 
-pub one_of : {X : Type 0} (b : X) (more : List X) → Contains more b → Within (b ∷ []) more
+pub one_of : {X : Type 0} (b : X) (more : List X) → Contains more b → HasAllOf (b ∷ []) more
 one_of b more has x (zero, low, is) = subst (Contains more) is has
 one_of b more has x (suc k, low, is) = absurd (omega (arith, low))
 
@@ -68,7 +68,7 @@ none_of false b e f = f
 
 module _ {X : Type 0} (shows : TiersView → X → Type 0) (lost : List Bool) (table : is_lost lost 16 ≡ false) (groups : Groups) (count : ℕ) where
   -- with more in the list
-  pub opens_more : (some more : List X) (c : Cells) → Within some more → OpensBut shows lost some groups count c → OpensBut shows lost more groups count c
+  pub opens_more : (some more : List X) (c : Cells) → HasAllOf some more → OpensBut shows lost some groups count c → OpensBut shows lost more groups count c
   opens_more some more c within o = record {
     what = o.what;
     listed = within o.what o.listed;

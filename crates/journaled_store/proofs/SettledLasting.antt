@@ -9,7 +9,7 @@ use Rattle.extent_groups.specs.Cells.{Cells}
 use Rattle.extent_groups.specs.Planned.{Intended, after}
 use Rattle.unit_store.specs.Views.{DriveView, lost_of}
 use Rattle.tiered_array.specs.Views.{TiersView}
-use Rattle.byte_store.specs.Lasting.{Covers, Lasts, Within}
+use Rattle.byte_store.specs.Lasting.{Covers, Lasts, HasAllOf}
 use Rattle.byte_store.proofs.Lasts.{covering}
 use Rattle.history.specs.Entries.{Course}
 use Rattle.cached_drive.specs.Saving.{Units}
@@ -179,7 +179,7 @@ module _ {V X : Type 0} (shows : TiersView → X → Type 0) (known : V → Type
     }
 
     earlier_by : (t : ℕ) (since_killed since_cut : List X) → t ≤ moment p.vault → OutlastsSince shows left_since p t since_killed since_cut
-        → Within since_killed more_killed → Within since_cut more_cut → OutlastsSince shows left_since q t more_killed more_cut
+        → HasAllOf since_killed more_killed → HasAllOf since_cut more_cut → OutlastsSince shows left_since q t more_killed more_cut
     earlier_by t since_killed since_cut le since k c stop i left = left_at t le stop i left (λ was. let o = since stop i was in
         subst (λ (t : TiersView). OpensAs shows (allowed stop more_killed more_cut) (parts_of t).groups (length (parts_of t).drives) (recovered i)) (sym f.tiers)
         (record { what = o.what; listed = allowed_within stop since_killed since_cut more_killed more_cut k c o.what o.listed; left = λ absent d there same. o.left absent d there same }))

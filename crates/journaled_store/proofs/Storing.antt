@@ -4,7 +4,7 @@ use Rattle.std.specs.Prelude.{Result, Ok, Err, OnOk, is_err, slice_get}
 use Rattle.std.proofs.lemmas.Bool.{true≢false}
 use Rattle.byte_store.specs.Flat.{StoreState, Sizes}
 use Rattle.byte_store.specs.Changes.{IsChanged, IsFlushed, IsTornWrite}
-use Rattle.byte_store.specs.Lasting.{SameKeys, Shown, Shows}
+use Rattle.byte_store.specs.Lasting.{SameKeys, Shown, ShowsState}
 use Rattle.tiered_array.specs.Views.{TiersView}
 use Rattle.array_store.specs.Blocks.{Holds}
 use Rattle.journaled_store.specs.Left.{HasBoth}
@@ -70,16 +70,16 @@ pub follows_self : (t : TiersView) → Follows t t
 follows_self t = follows_same t
 
 -- what an array shows that represents a flat store
-pub has_both : (t : TiersView) (F : StoreState) (what : Shown) → Holds t F.bytes → Shows t.world.array.keys F what → HasBoth t what
+pub has_both : (t : TiersView) (F : StoreState) (what : Shown) → Holds t F.bytes → ShowsState t.world.array.keys F what → HasBoth t what
 has_both t F what holds shows = record { holds = subst (Holds t) (sym shows.bytes_are) holds; keys_are = shows.keys_are }
 
 -- with the same keys it shows the same
-pub shows_on : (old new : List ℕ) (F : StoreState) (what : Shown) → SameKeys new old → Shows old F what → Shows new F what
+pub shows_on : (old new : List ℕ) (F : StoreState) (what : Shown) → SameKeys new old → ShowsState old F what → ShowsState new F what
 shows_on old new F what same shows = record { bytes_are = shows.bytes_are; keys_are = λ k. shows.keys_are k ∙ sym (same k) }
 
 -- what a store shows after a flush
 pub flushed_both : {E : Type 0} (was now : StoreView) {u : Bool} (r : Result (Unit {0}) E) (F : StoreState) (what : Shown) → (G : StoreState) × IsStoreOf now.tiers now.size u G × IsFlushed r F G
-    → SameKeys now.tiers.world.array.keys was.tiers.world.array.keys → Shows was.tiers.world.array.keys F what → HasBoth now.tiers what
+    → SameKeys now.tiers.world.array.keys was.tiers.world.array.keys → ShowsState was.tiers.world.array.keys F what → HasBoth now.tiers what
 flushed_both was now r F what made same shows =
     has_both now.tiers F what (subst (Holds now.tiers) (flushed_bytes r F made.0 made.2) made.1.holds)
     (shows_on was.tiers.world.array.keys now.tiers.world.array.keys F what same shows)

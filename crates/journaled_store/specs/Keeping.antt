@@ -5,7 +5,7 @@ use Rattle.history.specs.Entries.{Course}
 use Rattle.history.specs.declared.naming.Chronicle.{Ghosts}
 use Rattle.cached_drive.specs.Saving.{Units}
 use Rattle.byte_store.specs.Flat.{StoreState}
-use Rattle.byte_store.specs.Lasting.{Lasts, Shows, Shown}
+use Rattle.byte_store.specs.Lasting.{Lasts, ShowsState, Shown}
 use Rattle.slot_tables.specs.Views.{key_at}
 use Rattle.array_store.specs.Stores.{Follows, IsStoreOf, StoreView}
 use Rattle.vault.specs.Images.{Image}
@@ -31,8 +31,8 @@ pub record Whole (V : Type 0) : Type 0 where
   pub failed : Bool
   pub vault : V
 
-abbrev pub whole : {N V : Type 0} {names : Ghosts N} → JournaledStore N V names → Whole V
-whole s = record { store = s.store; unsynced = s.unsynced; keeper = s.changes.keeper; noted = s.changes.noted; batch = s.changes.batch; failed = s.failed; vault = s.vault }
+abbrev pub as_whole : {N V : Type 0} {names : Ghosts N} → JournaledStore N V names → Whole V
+as_whole s = record { store = s.store; unsynced = s.unsynced; keeper = s.changes.keeper; noted = s.changes.noted; batch = s.changes.batch; failed = s.failed; vault = s.vault }
 
 -- where it stands
 abbrev pub at_point : {V : Type 0} → Whole V → Point V
@@ -50,5 +50,5 @@ pub record KeepsStore {V : Type 0} (known : V → Type 0) (seen : V → Image) (
   pub sizes : (now.store.size ≡ was.store.size) × (now.store.tiers.world.array.parts.groups.payload ≡ was.store.tiers.world.array.parts.groups.payload)
   pub stays : known was.vault → known now.vault
   pub follows : (F : StoreState) → WholeRepresents was F → Follows was.store.tiers now.store.tiers
-  pub lasts : (F : StoreState) (what : Shown) → WholeRepresents was F → Shows was.store.tiers.world.array.keys F what
+  pub lasts : (F : StoreState) (what : Shown) → WholeRepresents was F → ShowsState was.store.tiers.world.array.keys F what
       → Lasts (Outlasts HasBoth known seen may_leave) (λ p. moment p.vault) (OutlastsSince HasBoth left_since) what what (at_point was) (at_point now)

@@ -2,7 +2,7 @@
 ghost use Rattle.std.specs.Prelude.{◌≡◌, ◌<◌, ◌≤◌, ◌+◌, [], ◌∷◌, ℕ, List, Bool, length, slice_index_or, Some, None, false, true, OnOk, IfOk, IfSome};
 ghost use Rattle.extent_groups.specs.Cells.{Cells};
 ghost use Rattle.vault.specs.Images.{Image};
-ghost use Rattle.journaled_store.specs.Keeping.{KeepsStore, whole};
+ghost use Rattle.journaled_store.specs.Keeping.{KeepsStore, as_whole};
 ghost use Rattle.journaled_store.specs.Scrubbing.{HasAdvanced, HasNone, HasUnit, IsCompared, IsHeldAt, IsNextPosition, IsPending, compared_after, place_at_position, repaired_after};
 
 use crate::changes::Changes;
@@ -48,7 +48,7 @@ impl<N: Chronicle, V: Vault + Drop> JournaledStore<N, V> {
     /// the array's after it was written.
     pub fn scrub_unit(&mut self) -> Scrubbed
         // The bytes stay, and what a stop leaves is what the store shows.
-        ensures kept { KeepsStore V.known V.seen V.may_leave V.moment V.left_since (whole self.old) (whole self.new) }
+        ensures kept { KeepsStore V.known V.seen V.may_leave V.moment V.left_since (as_whole self.old) (as_whole self.new) }
 
         // Each unit is reached, in the order of the drives and of their addresses.
         ensures moves { HasAdvanced self.old.store.tiers.world.array.parts.drives self.old.scrub.position self.old.scrub.rounds
@@ -82,10 +82,10 @@ impl<N: Chronicle, V: Vault + Drop> JournaledStore<N, V> {
 
     // Writes the unit at a position again, if what was found there needs it.
     fn finish(&mut self, at: ScrubPosition, found: Option<Compared>) -> Scrubbed
-        ensures kept { KeepsStore V.known V.seen V.may_leave V.moment V.left_since (whole self.old) (whole self.new) }
+        ensures kept { KeepsStore V.known V.seen V.may_leave V.moment V.left_since (as_whole self.old) (as_whole self.new) }
         ensures skipped { result ≡ Scrubbed.Skipped → found ≡ None }
-        ensures same { result ≡ Scrubbed.Same → (found ≡ Some Compared.Same) × (whole self.new ≡ whole self.old) }
-        ensures waits { result ≡ Scrubbed.Waits → (found ≡ Some Compared.Waits) × (whole self.new ≡ whole self.old) }
+        ensures same { result ≡ Scrubbed.Same → (found ≡ Some Compared.Same) × (as_whole self.new ≡ as_whole self.old) }
+        ensures waits { result ≡ Scrubbed.Waits → (found ≡ Some Compared.Waits) × (as_whole self.new ≡ as_whole self.old) }
         ensures repaired { V.known self.old.vault → result ≡ Scrubbed.Repaired
             → IsHeldAt (V.attested self.new.vault) (Image.cells (V.seen self.new.vault)) self.new.store.tiers.world.array.parts.drives at }
     {
@@ -102,7 +102,7 @@ impl<N: Chronicle, V: Vault + Drop> JournaledStore<N, V> {
 
     // Writes the array's unit at a position to the vault again, and compares it.
     fn mend(&mut self, at: ScrubPosition) -> Result<(), StoreFault>
-        ensures kept { KeepsStore V.known V.seen V.may_leave V.moment V.left_since (whole self.old) (whole self.new) }
+        ensures kept { KeepsStore V.known V.seen V.may_leave V.moment V.left_since (as_whole self.old) (as_whole self.new) }
         ensures mended { V.known self.old.vault → OnOk result
             (IsHeldAt (V.attested self.new.vault) (Image.cells (V.seen self.new.vault)) self.new.store.tiers.world.array.parts.drives at) }
     {
@@ -118,7 +118,7 @@ impl<N: Chronicle, V: Vault + Drop> JournaledStore<N, V> {
 
     // Puts the array's unit at a position into the batch once more. False if out of memory, or if it has none.
     fn put_again(&mut self, at: ScrubPosition) -> bool
-        ensures kept { KeepsStore V.known V.seen V.may_leave V.moment V.left_since (whole self.old) (whole self.new) }
+        ensures kept { KeepsStore V.known V.seen V.may_leave V.moment V.left_since (as_whole self.old) (as_whole self.new) }
     {
         self.changes.lookup.drive = at.drive;
         self.changes.lookup.address = at.address;
@@ -136,7 +136,7 @@ impl<N: Chronicle, V: Vault + Drop> JournaledStore<N, V> {
 
     // Compares the array's unit at a position with the vault's. `Sync` where nothing can be published.
     fn check(&mut self, at: ScrubPosition) -> Result<Checked, StoreFault>
-        ensures kept { KeepsStore V.known V.seen V.may_leave V.moment V.left_since (whole self.old) (whole self.new) }
+        ensures kept { KeepsStore V.known V.seen V.may_leave V.moment V.left_since (as_whole self.old) (as_whole self.new) }
         ensures next { IfOk result (λ c. IsNextPosition self.old.store.tiers.world.array.parts.drives at c.step.next c.step.ends) }
         ensures none { IfOk result (λ c. c.found ≡ None → HasNone self.old.store.tiers.world.array.parts.drives at) }
         ensures same { V.known self.old.vault → IfOk result (λ c. c.found ≡ Some Compared.Same
@@ -166,7 +166,7 @@ impl<N: Chronicle, V: Vault + Drop> JournaledStore<N, V> {
 
     // Copies the array's unit at a position, and finds what comes after it. None if out of memory.
     fn pick(&mut self, at: ScrubPosition) -> Option<Step>
-        ensures kept { KeepsStore V.known V.seen V.may_leave V.moment V.left_since (whole self.old) (whole self.new) }
+        ensures kept { KeepsStore V.known V.seen V.may_leave V.moment V.left_since (as_whole self.old) (as_whole self.new) }
         ensures vault { self.new.vault ≡ self.old.vault }
         ensures next { IfSome result (λ s. IsNextPosition self.old.store.tiers.world.array.parts.drives at s.next s.ends) }
         ensures none { IfSome result (λ s. s.is_there ≡ false → HasNone self.old.store.tiers.world.array.parts.drives at) }
@@ -186,7 +186,7 @@ impl<N: Chronicle, V: Vault + Drop> JournaledStore<N, V> {
 
     // Compares the unit that was copied with the vault's at a position. A drive that fails is lost.
     fn read_back(&mut self, at: ScrubPosition) -> Result<Compared, StoreFault>
-        ensures kept { KeepsStore V.known V.seen V.may_leave V.moment V.left_since (whole self.old) (whole self.new) }
+        ensures kept { KeepsStore V.known V.seen V.may_leave V.moment V.left_since (as_whole self.old) (as_whole self.new) }
         ensures array { OnOk result (self.new.store ≡ self.old.store) }
         ensures found { V.known self.old.vault → IfOk result (λ found. IsCompared (V.attested self.new.vault)
             (Image.cells (V.seen self.new.vault)) (place_at_position at) self.old.changes.lookup.unit.items found) }
@@ -215,7 +215,7 @@ impl<N: Chronicle, V: Vault + Drop> JournaledStore<N, V> {
 
     // Settles where the journal has grown.
     pub(crate) fn settle_grown(&mut self)
-        ensures kept { KeepsStore V.known V.seen V.may_leave V.moment V.left_since (whole self.old) (whole self.new) }
+        ensures kept { KeepsStore V.known V.seen V.may_leave V.moment V.left_since (as_whole self.old) (as_whole self.new) }
     {
         if self.changes.appended >= self.settle_at {
             let _ = self.settle();
@@ -224,7 +224,7 @@ impl<N: Chronicle, V: Vault + Drop> JournaledStore<N, V> {
 
     // Compares a unit, if it is time.
     pub(crate) fn scrub_due(&mut self)
-        ensures kept { KeepsStore V.known V.seen V.may_leave V.moment V.left_since (whole self.old) (whole self.new) }
+        ensures kept { KeepsStore V.known V.seen V.may_leave V.moment V.left_since (as_whole self.old) (as_whole self.new) }
     {
         self.scrub.rests = self.scrub.rests.saturating_add(1);
         if self.scrub.rests >= SCRUB_EVERY {
@@ -235,7 +235,7 @@ impl<N: Chronicle, V: Vault + Drop> JournaledStore<N, V> {
 
     // What is done between requests.
     pub(crate) fn tidy(&mut self)
-        ensures kept { KeepsStore V.known V.seen V.may_leave V.moment V.left_since (whole self.old) (whole self.new) }
+        ensures kept { KeepsStore V.known V.seen V.may_leave V.moment V.left_since (as_whole self.old) (as_whole self.new) }
     {
         self.settle_grown();
         self.scrub_due();
@@ -251,7 +251,7 @@ impl<N: Chronicle, V: Vault + Drop> JournaledStore<N, V> {
     /// Goes on at a position.
     pub fn resume_scrub(&mut self, position: ScrubPosition)
         ensures position { self.new.scrub.position ≡ position }
-        ensures whole { whole self.new ≡ whole self.old }
+        ensures whole { as_whole self.new ≡ as_whole self.old }
     {
         self.scrub.position = position;
     }

@@ -3,12 +3,12 @@ use Rattle.std.proofs.Common.{◌≡◌, ℕ, ◌≤◌, List, [], ◌∷◌, �
 use Rattle.std.specs.Prelude.{Contains}
 use Rattle.std.proofs.lemmas.List.Elements.{All-cons, All-contains, All-nil, Contains-append_cases, Contains-append_left, Contains-append_right}
 use Rattle.byte_store.specs.Flat.{StoreState}
-use Rattle.byte_store.specs.Lasting.{Acknowledges, Covers, Flushes, Lasts, Shown, Within}
+use Rattle.byte_store.specs.Lasting.{Acknowledges, Covers, Flushes, Lasts, Shown, HasAllOf}
 use Rattle.byte_store.proofs.Lasts.{covering}
 use Rattle.byte_store.specs.declared.fault.StoreFault.{StoreFault}
 use Rattle.nbd_serve.specs.Exchanges.{Exchange, IsExchange, RunsSession}
-use Rattle.nbd_serve.specs.Stopping.{Comes, IsAt, LeavesBy, LeavesStore, SaysChanged, SaysDurable, StoreType, Survives}
-use Rattle.nbd_serve.specs.Enduring.{AreKept, AreRounds, CoversBoth, Endures, HoldsSince, IsHonored, IsRound, LastsThrough, Rise, Round, passed}
+use Rattle.nbd_serve.specs.Stopping.{Comes, IsStoreAt, LeavesBy, LeavesStore, SaysChanged, SaysDurable, StoreType, Survives}
+use Rattle.nbd_serve.specs.Enduring.{AreKept, AreServedRounds, CoversBoth, Endures, HoldsSince, IsHonored, IsServedRound, LastsThrough, Rise, Round, passed}
 use Rattle.nbd_serve.proofs.Stopping.{came_none, comes_on, has_head, has_rest}
 
 -- one exchange more
@@ -18,21 +18,21 @@ runs_more may size F [] G x H runs is = (H, (let P : StoreState → Type 0 = λ 
 runs_more may size F (y ∷ xs) G x H runs is = (runs.0, runs.1, runs_more may size runs.0 xs G x H runs.2 is)
 
 -- lists within others
-within_cons : (x : Shown) (xs more : List Shown) → Contains more x → Within xs more → Within (x ∷ xs) more
+within_cons : (x : Shown) (xs more : List Shown) → Contains more x → HasAllOf xs more → HasAllOf (x ∷ xs) more
 within_cons x xs more has within = λ b is.
     elim (Contains-append_cases (x ∷ []) xs b is) [
       | inl at ↦ All-contains (Contains more) (x ∷ []) b (All-cons (Contains more) x [] has (All-nil (Contains more))) at
       | inr rest ↦ within b rest
     ]
 
-within_following : (xs ys zs : List Shown) → Within ys zs → Within (xs ++ ys) (xs ++ zs)
+within_following : (xs ys zs : List Shown) → HasAllOf ys zs → HasAllOf (xs ++ ys) (xs ++ zs)
 within_following xs ys zs within = λ b is.
     elim (Contains-append_cases xs ys b is) [
       | inl first ↦ Contains-append_left xs zs b first
       | inr second ↦ Contains-append_right xs zs b (within b second)
     ]
 
-within_rest : (x : Shown) (ys zs : List Shown) → Within ys zs → Within (x ∷ ys) (x ∷ zs)
+within_rest : (x : Shown) (ys zs : List Shown) → HasAllOf ys zs → HasAllOf (x ∷ ys) (x ∷ zs)
 within_rest x ys zs within = within_following (x ∷ []) ys zs within
 
 joining : (some states : List Shown) → CoversBoth (some ++ states) some states
@@ -47,7 +47,7 @@ passed_last : {S : Type 0} (first : Shown) (rs : List (Round S)) → Contains (p
 passed_last first [] = has_head first []
 passed_last first (r ∷ rs) = has_rest first (shown_last r.after rs) (r.then ∷ passed r.after rs) (has_rest r.then (shown_last r.after rs) (passed r.after rs) (passed_last r.after rs))
 
-passed_more : {S : Type 0} (first : Shown) (rs : List (Round S)) (r : Round S) → Within (passed first rs) (passed first (rs ++ r ∷ []))
+passed_more : {S : Type 0} (first : Shown) (rs : List (Round S)) (r : Round S) → HasAllOf (passed first rs) (passed first (rs ++ r ∷ []))
 passed_more first [] r = λ b has. Contains-append_left (first ∷ []) (r.then ∷ r.after ∷ []) b has
 passed_more first (s ∷ rs) r = within_rest first (s.then ∷ passed s.after rs) (s.then ∷ passed s.after (rs ++ r ∷ []))
     (within_rest s.then (passed s.after rs) (passed s.after (rs ++ r ∷ [])) (passed_more s.after rs r))
@@ -65,10 +65,10 @@ last_more first [] r = refl
 last_more first (s ∷ rs) r = last_more s.after rs r
 
 -- lists of two and of three
-within_two : (a b : Shown) (more : List Shown) → Contains more a → Contains more b → Within (a ∷ b ∷ []) more
+within_two : (a b : Shown) (more : List Shown) → Contains more a → Contains more b → HasAllOf (a ∷ b ∷ []) more
 within_two a b more has_a has_b = within_cons a (b ∷ []) more has_a (within_cons b [] more has_b (λ c has. (let low = has.1 in absurd (omega (arith, low)))))
 
-within_three : (a b c : Shown) (more : List Shown) → Contains more a → Contains more b → Contains more c → Within (a ∷ b ∷ c ∷ []) more
+within_three : (a b c : Shown) (more : List Shown) → Contains more a → Contains more b → Contains more c → HasAllOf (a ∷ b ∷ c ∷ []) more
 within_three a b c more has_a has_b has_c = within_cons a (b ∷ c ∷ []) more has_a (within_two b c more has_b has_c)
 
 -- moments
@@ -91,9 +91,9 @@ module _ {S : Type 0} (type : StoreType S) where
 
   -- rounds, and one more
   rounds_more : (may : StoreFault → Type 0) (size : ℕ) (F : StoreState) (xs : List Exchange) (G : StoreState) (x : Exchange) (H : StoreState) (run : RunsSession may size F xs G) (is : IsExchange may size G x H)
-      (old : S) (rs : List (Round S)) (last : S) (r : Round S) → AreRounds type may size F xs G run old rs last → IsRound type last H r
-      → AreRounds type may size F (xs ++ x ∷ []) H (runs_more may size F xs G x H run is) old (rs ++ r ∷ []) r.rested
-  rounds_more may size F [] G x H run is old [] last r are one = (let P : S → Type 0 = λ s. IsRound type s H r in subst P are one, refl)
+      (old : S) (rs : List (Round S)) (last : S) (r : Round S) → AreServedRounds type may size F xs G run old rs last → IsServedRound type last H r
+      → AreServedRounds type may size F (xs ++ x ∷ []) H (runs_more may size F xs G x H run is) old (rs ++ r ∷ []) r.rested
+  rounds_more may size F [] G x H run is old [] last r are one = (let P : S → Type 0 = λ s. IsServedRound type s H r in subst P are one, refl)
   rounds_more may size F [] G x H run is old (s ∷ rs) last r are one = absurd are
   rounds_more may size F (y ∷ xs) G x H run is old [] last r are one = absurd are
   rounds_more may size F (y ∷ xs) G x H run is old (s ∷ rs) last r are one = (are.0, rounds_more may size run.0 xs G x H run.2 is s.rested rs last r are.1 one)
@@ -114,7 +114,7 @@ module _ {S : Type 0} (type : StoreType S) where
             (covers more_killed killed joins) (covers more_cut cut joins_cut);
       }
 
-  through_wider : (some states : List Shown) (old new : S) → LastsThrough type some old new → Within some states → LastsThrough type states old new
+  through_wider : (some states : List Shown) (old new : S) → LastsThrough type some old new → HasAllOf some states → LastsThrough type states old new
   through_wider some states old new lasts within =
       let joins : (all more : List Shown) → CoversBoth all more states → CoversBoth all more some =
       λ all more j. record { first = j.first; second = λ b has. j.second b (within b has) } in record {
@@ -127,7 +127,7 @@ module _ {S : Type 0} (type : StoreType S) where
 
   -- and others
   through_more : (some others states : List Shown) (old mid new : S) → LastsThrough type some old mid → LastsThrough type others mid new
-      → Within some states → Within others states → LastsThrough type states old new
+      → HasAllOf some states → HasAllOf others states → LastsThrough type states old new
   through_more some others states old mid new first second within_some within_others =
       let joins_some : (all more : List Shown) → CoversBoth all more states → CoversBoth all more some =
       λ all more joins. record { first = joins.first; second = λ b has. joins.second b (within_some b has) } in
@@ -184,7 +184,7 @@ module _ {S : Type 0} (type : StoreType S) where
       let was = shown_last s.after rs in
       let more = passed s.after (rs ++ r ∷ []) in
       let list = r.after ∷ s.then ∷ more in
-      let wider : Within more list = λ b has. has_rest r.after b (s.then ∷ more) (has_rest s.then b more has) in
+      let wider : HasAllOf more list = λ b has. has_rest r.after b (s.then ∷ more) (has_rest s.then b more has) in
       let has_was = wider was (passed_more s.after rs r was (passed_last s.after rs)) in
       let covers_later : CoversBoth list (was ∷ s.then ∷ passed s.after rs) (was ∷ r.then ∷ r.after ∷ []) = record {
         first = within_cons was (s.then ∷ passed s.after rs) list has_was
@@ -222,7 +222,7 @@ module _ {S : Type 0} (type : StoreType S) where
   AtLast may size F xs G run first old store e = e.final ≡ shown_last first e.rounds
 
   -- no exchange was made
-  pub endures_none : (may : StoreFault → Type 0) (size : ℕ) (F : StoreState) (first : Shown) (store : S) → IsAt type store F first
+  pub endures_none : (may : StoreFault → Type 0) (size : ℕ) (F : StoreState) (first : Shown) (store : S) → IsStoreAt type store F first
       → (e : Endures type may size F [] F refl F first store store) × AtLast may size F [] F refl first store store e
   endures_none may size F first store is = (
     record {
@@ -244,7 +244,7 @@ module _ {S : Type 0} (type : StoreType S) where
     killed : List Shown
     cut : List Shown
     holds : type.outlasts store killed cut
-    within : Within cut all_cut
+    within : HasAllOf cut all_cut
 
   outlasted : (states killed cut : List Shown) (old store : S) (P : Type 0) → (P → store ≡ old) → P ⊎ LastsThrough type states old store
       → type.outlasts old killed cut → Outlasted (cut ++ states) store
@@ -264,7 +264,7 @@ module _ {S : Type 0} (type : StoreType S) where
 
   -- what is called after none or more calls
   through_next : (some others states : List Shown) (old store new : S) (P : Type 0) → (P → store ≡ old) → P ⊎ LastsThrough type some old store → LastsThrough type others store new
-      → Within some states → Within others states → LastsThrough type states old new
+      → HasAllOf some states → HasAllOf others states → LastsThrough type states old new
   through_next some others states old store new P same (inl still) next within_some within_others =
       let Q : S → Type 0 = λ s. LastsThrough type others s new in
       through_wider others states old new (subst Q (same still) next) within_others
@@ -328,7 +328,7 @@ module _ {S : Type 0} (type : StoreType S) where
   pub endures_more : (may : StoreFault → Type 0) (size : ℕ) (F : StoreState) (xs : List Exchange) (G : StoreState) (x : Exchange) (H : StoreState)
       (run : RunsSession may size F xs G) (is : IsExchange may size G x H) (first : Shown) (old store mid new : S)
       → (e : Endures type may size F xs G run G first old store) → AtLast may size F xs G run first old store e
-      → (left : LeavesBy type (shown_last first e.rounds) store mid x.request x.reply H) → (after : Shown) → Comes type.stays mid new → IsAt type new H after → LastsBy left.now after mid new
+      → (left : LeavesBy type (shown_last first e.rounds) store mid x.request x.reply H) → (after : Shown) → Comes type.stays mid new → IsStoreAt type new H after → LastsBy left.now after mid new
       → (more : Endures type may size F (xs ++ x ∷ []) H (runs_more may size F xs G x H run is) H first old new)
       × AtLast may size F (xs ++ x ∷ []) H (runs_more may size F xs G x H run is) first old new more
   endures_more may size F xs G x H run is first old store mid new e at left after went there rested =
@@ -338,7 +338,7 @@ module _ {S : Type 0} (type : StoreType S) where
       let states = was ∷ left.now ∷ after ∷ [] in
       let some = passed first rs in
       let more = passed first (rs ++ r ∷ []) in
-      let final_was : Within (e.final ∷ some) (after ∷ more) = within_cons e.final some (after ∷ more)
+      let final_was : HasAllOf (e.final ∷ some) (after ∷ more) = within_cons e.final some (after ∷ more)
       (subst (λ (b : Shown). Contains (after ∷ more) b) (sym at) (has_rest after was more (passed_more first rs r was (passed_last first rs))))
       (λ b has. has_rest after b more (passed_more first rs r b has)) in
       let has_was = has_rest after was more (passed_more first rs r was (passed_last first rs)) in
@@ -421,7 +421,7 @@ module _ {S : Type 0} (type : StoreType S) where
           let states = was ∷ final ∷ [] in
           let through = through_one states was final store new lasts (has_head was (final ∷ [])) (has_rest was final (final ∷ []) (has_head final [])) in
           let has_was = has_rest final was some (passed_last first rs) in
-          let final_was : Within (e.final ∷ some) (final ∷ some) = within_cons e.final some (final ∷ some)
+          let final_was : HasAllOf (e.final ∷ some) (final ∷ some) = within_cons e.final some (final ∷ some)
           (subst (λ (b : Shown). Contains (final ∷ some) b) (sym at) has_was) (λ b has. has_rest final b some has) in
           let within_states = within_two was final (final ∷ some) has_was (has_head final some) in record {
             rounds = rs;

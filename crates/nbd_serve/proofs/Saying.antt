@@ -14,7 +14,7 @@ use Rattle.nbd_wire.specs.declared.request.Request.{Request}
 use Rattle.nbd_wire.specs.Requests.{is_forced}
 use Rattle.nbd_wire.specs.Replies.{reply_bytes}
 use Rattle.nbd_serve.specs.Refusals.{error_of}
-use Rattle.nbd_serve.specs.Stopping.{IsAt, LeavesBy, LeavesShown, LeavesStore, StoreType, is_change, secures}
+use Rattle.nbd_serve.specs.Stopping.{IsStoreAt, LeavesBy, LeavesShown, LeavesStore, StoreType, is_change, secures}
 use Rattle.nbd_serve.proofs.Stopping.{came_none}
 
 -- the lowest byte of an error's number
@@ -95,7 +95,7 @@ quiet_says type before old new r reply G none never left = record {
 
 -- a request that was refused
 pub refusal_says : {S : Type 0} (type : StoreType S) (F : StoreState) (what : Shown) (store : S) (r : Request) (error : Errno) (reply : List ℕ)
-    → reply ≡ reply_bytes (Some error) r.cookie → IsAt type store F what → LeavesBy type what store store r reply F
+    → reply ≡ reply_bytes (Some error) r.cookie → IsStoreAt type store F what → LeavesBy type what store store r reply F
 refusal_says type F what store r error reply written is = record {
   came = came_none type.stays store store refl;
   now = what;

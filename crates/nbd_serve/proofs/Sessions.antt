@@ -6,7 +6,7 @@ use Rattle.std.specs.Io.KnownBytes.{Appends, Consumes}
 use Rattle.std.proofs.KnownBytes.{Appends-nil, Appends-trans, Consumes-nil, Consumes-trans}
 use Rattle.byte_store.specs.declared.fault.StoreFault.{StoreFault}
 use Rattle.byte_store.specs.Flat.{StoreState}
-use Rattle.byte_store.specs.Lasting.{Lasts, Shown, Shows}
+use Rattle.byte_store.specs.Lasting.{Lasts, Shown, ShowsState}
 use Rattle.byte_store.proofs.Lasts.{lasts_as_now}
 use Rattle.nbd_serve.specs.Exchanges.{Exchange, RunsSession, asked_by, replied_by}
 use Rattle.nbd_serve.specs.Serving.{Breaks, IsCutOff, Serves, Stops, most_requests}
@@ -17,8 +17,8 @@ use Rattle.nbd_serve.specs.declared.calls.Short.TheVariants as short
 use Rattle.nbd_wire.specs.declared.request.Command.TheVariants as command
 use Rattle.nbd_wire.specs.declared.request.Request.{Request}
 use Rattle.nbd_wire.specs.Requests.{SpellsRequest, carried_len}
-use Rattle.nbd_serve.specs.Stepping.{IsCompleted, IsStop}
-use Rattle.nbd_serve.specs.Stopping.{IsAt, LeavesBy, LeavesStore, StoreType}
+use Rattle.nbd_serve.specs.Stepping.{IsWholeExchange, IsStop}
+use Rattle.nbd_serve.specs.Stopping.{IsStoreAt, LeavesBy, LeavesStore, StoreType}
 use Rattle.nbd_serve.proofs.Stopping.{at_own, came_one}
 use Rattle.nbd_serve.specs.Enduring.{Endures}
 use Rattle.nbd_serve.proofs.Enduring.{AtLast, endures_last, endures_more, endures_none, runs_more, shown_last}
@@ -37,7 +37,7 @@ pub record IsAlong {S : Type 0} (type : StoreType S) (may : StoreFault → Type 
   pub at : AtLast type may size F exchanges state runs first old new endures
 
 -- none was made
-pub along_none : {S : Type 0} (type : StoreType S) (may : StoreFault → Type 0) (size : ℕ) (F : StoreState) (first : Shown) (store : S) (before held : Option (List ℕ)) → IsAt type store F first
+pub along_none : {S : Type 0} (type : StoreType S) (may : StoreFault → Type 0) (size : ℕ) (F : StoreState) (first : Shown) (store : S) (before held : Option (List ℕ)) → IsStoreAt type store F first
     → IsAlong type may size 0 F first store store before before held held
 along_none type may size F first store before held is = record {
   exchanges = [];
@@ -58,13 +58,13 @@ bytes_more f (y ∷ xs) x = ap (λ bytes. f y ++ bytes) (bytes_more f xs x) ∙ 
 -- one exchange after n, after which the store rested
 pub along_more : {S : Type 0} (type : StoreType S) (may : StoreFault → Type 0) (size n : ℕ) (F : StoreState) (first : Shown) (old store rests new : S) (before mid after held written now : Option (List ℕ))
     → IsAlong type may size n F first old store before mid held written
-    → ((G : StoreState) (b : Shown) → IsAt type store G b → IsCompleted (LeavesBy type b store rests) may size G mid after written now)
+    → ((G : StoreState) (b : Shown) → IsStoreAt type store G b → IsWholeExchange (LeavesBy type b store rests) may size G mid after written now)
     → ((G : StoreState) → type.represents rests G → type.represents new G) → ((G : StoreState) → type.represents rests G → type.stays rests new)
-    → ((G : StoreState) (b : Shown) → type.represents rests G → Shows (type.keys new) G b → Lasts type.outlasts type.moment type.outlasts_since b b rests new)
+    → ((G : StoreState) (b : Shown) → type.represents rests G → ShowsState (type.keys new) G b → Lasts type.outlasts type.moment type.outlasts_since b b rests new)
     → IsAlong type may size (n + 1) F first old new before after held now
 along_more type may size n F first old store rests new before mid after held written now along step kept stays lasts =
     let e = along.endures in
-    let done = step along.state (shown_last first e.rounds) (subst (λ (b : Shown). IsAt type store along.state b) along.at e.is) in
+    let done = step along.state (shown_last first e.rounds) (subst (λ (b : Shown). IsStoreAt type store along.state b) along.at e.is) in
     let asked = bytes_more asked_by along.exchanges done.exchange in
     let replied = bytes_more replied_by along.exchanges done.exchange in
     let left = done.next_is in
@@ -99,11 +99,11 @@ stop_at end.Memory n may size F before after held now G stops = absurd stops
 -- exchanges, and a stop
 pub served : {S : Type 0} (type : StoreType S) (last : End) (may : StoreFault → Type 0) (size n : ℕ) (F : StoreState) (first : Shown) (old store new : S) (before mid after held written now : Option (List ℕ))
     → IsAlong type may size n F first old store before mid held written
-    → ((G : StoreState) (b : Shown) → IsAt type store G b → IsStop (LeavesStore type ⊥ ⊥ b store new) last may size G mid after written now)
+    → ((G : StoreState) (b : Shown) → IsStoreAt type store G b → IsStop (LeavesStore type ⊥ ⊥ b store new) last may size G mid after written now)
     → Serves type may size F first old new last before after held now
 served type last may size n F first old store new before mid after held written now along step =
     let e = along.endures in
-    let stop = step along.state (shown_last first e.rounds) (subst (λ (b : Shown). IsAt type store along.state b) along.at e.is) in record {
+    let stop = step along.state (shown_last first e.rounds) (subst (λ (b : Shown). IsStoreAt type store along.state b) along.at e.is) in record {
       exchanges = along.exchanges;
       state = along.state;
       runs = along.runs;
@@ -135,7 +135,7 @@ served_most type may size n F first old new before after held now along most = r
 }
 
 -- no exchange, where there is no memory
-pub served_none : {S : Type 0} (type : StoreType S) (may : StoreFault → Type 0) (size : ℕ) (F : StoreState) (first : Shown) (store : S) (before held : Option (List ℕ)) → IsAt type store F first
+pub served_none : {S : Type 0} (type : StoreType S) (may : StoreFault → Type 0) (size : ℕ) (F : StoreState) (first : Shown) (store : S) (before held : Option (List ℕ)) → IsStoreAt type store F first
     → Serves type may size F first store store end.Memory before before held held
 served_none type may size F first store before held is = record {
   exchanges = [];
@@ -174,7 +174,7 @@ cut_by ends reason last may size F before after held cut last_is represented =
 -- a reply that is whole
 pub exchange_done : (leaves : Request → List ℕ → StoreState → Type 0) (may : StoreFault → Type 0) (size : ℕ) (F : StoreState) (head : List ℕ) (r : Request) (before mid after held now : Option (List ℕ))
     (reply wrote : List ℕ) → length head ≡ 28 → SpellsRequest head r → r.command ≢ command.Disconnect → Consumes before mid head
-    → IsAnswered leaves may size F r mid after reply → wrote ≡ reply → Appends held now wrote → IsCompleted leaves may size F before after held now
+    → IsAnswered leaves may size F r mid after reply → wrote ≡ reply → Appends held now wrote → IsWholeExchange leaves may size F before after held now
 exchange_done leaves may size F head r before mid after held now reply wrote whole spells stays read answered same written =
     let P : List ℕ → Type 0 = λ xs. Appends held now xs in record {
       exchange = record { head = head; request = r; carried = answered.carried; reply = reply };

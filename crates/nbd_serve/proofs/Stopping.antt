@@ -4,13 +4,13 @@ use Rattle.std.specs.Prelude.{Contains, IsOk, OnOk, not}
 use Rattle.std.proofs.lemmas.Bool.{false≢true}
 use Rattle.std.proofs.lemmas.List.Elements.{Contains-append_right, Contains-get_or}
 use Rattle.byte_store.specs.Flat.{StoreState}
-use Rattle.byte_store.specs.Lasting.{Acknowledges, Covers, Flushes, Lasts, SameKeys, Shown, Shows}
+use Rattle.byte_store.specs.Lasting.{Acknowledges, Covers, Flushes, Lasts, SameKeys, Shown, ShowsState}
 use Rattle.byte_store.proofs.Lasts.{covering, lasts_ahead}
 use Rattle.byte_store.specs.declared.fault.StoreFault.{StoreFault}
 use Rattle.byte_store.specs.Changes.{IsFlushed, IsOverwritten}
 use Rattle.nbd_serve.specs.Answers.{Stores}
 use Rattle.nbd_serve.specs.Forcing.{Forces}
-use Rattle.nbd_serve.specs.Stopping.{Comes, IsAt, LeavesShown, LeavesStore, Path, StoreType, Survives}
+use Rattle.nbd_serve.specs.Stopping.{Comes, IsStoreAt, LeavesShown, LeavesStore, Path, StoreType, Survives}
 
 -- the head of a list, and what the rest has
 pub has_head : {X : Type 0} (x : X) (xs : List X) → Contains (x ∷ xs) x
@@ -40,7 +40,7 @@ pub came_none : {S : Type 0} (stays : S → S → Type 0) (old new : S) → new 
 came_none stays old new same = ([], same)
 
 -- a store always shows the bytes of its state and its keys
-pub at_own : {S : Type 0} (type : StoreType S) (store : S) (F : StoreState) → type.represents store F → IsAt type store F (record { bytes = F.bytes; keys = type.keys store })
+pub at_own : {S : Type 0} (type : StoreType S) (store : S) (F : StoreState) → type.represents store F → IsStoreAt type store F (record { bytes = F.bytes; keys = type.keys store })
 at_own type store F represented = record { represented = represented; shown = record { bytes_are = refl; keys_are = λ k. refl } }
 
 -- what a kill leaves, after one more call
@@ -86,7 +86,7 @@ leaves_on type changed durable before now G old mid new came lasts acknowledged 
 }
 
 -- one call that was refused
-pub leaves_refused : {S : Type 0} (type : StoreType S) (outcome : Result (Unit {0}) StoreFault) → (IsOk outcome → ⊥) → (durable : Type 0) (before now : Shown) (G : StoreState) (old new : S) → type.stays old new → IsAt type new G now
+pub leaves_refused : {S : Type 0} (type : StoreType S) (outcome : Result (Unit {0}) StoreFault) → (IsOk outcome → ⊥) → (durable : Type 0) (before now : Shown) (G : StoreState) (old new : S) → type.stays old new → IsStoreAt type new G now
     → Lasts type.outlasts type.moment type.outlasts_since before now old new → LeavesStore type (IsOk outcome) (IsOk outcome × durable) before old new G
 leaves_refused type outcome never durable before now G old new stays is lasts = record {
   came = came_one type.stays old new stays;
@@ -98,7 +98,7 @@ leaves_refused type outcome never durable before now G old new stays is lasts = 
 }
 
 -- one call of which nothing was said
-pub leaves_one : {S : Type 0} (type : StoreType S) (before now : Shown) (G : StoreState) (old new : S) → type.stays old new → IsAt type new G now
+pub leaves_one : {S : Type 0} (type : StoreType S) (before now : Shown) (G : StoreState) (old new : S) → type.stays old new → IsStoreAt type new G now
     → Lasts type.outlasts type.moment type.outlasts_since before now old new → LeavesStore type ⊥ ⊥ before old new G
 leaves_one type before now G old new stays is lasts = record {
   came = came_one type.stays old new stays;
@@ -118,7 +118,7 @@ flushed_bytes : (outcome : Result (Unit {0}) StoreFault) (F G : StoreState) → 
 flushed_bytes (Ok u) F G flushed = flushed.0
 flushed_bytes (Err reason) F G flushed = ap (λ (H : StoreState). H.bytes) flushed
 
-pub flush_leaves : {S : Type 0} (type : StoreType S) (outcome : Result (Unit {0}) StoreFault) (F G : StoreState) (what : Shown) (old new : S) → Shows (type.keys old) F what
+pub flush_leaves : {S : Type 0} (type : StoreType S) (outcome : Result (Unit {0}) StoreFault) (F G : StoreState) (what : Shown) (old new : S) → ShowsState (type.keys old) F what
     → type.stays old new → SameKeys (type.keys new) (type.keys old) → Lasts type.outlasts type.moment type.outlasts_since what what old new
     → OnOk outcome (Flushes type.outlasts what old new) → type.represents new G → IsFlushed outcome F G → LeavesShown type (IsOk outcome) what old new G
 flush_leaves type outcome F G what old new shown stays keys lasts flushes represented flushed = record {
@@ -137,7 +137,7 @@ pub flushed_if : {S : Type 0} (type : StoreType S) {ok : Type 0} (durable : Type
 flushed_if type durable to what old new G left = record { came = left.came; is = left.is; survives = left.survives; flushed = λ done. left.flushed (to done) }
 
 -- one that was not asked for
-pub unflushed_leaves : {S : Type 0} (type : StoreType S) (durable : Type 0) (F : StoreState) (what : Shown) (store : S) → (durable → ⊥) → IsAt type store F what
+pub unflushed_leaves : {S : Type 0} (type : StoreType S) (durable : Type 0) (F : StoreState) (what : Shown) (store : S) → (durable → ⊥) → IsStoreAt type store F what
     → LeavesShown type durable what store store F
 unflushed_leaves type durable F what store never is =
     record { came = came_none type.stays store store refl; is = is; survives = inl (refl, refl); flushed = λ done. absurd (never done) }
@@ -159,9 +159,9 @@ stored_on (Err fault) forced F M G offset bytes written forces =
     inr (forces.1, subst P (sym forces.0) written)
 
 -- no call
-pub untouched : {S : Type 0} (type : StoreType S) (F : StoreState) (what : Shown) (old new : S) → new ≡ old → IsAt type old F what → LeavesStore type ⊥ ⊥ what old new F
+pub untouched : {S : Type 0} (type : StoreType S) (F : StoreState) (what : Shown) (old new : S) → new ≡ old → IsStoreAt type old F what → LeavesStore type ⊥ ⊥ what old new F
 untouched {S} type F what old new same is =
-    let P : S → Type 0 = λ s. IsAt type s F what in record {
+    let P : S → Type 0 = λ s. IsStoreAt type s F what in record {
       came = came_none type.stays old new same;
       now = what;
       is = subst P (sym same) is;

@@ -1,10 +1,10 @@
 -- What a kill or a loss of power leaves of a store, during a session and after it.
 use Rattle.std.specs.Prelude.{◌≡◌, ℕ, ◌≤◌, ◌⊎◌, List, [], ◌∷◌, ◌++◌}
 use Rattle.byte_store.specs.Flat.{StoreState}
-use Rattle.byte_store.specs.Lasting.{Shown, Within}
+use Rattle.byte_store.specs.Lasting.{Shown, HasAllOf}
 use Rattle.byte_store.specs.declared.fault.StoreFault.{StoreFault}
 use Rattle.nbd_serve.specs.Exchanges.{Exchange, RunsSession}
-use Rattle.nbd_serve.specs.Stopping.{Comes, IsAt, SaysChanged, SaysDurable, StoreType}
+use Rattle.nbd_serve.specs.Stopping.{Comes, IsStoreAt, SaysChanged, SaysDurable, StoreType}
 
 -- the store when a request was answered and when it had rested, and what it showed then
 pub record Round (S : Type 0) : Type 0 where
@@ -14,18 +14,18 @@ pub record Round (S : Type 0) : Type 0 where
   pub after : Shown
 
 -- a round of a store that represents this state in it
-pub record IsRound {S : Type 0} (type : StoreType S) (old : S) (G : StoreState) (r : Round S) : Type 0 where
+pub record IsServedRound {S : Type 0} (type : StoreType S) (old : S) (G : StoreState) (r : Round S) : Type 0 where
   pub came : Comes type.stays old r.answered
-  pub answered : IsAt type r.answered G r.then
+  pub answered : IsStoreAt type r.answered G r.then
   pub went : Comes type.stays r.answered r.rested
-  pub rested : IsAt type r.rested G r.after
+  pub rested : IsStoreAt type r.rested G r.after
 
 -- a round for each exchange, each from the store that the one before it left
-abbrev pub AreRounds : {S : Type 0} → StoreType S → (may : StoreFault → Type 0) (size : ℕ) (F : StoreState) (xs : List Exchange) (H : StoreState) → RunsSession may size F xs H → S → List (Round S) → S → Type 0
-AreRounds type may size F [] H run old [] last = last ≡ old
-AreRounds type may size F (x ∷ xs) H run old (r ∷ rs) last = IsRound type old run.0 r × AreRounds type may size run.0 xs H run.2 r.rested rs last
-AreRounds type may size F [] H run old (r ∷ rs) last = ⊥
-AreRounds type may size F (x ∷ xs) H run old [] last = ⊥
+abbrev pub AreServedRounds : {S : Type 0} → StoreType S → (may : StoreFault → Type 0) (size : ℕ) (F : StoreState) (xs : List Exchange) (H : StoreState) → RunsSession may size F xs H → S → List (Round S) → S → Type 0
+AreServedRounds type may size F [] H run old [] last = last ≡ old
+AreServedRounds type may size F (x ∷ xs) H run old (r ∷ rs) last = IsServedRound type old run.0 r × AreServedRounds type may size run.0 xs H run.2 r.rested rs last
+AreServedRounds type may size F [] H run old (r ∷ rs) last = ⊥
+AreServedRounds type may size F (x ∷ xs) H run old [] last = ⊥
 
 -- what the store showed, from the first on, at each of its rounds
 abbrev pub passed : {S : Type 0} → Shown → List (Round S) → List Shown
@@ -34,8 +34,8 @@ passed first (r ∷ rs) = first ∷ r.then ∷ passed r.after rs
 
 -- a list has all of two others
 pub record CoversBoth (more one two : List Shown) : Type 0 where
-  pub first : Within one more
-  pub second : Within two more
+  pub first : HasAllOf one more
+  pub second : HasAllOf two more
 
 -- Each of some calls is there whole or not at all: a stop during them or after them leaves what a stop before them would have left, or
 -- what the store showed in between.
@@ -48,7 +48,7 @@ pub record LastsThrough {S : Type 0} (type : StoreType S) (states : List Shown) 
   -- for a run that began earlier
   pub earlier : (t : ℕ) (since_killed since_cut killed cut more_killed more_cut : List Shown) → t ≤ type.moment old
       → type.outlasts_since old t since_killed since_cut → type.outlasts old killed cut
-      → Within since_killed more_killed → Within since_cut more_cut → CoversBoth more_killed killed states → CoversBoth more_cut cut states
+      → HasAllOf since_killed more_killed → HasAllOf since_cut more_cut → CoversBoth more_killed killed states → CoversBoth more_cut cut states
       → type.outlasts_since new t more_killed more_cut
 
 -- the moments of rounds don't fall
@@ -81,10 +81,10 @@ pub record Endures {S : Type 0} (type : StoreType S) (may : StoreFault → Type 
     (run : RunsSession may size F xs H) (G : StoreState) (first : Shown) (old new : S) : Type 0 where
   pub rounds : List (Round S)
   pub last : S
-  pub are : AreRounds type may size F xs H run old rounds last
+  pub are : AreServedRounds type may size F xs H run old rounds last
   pub came : Comes type.stays last new
   pub final : Shown
-  pub is : IsAt type new G final
+  pub is : IsStoreAt type new G final
   pub lasts : ((xs ≡ []) × (new ≡ old) × (final ≡ first)) ⊎ LastsThrough type (final ∷ passed first rounds) old new
   -- the exchanges' moments rise from that of the store before to that of the store after
   pub rise : (killed cut : List Shown) → type.outlasts old killed cut → Rise type.moment (type.moment old) rounds (type.moment new)

@@ -11,7 +11,7 @@ use Rattle.nbd_serve.specs.Halts.{end_of}
 use Rattle.nbd_serve.specs.declared.halt.Halt.{Halt}
 
 -- a whole exchange. `leaves` says more of the next state, by the request and the reply
-pub record IsCompleted (leaves : Request → List ℕ → StoreState → Type 0) (may : StoreFault → Type 0) (size : ℕ) (F : StoreState) (before after held now : Option (List ℕ)) : Type 0 where
+pub record IsWholeExchange (leaves : Request → List ℕ → StoreState → Type 0) (may : StoreFault → Type 0) (size : ℕ) (F : StoreState) (before after held now : Option (List ℕ)) : Type 0 where
   pub exchange : Exchange
   pub next : StoreState
   pub next_is : leaves exchange.request exchange.reply next
@@ -27,5 +27,5 @@ pub record IsStop (ends : StoreState → Type 0) (last : End) (may : StoreFault 
 
 -- an exchange, or a stop
 abbrev pub IsDoneOrStop : (Request → List ℕ → StoreState → Type 0) → (StoreState → Type 0) → Option Halt → (StoreFault → Type 0) → ℕ → StoreState → Option (List ℕ) → Option (List ℕ) → Option (List ℕ) → Option (List ℕ) → Type 0
-IsDoneOrStop leaves ends None may size F before after held now = IsCompleted leaves may size F before after held now
+IsDoneOrStop leaves ends None may size F before after held now = IsWholeExchange leaves may size F before after held now
 IsDoneOrStop leaves ends (Some last) may size F before after held now = IsStop ends (end_of last) may size F before after held now

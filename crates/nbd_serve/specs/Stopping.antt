@@ -1,7 +1,7 @@
 -- What a kill or a loss of power leaves of a store that was called for a request.
 use Rattle.std.specs.Prelude.{◌≡◌, ℕ, ◌⊎◌, List, [], ◌∷◌, Bool, true, false, IsTrue, None}
 use Rattle.byte_store.specs.Flat.{StoreState}
-use Rattle.byte_store.specs.Lasting.{Acknowledges, Flushes, Lasts, Shown, Shows}
+use Rattle.byte_store.specs.Lasting.{Acknowledges, Flushes, Lasts, Shown, ShowsState}
 use Rattle.nbd_wire.specs.declared.request.Command.{Command}
 use Rattle.nbd_wire.specs.declared.request.Command.TheVariants as command
 use Rattle.nbd_wire.specs.declared.request.Request.{Request}
@@ -24,9 +24,9 @@ store_type represents keys stays outlasts moment outlasts_since =
     record { represents = represents; keys = keys; stays = stays; outlasts = outlasts; moment = moment; outlasts_since = outlasts_since }
 
 -- a store represents a flat state, and shows this in it
-pub record IsAt {S : Type 0} (type : StoreType S) (store : S) (F : StoreState) (what : Shown) : Type 0 where
+pub record IsStoreAt {S : Type 0} (type : StoreType S) (store : S) (F : StoreState) (what : Shown) : Type 0 where
   pub represented : type.represents store F
-  pub shown : Shows (type.keys store) F what
+  pub shown : ShowsState (type.keys store) F what
 
 -- a store comes from another by calls, each of which left it as its type says; the list has the store after each
 abbrev pub Path : {S : Type 0} → (S → S → Type 0) → S → List S → S → Type 0
@@ -45,7 +45,7 @@ Survives type before now old new = ((new ≡ old) × (now ≡ before)) ⊎ Lasts
 pub record LeavesStore {S : Type 0} (type : StoreType S) (changed durable : Type 0) (before : Shown) (old new : S) (G : StoreState) : Type 0 where
   pub came : Comes type.stays old new
   pub now : Shown
-  pub is : IsAt type new G now
+  pub is : IsStoreAt type new G now
   pub survives : Survives type before now old new
   pub acknowledged : changed → Acknowledges type.outlasts before now old new
   pub flushed : durable → Flushes type.outlasts now old new
@@ -53,7 +53,7 @@ pub record LeavesStore {S : Type 0} (type : StoreType S) (changed durable : Type
 -- a call that leaves what is shown, and if it made all durable, any stop does
 pub record LeavesShown {S : Type 0} (type : StoreType S) (durable : Type 0) (what : Shown) (old new : S) (G : StoreState) : Type 0 where
   pub came : Comes type.stays old new
-  pub is : IsAt type new G what
+  pub is : IsStoreAt type new G what
   pub survives : Survives type what what old new
   pub flushed : durable → Flushes type.outlasts what old new
 

@@ -8,7 +8,7 @@ ghost use Rattle.nbd_serve.specs.Streams.{IsShort, Skips, end_by};
 ghost use Rattle.nbd_serve.specs.Refusals.{error_of, refusal_of};
 ghost use Rattle.nbd_serve.specs.Answers.{Stores, bytes_read};
 ghost use Rattle.nbd_serve.specs.Answering.{IsAnswered, IsReadReply, IsWriteServed};
-ghost use Rattle.nbd_serve.specs.Stopping.{IsAt, LeavesStore, LeavesBy, store_type};
+ghost use Rattle.nbd_serve.specs.Stopping.{IsStoreAt, LeavesStore, LeavesBy, store_type};
 
 use crate::calls::{Short, fill, skip};
 use crate::refusal::{error_of, refusal_of};
@@ -35,7 +35,7 @@ fn answer_read<S: ByteStore>(store: &mut S, request: &Request, out: &mut [u8]) -
     ensures count { result ≤ length out.new }
     ensures written { (F : StoreState) → S.represents store.old F → IsReadReply S.may_refuse F request.now (take result out.new) }
     ensures leaves { let type = store_type S.represents S.keys S.stays S.outlasts S.moment S.outlasts_since in
-        (F : StoreState) (a : Shown) → IsAt type store.old F a → LeavesStore type ⊥ ⊥ a store.old store.new F }
+        (F : StoreState) (a : Shown) → IsStoreAt type store.old F a → LeavesStore type ⊥ ⊥ a store.old store.new F }
     ensures sizes { S.sizes store.new ≡ S.sizes store.old }
 {
     let end = REPLY_LEN + request.length as usize;
@@ -61,7 +61,7 @@ fn take_write<R: Read, S: ByteStore>(
 ) -> Result<Result<(), StoreFault>, Short>
     requires within { request.now.offset + request.now.length ≤ (S.sizes store.old).bytes }
     ensures ok { let type = store_type S.represents S.keys S.stays S.outlasts S.moment S.outlasts_since in
-        IfOk result (λ outcome. (F : StoreState) (a : Shown) → IsAt type store.old F a →
+        IfOk result (λ outcome. (F : StoreState) (a : Shown) → IsStoreAt type store.old F a →
         IsWriteServed S.may_refuse (LeavesStore type (IsOk outcome) (IsOk outcome × IsTrue (is_forced request.now))
         a store.old store.new) outcome F request.now (R.remaining reader.old) (R.remaining reader.new)) }
     ensures err { IfErr result (λ short. (store.new ≡ store.old) ×
@@ -113,7 +113,7 @@ pub(crate) fn answer<R: Read, S: ByteStore>(
     requires room { 16 ≤ length out.old }
     ensures count { IfOk result (λ count. count ≤ length out.new) }
     ensures ok { let type = store_type S.represents S.keys S.stays S.outlasts S.moment S.outlasts_since in
-        IfOk result (λ count. (F : StoreState) (a : Shown) → IsAt type store.old F a →
+        IfOk result (λ count. (F : StoreState) (a : Shown) → IsStoreAt type store.old F a →
         IsAnswered (LeavesBy type a store.old store.new) S.may_refuse (S.sizes store.old).bytes F request.now
         (R.remaining reader.old) (R.remaining reader.new) (take count out.new)) }
     ensures err { IfErr result (λ short. (store.new ≡ store.old) ×

@@ -2,7 +2,7 @@
 ghost use Rattle.byte_store.specs.Flat.{StoreState};
 ghost use Rattle.byte_store.specs.Lasting.{Shown};
 ghost use Rattle.nbd_serve.specs.Sessions.{Session};
-ghost use Rattle.nbd_serve.specs.Stopping.{IsAt, store_type};
+ghost use Rattle.nbd_serve.specs.Stopping.{IsStoreAt, store_type};
 
 use crate::end::End;
 use crate::handshake::agree;
@@ -21,7 +21,7 @@ pub fn serve<R: Read, W: Write, S: ByteStore>(
     store: &mut S,
 ) -> End
     ensures { let type = store_type S.represents S.keys S.stays S.outlasts S.moment S.outlasts_since in
-        (F : StoreState) (a : Shown) → IsAt type store.old F a →
+        (F : StoreState) (a : Shown) → IsStoreAt type store.old F a →
         Session type S.may_refuse (S.sizes store.old) F a store.old store.new result
         (R.remaining reader.old) (R.remaining reader.new) (W.contents writer.old) (W.contents writer.new) }
 {

@@ -6,7 +6,7 @@ ghost use Rattle.nbd_wire.specs.Requests.{is_forced};
 ghost use Rattle.nbd_wire.specs.Replies.{reply_bytes};
 ghost use Rattle.nbd_serve.specs.Answers.{Stores, bytes_read};
 ghost use Rattle.nbd_serve.specs.Forcing.{Forces};
-ghost use Rattle.nbd_serve.specs.Stopping.{IsAt, LeavesShown, LeavesStore, store_type};
+ghost use Rattle.nbd_serve.specs.Stopping.{IsStoreAt, LeavesShown, LeavesStore, store_type};
 
 use crate::refusal::error_of;
 use byte_store::{ByteStore, StoreFault};
@@ -16,7 +16,7 @@ use std::alloc::Global;
 // A flush if the request has FUA set.
 fn force<S: ByteStore>(store: &mut S, request: &Request) -> Result<(), StoreFault>
     ensures change { let type = store_type S.represents S.keys S.stays S.outlasts S.moment S.outlasts_since in
-        (F : StoreState) (a : Shown) → IsAt type store.old F a →
+        (F : StoreState) (a : Shown) → IsStoreAt type store.old F a →
         (G : StoreState) × LeavesShown type (IsOk result × IsTrue (is_forced request.now)) a store.old store.new G
         × Forces result (is_forced request.now) F G }
     ensures cause { IfErr result S.may_refuse }
@@ -38,7 +38,7 @@ pub(crate) fn write<S: ByteStore>(
 ) -> Result<(), StoreFault>
     requires within { request.now.offset + length bytes.now ≤ (S.sizes store.old).bytes }
     ensures change { let type = store_type S.represents S.keys S.stays S.outlasts S.moment S.outlasts_since in
-        (F : StoreState) (a : Shown) → IsAt type store.old F a →
+        (F : StoreState) (a : Shown) → IsStoreAt type store.old F a →
         (G : StoreState) × LeavesStore type (IsOk result) (IsOk result × IsTrue (is_forced request.now)) a store.old store.new G
         × Stores result (is_forced request.now) F request.now.offset bytes.now G }
     ensures cause { IfErr result S.may_refuse }
@@ -58,7 +58,7 @@ pub(crate) fn zero<S: ByteStore>(
 ) -> Result<(), StoreFault>
     requires within { request.now.offset + request.now.length ≤ (S.sizes store.old).bytes }
     ensures change { let type = store_type S.represents S.keys S.stays S.outlasts S.moment S.outlasts_since in
-        (F : StoreState) (a : Shown) → IsAt type store.old F a →
+        (F : StoreState) (a : Shown) → IsStoreAt type store.old F a →
         (G : StoreState) × LeavesStore type (IsOk result) (IsOk result × IsTrue (is_forced request.now)) a store.old store.new G
         × Stores result (is_forced request.now) F request.now.offset (replicate request.now.length 0) G }
     ensures cause { IfErr result S.may_refuse }

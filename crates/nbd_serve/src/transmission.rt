@@ -4,7 +4,7 @@ ghost use Rattle.byte_store.specs.Flat.{StoreState};
 ghost use Rattle.byte_store.specs.Lasting.{Shown};
 ghost use Rattle.nbd_serve.specs.Serving.{Serves};
 ghost use Rattle.nbd_serve.specs.Stepping.{IsDoneOrStop};
-ghost use Rattle.nbd_serve.specs.Stopping.{IsAt, LeavesStore, LeavesBy, store_type};
+ghost use Rattle.nbd_serve.specs.Stopping.{IsStoreAt, LeavesStore, LeavesBy, store_type};
 
 use crate::answer::answer;
 use crate::calls::{fill, write_out};
@@ -58,7 +58,7 @@ fn exchange<R: Read, W: Write, S: ByteStore>(
     requires room { 16 ≤ length out.old.items }
     ensures room { 16 ≤ length out.new.items }
     ensures step { let type = store_type S.represents S.keys S.stays S.outlasts S.moment S.outlasts_since in
-        (F : StoreState) (a : Shown) → IsAt type store.old F a →
+        (F : StoreState) (a : Shown) → IsStoreAt type store.old F a →
         IsDoneOrStop (LeavesBy type a store.old store.new) (LeavesStore type ⊥ ⊥ a store.old store.new) result S.may_refuse (S.sizes store.old).bytes F
         (R.remaining reader.old) (R.remaining reader.new) (W.contents writer.old) (W.contents writer.new) }
     ensures sizes { S.sizes store.new ≡ S.sizes store.old }
@@ -92,7 +92,7 @@ pub fn transmit<R: Read, W: Write, S: ByteStore>(
     store: &mut S,
 ) -> End
     ensures { let type = store_type S.represents S.keys S.stays S.outlasts S.moment S.outlasts_since in
-        (F : StoreState) (a : Shown) → IsAt type store.old F a →
+        (F : StoreState) (a : Shown) → IsStoreAt type store.old F a →
         Serves type S.may_refuse (S.sizes store.old).bytes F a store.old store.new result
         (R.remaining reader.old) (R.remaining reader.new) (W.contents writer.old) (W.contents writer.new) }
 {

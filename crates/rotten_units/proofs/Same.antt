@@ -14,7 +14,7 @@ use Rattle.extent_groups.proofs.LayoutLaw.{layout_law}
 use Rattle.extent_groups.proofs.Missing.{total_none}
 use Rattle.extent_groups.proofs.Places.{same_or_not}
 use Rattle.extent_groups.proofs.Totals.{Row, length-xor_total, put_agrees, put_other, put_same, total_same, total_split}
-use Rattle.rotten_units.specs.Rows.{AreNotedOnce, AreRowsWhole, IsSiteSized, IsUsed, NotesOne, SameUsed}
+use Rattle.rotten_units.specs.Rows.{AreNotedOnce, AreRowsWhole, IsSiteSized, IsPlaceUsed, NotesOne, SameUsed}
 
 there_is : (o : Option (List ℕ)) → (o ≡ None → ⊥) → (v : List ℕ) × (o ≡ Some v)
 there_is None h = absurd (h refl)
@@ -99,7 +99,7 @@ module _ (n : ℕ) (c d : Cells) (noted : Place → Type 0) (decide : (x : Place
 -- Two states of the drives in which nothing is missing and all slots are sound, with units that differ only at noted places, of each row
 -- one at most: all units of the groups are the same.
 pub used_same : (groups : Groups) (c d : Cells) (noted : Place → Type 0) → ((x : Place) → noted x ⊎ (noted x → ⊥)) → AreRowsWhole groups c → AreRowsWhole groups d → AreNotedOnce noted groups
-    → ((x : Place) → IsUsed groups x → (noted x → ⊥) → held c x ≡ held d x) → SameUsed groups c d
+    → ((x : Place) → IsPlaceUsed groups x → (noted x → ⊥) → held c x ≡ held d x) → SameUsed groups c d
 used_same groups c d noted decide is also one same x (slot, site, at, of) =
     site_same (unit_bytes groups) c d noted decide site ((layout_law groups is.formed).whole slot site at) (one slot site at) (λ y on out. same y (slot, site, at, on) out)
     (is.sized slot site at) (also.sized slot site at) (is.sound slot site at) (also.sound slot site at) x of
@@ -114,7 +114,7 @@ not_true true out = absurd (out refl)
 not_true false out = refl
 
 pub used_same_by : (groups : Groups) (c d : Cells) (noted : Place → Bool) → AreRowsWhole groups c → AreRowsWhole groups d → AreNotedOnce (λ x. noted x ≡ true) groups
-    → ((x : Place) → IsUsed groups x → noted x ≡ false → held c x ≡ held d x) → SameUsed groups c d
+    → ((x : Place) → IsPlaceUsed groups x → noted x ≡ false → held c x ≡ held d x) → SameUsed groups c d
 used_same_by groups c d noted is also one same =
     used_same groups c d (λ x. noted x ≡ true) (λ x. decide_true (noted x)) is also one (λ x used out. same x used (not_true (noted x) out))
 

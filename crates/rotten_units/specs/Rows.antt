@@ -29,12 +29,12 @@ abbrev pub IsUntouched : (Place → Type 0) → Groups → ℕ → Type 0
 IsUntouched noted groups slot = (site : Site) → site_of groups slot ≡ Some site → NotesNone noted site
 
 -- a place of a copy of a slot, or of its row
-abbrev pub IsUsed : Groups → Place → Type 0
-IsUsed groups x = (slot : ℕ) × (site : Site) × (site_of groups slot ≡ Some site) × IsOf site x
+abbrev pub IsPlaceUsed : Groups → Place → Type 0
+IsPlaceUsed groups x = (slot : ℕ) × (site : Site) × (site_of groups slot ≡ Some site) × IsOf site x
 
 -- the same units at all places that the groups use
 abbrev pub SameUsed : Groups → Cells → Cells → Type 0
-SameUsed groups c d = (x : Place) → IsUsed groups x → held c x ≡ held d x
+SameUsed groups c d = (x : Place) → IsPlaceUsed groups x → held c x ≡ held d x
 
 -- each place of a site has a unit of n bytes
 abbrev pub IsSiteSized : ℕ → Cells → Site → Type 0

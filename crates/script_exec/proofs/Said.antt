@@ -8,7 +8,7 @@ use Rattle.script_syntax.specs.declared.verb.Tail.TheVariants as tail
 use Rattle.script_syntax.proofs.Spellings.{spelled_words}
 use Rattle.script_syntax.proofs.Table.{one_verb, tail_again}
 use Rattle.script_syntax.specs.Order as o
-use Rattle.script_syntax.specs.Spelling.{IsSized}
+use Rattle.script_syntax.specs.Spelling.{HasSizedPayload}
 use Rattle.script_exec.specs.declared.bench.Bench.{Bench}
 use Rattle.script_exec.specs.State.{Position, State, IsInLimits, IsWithin}
 use Rattle.script_exec.specs.Carrying.{IsCarried, MatchesState, MatchesAt}
@@ -83,7 +83,7 @@ replied P bench size blocks line old new order long many read other within carri
   order = order;
   spells = read.spells;
   answered = record {
-    due = (other, subst (λ n. IsSized n order) (sym long) read.sized);
+    due = (other, subst (λ n. HasSizedPayload n order) (sym long) read.sized);
     range = record { within = subst (λ n. IsWithin n order) (sym many) within; fit = fit_later order other };
     carried = carried;
   };

@@ -6,7 +6,7 @@ use Rattle.tiered_array.specs.Tiered.{Tiered}
 use Rattle.extents.specs.Sizes.{AreInRange}
 use Rattle.script_syntax.specs.Order.{Order, Number, Following, Reported, Members, following_of, numbers_of, verb_of}
 use Rattle.script_syntax.specs.Order as o
-use Rattle.script_syntax.specs.Spelling.{IsSized}
+use Rattle.script_syntax.specs.Spelling.{HasSizedPayload}
 use Rattle.script_syntax.specs.declared.verb.Kind.{Kind}
 use Rattle.script_syntax.specs.declared.verb.Kind.TheVariants as kind
 use Rattle.script_syntax.specs.declared.verb.Verb.TheVariants as verb
@@ -33,7 +33,7 @@ block_count (Some P) = P.tiers.flat.groups.blocks
 -- whether a command may come: the array once and first, every other one after it, and a payload of the array's length
 abbrev pub IsAdmissible : State → Order → Type 0
 IsAdmissible None order = verb_of order ≡ verb.Array
-IsAdmissible (Some P) order = (verb_of order ≡ verb.Array → ⊥) × IsSized P.tiers.flat.groups.payload order
+IsAdmissible (Some P) order = (verb_of order ≡ verb.Array → ⊥) × HasSizedPayload P.tiers.flat.groups.payload order
 
 -- the limit of each kind of number, with `count` blocks; sizes have theirs in `IsArrayInRange`
 abbrev pub IsKindInRange : ℕ → Kind → ℕ → Type 0

@@ -12,7 +12,7 @@ use Rattle.script_syntax.specs.Words.{words}
 use Rattle.script_syntax.specs.Order.{Order, Following, Nothing, Reported, Content, Members, following_of, kind_following, kinds_of, ordered, tail_of, values_of, verb_of, keyword_of}
 use Rattle.script_syntax.specs.Reading.{Finds, IsParsedAs, ParsesLine}
 use Rattle.script_syntax.specs.declared.command.Command.{Command}
-use Rattle.script_syntax.specs.Spelling.{member_word, line_of, FollowsVerb, IsTrailing, IsClassWord, IsLong, IsSized, IsWritableMember, PayloadAlone, SpellsCommand}
+use Rattle.script_syntax.specs.Spelling.{member_word, line_of, FollowsVerb, IsTrailing, IsClassWord, IsLong, HasSizedPayload, IsWritableMember, PayloadAlone, SpellsCommand}
 use Rattle.extent_groups.specs.declared.class.Class.{Class}
 use Rattle.extent_groups.specs.declared.class.Class.TheVariants as class
 use Rattle.script_syntax.specs.declared.command.Named.{Named}
@@ -100,7 +100,7 @@ found_spells asked size line word ws order cut named found = record {
 
 -- and a command that the line spells is found
 pub spelled_found : (asked : Verb) (size : ℕ) (line word : List ℕ) (ws : List (List ℕ)) (order : Order)
-    → words line ≡ word ∷ ws → word ≡ keyword_of asked → IsSized size order → SpellsCommand order line → IsParsedAs asked size ws order
+    → words line ≡ word ∷ ws → word ≡ keyword_of asked → HasSizedPayload size order → SpellsCommand order line → IsParsedAs asked size ws order
 spelled_found asked size line word ws order cut named sized s =
     let reported = sym cut ∙ spelled_words order line s in
     let rest : ws ≡ s.rest = cc in

@@ -95,5 +95,5 @@ abbrev pub IsLong : ℕ → Following → Type 0
 IsLong size (Content payload) = length payload ≡ size
 IsLong size _ = Unit {0}
 
-abbrev pub IsSized : ℕ → Order → Type 0
-IsSized size order = IsLong size (following_of order)
+abbrev pub HasSizedPayload : ℕ → Order → Type 0
+HasSizedPayload size order = IsLong size (following_of order)

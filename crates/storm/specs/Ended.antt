@@ -14,5 +14,5 @@ storm_status reported.Nothing = 4
 storm_status reported.Unwritten = 5
 
 -- what is written of a storm is reported, and the status is that of the report
-abbrev pub IsEnded : Result Storm StormFault → ℕ → Option (List ℕ) → Option (List ℕ) → Type 0
-IsEnded ended status held now = (reported : Reported) × (IsReported ended reported held now) × (status ≡ storm_status reported)
+abbrev pub IsReportedEnd : Result Storm StormFault → ℕ → Option (List ℕ) → Option (List ℕ) → Type 0
+IsReportedEnd ended status held now = (reported : Reported) × (IsReported ended reported held now) × (status ≡ storm_status reported)

@@ -1,6 +1,6 @@
 // The status that a storm ends with.
 ghost use Rattle.std.specs.Prelude.{◌≡◌};
-ghost use Rattle.storm.specs.Ended.{IsEnded, storm_status};
+ghost use Rattle.storm.specs.Ended.{IsReportedEnd, storm_status};
 
 use crate::outcome::{Storm, StormFault};
 use crate::reported::{Reported, report_storm};
@@ -8,7 +8,7 @@ use std::io::Write;
 
 /// Writes the line that a storm ends with, and returns the status to end with.
 pub fn end_storm<W: Write>(writer: &mut W, ended: Result<Storm, StormFault>) -> u8
-    ensures { IsEnded ended result (W.contents writer.old) (W.contents writer.new) }
+    ensures { IsReportedEnd ended result (W.contents writer.old) (W.contents writer.new) }
 {
     report_storm(writer, ended).status()
 }

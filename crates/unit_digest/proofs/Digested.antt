@@ -4,7 +4,7 @@ use Rattle.std.specs.Int.{w32, w64, from_le_bytes}
 use Rattle.std.proofs.Common.{refl, sym, ◌∙◌, ap, arith}
 use Rattle.std.proofs.Math.Nat.{mod-lt, mod-eq_of_lt, div-add-mod}
 use Rattle.std.proofs.lemmas.Nat.{from_le_bytes-to_le_bytes_8}
-use Rattle.unit_digest.specs.Digests.{start, word, sums_over, words_of, digest_bytes, digest}
+use Rattle.unit_digest.specs.Digests.{first_sums, word, sums_over, words_of, digest_bytes, digest}
 use Rattle.unit_digest.specs.declared.sums.Sums.{Sums}
 
 -- a digest has 32 bytes
@@ -34,7 +34,7 @@ first_of : (s t : Sums) → s.first < 2 ^ 64 → t.first < 2 ^ 64 → digest_byt
 first_of s t ls lt e =
     sym (from_le_bytes-to_le_bytes_8 s.first ls) ∙ ap (λ (bytes : List ℕ). from_le_bytes w64 (take 8 bytes)) e ∙ from_le_bytes-to_le_bytes_8 t.first lt
 
-start_small : (drive address : ℕ) → drive < 2 ^ 8 → address < 2 ^ 32 → (start drive address).first < 2 ^ 64
+start_small : (drive address : ℕ) → drive < 2 ^ 8 → address < 2 ^ 32 → (first_sums drive address).first < 2 ^ 64
 start_small drive address ld la = omega (arith, ld, la)
 
 pub places_apart : (drive address other there : ℕ) (unit : List ℕ) → drive < 2 ^ 8 → address < 2 ^ 32 → other < 2 ^ 8 → there < 2 ^ 32 → digest drive address unit ≡ digest other there unit → (drive ≡ other) × (address ≡ there)
@@ -44,8 +44,8 @@ places_apart drive address other there unit ld la lo lt e =
     let one = start_small drive address ld la in
     let two = start_small other there lo lt in
     let first : 2 ^ 32 * drive + address + 1 ≡ 2 ^ 32 * other + there + 1 =
-    first_same (start drive address) (start other there) unit n one two
-    (first_of (sums_over (start drive address) unit n) (sums_over (start other there) unit n) (first_small (start drive address) unit n one) (first_small (start other there) unit n two) e) in
+    first_same (first_sums drive address) (first_sums other there) unit n one two
+    (first_of (sums_over (first_sums drive address) unit n) (sums_over (first_sums other there) unit n) (first_small (first_sums drive address) unit n one) (first_small (first_sums other there) unit n two) e) in
     (omega (arith, first, la, lt), omega (arith, first, la, lt))
 
 -- words of zeros add nothing to the first sum
@@ -73,8 +73,8 @@ unfolding digest
 zeros_differ drive address bytes ld la e =
     let n = words_of (length (replicate bytes 0)) in
     let one = start_small drive address ld la in
-    let sums = sums_over (start drive address) (replicate bytes 0) n in
-    let first : sums.first ≡ 2 ^ 32 * drive + address + 1 = first_of_zeros (start drive address) bytes n one in
+    let sums = sums_over (first_sums drive address) (replicate bytes 0) n in
+    let first : sums.first ≡ 2 ^ 32 * drive + address + 1 = first_of_zeros (first_sums drive address) bytes n one in
     let none : sums.first ≡ 0 =
-    sym (from_le_bytes-to_le_bytes_8 sums.first (first_small (start drive address) (replicate bytes 0) n one)) ∙ ap (λ (bs : List ℕ). from_le_bytes w64 (take 8 bs)) e in
+    sym (from_le_bytes-to_le_bytes_8 sums.first (first_small (first_sums drive address) (replicate bytes 0) n one)) ∙ ap (λ (bs : List ℕ). from_le_bytes w64 (take 8 bs)) e in
     omega (arith, first, none)

@@ -4,8 +4,8 @@ use Rattle.std.specs.Int.{w32, w64, to_le_bytes, from_le_bytes}
 use Rattle.unit_digest.specs.declared.sums.Sums.{Sums}
 
 -- the sums before the first word; the first isn't 0, and differs at each place
-abbrev pub start : ℕ → ℕ → Sums
-start drive address = record { first = 2 ^ 32 * drive + address + 1; second = 0; third = 0; fourth = 0 }
+abbrev pub first_sums : ℕ → ℕ → Sums
+first_sums drive address = record { first = 2 ^ 32 * drive + address + 1; second = 0; third = 0; fourth = 0 }
 
 -- each sum with the one before it added, modulo 2^64
 abbrev pub with_word : Sums → ℕ → Sums
@@ -34,4 +34,4 @@ digest_bytes s = to_le_bytes w64 s.first ++ (to_le_bytes w64 s.second ++ (to_le_
 
 -- the digest of a unit at an address of a drive
 unfoldable pub digest : ℕ → ℕ → List ℕ → List ℕ
-digest drive address unit = digest_bytes (sums_over (start drive address) unit (words_of (length unit)))
+digest drive address unit = digest_bytes (sums_over (first_sums drive address) unit (words_of (length unit)))

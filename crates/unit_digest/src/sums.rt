@@ -1,6 +1,6 @@
 // Fletcher-4: four sums of 64 bits, each of the one before it, over words of 32 bits.
 ghost use Rattle.std.specs.Prelude.{◌≡◌};
-ghost use Rattle.unit_digest.specs.Digests.{start as the_start, with_word as the_with_word, digest_bytes};
+ghost use Rattle.unit_digest.specs.Digests.{first_sums as the_start, with_word as the_with_word, digest_bytes};
 
 /// The sums over the first words of a unit.
 #[derive(Clone, Copy)]

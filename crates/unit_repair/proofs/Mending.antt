@@ -11,7 +11,7 @@ use Rattle.vault.specs.declared.store.Stop.{Stop}
 use Rattle.vault.proofs.Runs.{both_runs, goes_on, started, weaker}
 use Rattle.vault.proofs.Writes.{front_torn}
 use Rattle.rotten_units.specs.Loaded.{AreFormed, AreReadOrNoted, HaveUnits, OnlyRead, SameAttested}
-use Rattle.rotten_units.specs.Rows.{AreNotedOnce, IsUsed}
+use Rattle.rotten_units.specs.Rows.{AreNotedOnce, IsPlaceUsed}
 use Rattle.rotten_units.specs.Written.{DiffersAt, LeavesAt, WroteAt}
 use Rattle.rotten_units.proofs.Same.{there, used_same}
 use Rattle.rotten_units.proofs.Writing.{differs_more, differs_not, wrote_both}

@@ -25,7 +25,7 @@ use Rattle.unit_store.specs.Memory.{held_failures, held_lost, held_units}
 use Rattle.unit_store.specs.Slots.{cells_in}
 use Rattle.unit_store.specs.declared.parts.Parts.{Parts}
 use Rattle.vault.specs.Images.{Image}
-use Rattle.rotten_units.specs.Rows.{AreNotedOnce, AreRowsWhole, IsSiteSized, IsUsed}
+use Rattle.rotten_units.specs.Rows.{AreNotedOnce, AreRowsWhole, IsSiteSized, IsPlaceUsed}
 use Rattle.rotten_units.specs.Written.{WroteFrom}
 use Rattle.rotten_units.proofs.Computing.{keeps_not}
 use Rattle.rotten_units.proofs.Same.{site_same, there}
@@ -132,7 +132,7 @@ module _ (noted : Place → Type 0) (decide : (x : Place) → noted x ⊎ (noted
         ∙ same x (slot, site, at, of) out
 
   -- each noted unit of the groups is in memory as it was written last
-  pub noted_right : (x : Place) → IsUsed old.groups x → noted x → held (cells_in held_units held_lost new) x ≡ held written x
+  pub noted_right : (x : Place) → IsPlaceUsed old.groups x → noted x → held (cells_in held_units held_lost new) x ≡ held written x
   noted_right x (slot, site, at, of) on =
       site_same (unit_bytes old.groups) (cells_in held_units held_lost new) written noted decide site ((layout_law old.groups whole.formed).whole slot site at) (is.once slot site at)
       (unnoted_same slot site at) (memory_sized slot site at) (whole.sized slot site at) (is.sound slot site at x of on) (whole.sound slot site at) x of

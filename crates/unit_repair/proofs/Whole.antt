@@ -13,7 +13,7 @@ use Rattle.extent_groups.proofs.Sites.{site_places}
 use Rattle.flat_machine.specs.Flat.{Stored}
 use Rattle.unit_store.specs.Shows.{ShowsUnits}
 use Rattle.unit_store.specs.Views.{DriveView, drive_lost, drive_units}
-use Rattle.rotten_units.specs.Rows.{AreRowsWhole, IsSiteSized, IsUsed, SameUsed}
+use Rattle.rotten_units.specs.Rows.{AreRowsWhole, IsSiteSized, IsPlaceUsed, SameUsed}
 use Rattle.rotten_units.proofs.Same.{there, unit_same}
 use Rattle.unit_repair.specs.Mended.{AreVerified}
 
@@ -62,7 +62,7 @@ module _ (groups : Groups) (drives units : ℕ) (c : Cells) (is : AreVerified gr
   whole = record { formed = is.formed; sized = verified_sized; sound = verified_sound }
 
   -- a place that the groups use is one of the drives'
-  pub used_inside : (x : Place) → IsUsed groups x → (x.drive < drives) × (x.address < units)
+  pub used_inside : (x : Place) → IsPlaceUsed groups x → (x.drive < drives) × (x.address < units)
   used_inside x (slot, site, at, of) =
       let place = site_places drive_units groups is.views slot site is.formed is.fit at x of in
       let v = there is.views x.drive place.inside in (

@@ -13,7 +13,7 @@ use Rattle.unit_store.specs.Memory.{held_failures, held_lost, held_units}
 use Rattle.unit_store.specs.Slots.{cells_in}
 use Rattle.unit_store.specs.declared.parts.Parts.{Parts}
 use Rattle.vault.specs.Images.{Image}
-use Rattle.rotten_units.specs.Rows.{AreNotedOnce, IsUsed}
+use Rattle.rotten_units.specs.Rows.{AreNotedOnce, IsPlaceUsed}
 use Rattle.rotten_units.specs.Written.{IsKeptOrFrom}
 
 -- drives in memory that answer
@@ -41,9 +41,9 @@ pub record IsComputed (noted : Place → Type 0) (old new : Parts Held) : Type 0
 
 -- the units of the groups in memory are these, but for noted ones
 abbrev pub SameButNoted : (Place → Type 0) → Groups → (memory written : Cells) → Type 0
-SameButNoted noted groups memory written = (x : Place) → IsUsed groups x → (noted x → ⊥) → held memory x ≡ held written x
+SameButNoted noted groups memory written = (x : Place) → IsPlaceUsed groups x → (noted x → ⊥) → held memory x ≡ held written x
 
 -- Of writes at noted places no other unit of the groups is attested than before, but for those that are as they were written last.
 abbrev pub WroteRight : {V : Type 0} (seen : V → Image) (attested : V → Place → Type 0) (noted : Place → Type 0) (groups : Groups) (written : Cells) (old new : V) → Type 0
 WroteRight seen attested noted groups written old new =
-    (x : Place) → IsUsed groups x → attested new x → IsKeptOrFrom (attested old) noted written (seen old).cells (seen new).cells x
+    (x : Place) → IsPlaceUsed groups x → attested new x → IsKeptOrFrom (attested old) noted written (seen old).cells (seen new).cells x

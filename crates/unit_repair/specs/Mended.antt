@@ -7,7 +7,7 @@ use Rattle.extent_groups.specs.Stores.{AreDrives, AreSound}
 use Rattle.unit_store.specs.Views.{DriveView, drive_lost, drive_units}
 use Rattle.vault.specs.Images.{Alike, Image}
 use Rattle.vault.specs.declared.store.Stop.{Stop}
-use Rattle.rotten_units.specs.Rows.{IsUsed, SameUsed}
+use Rattle.rotten_units.specs.Rows.{IsPlaceUsed, SameUsed}
 
 -- So many drives, each with this many units, lie in a vault, and all slots of the groups are sound: none is lost, copies are equal,
 -- and rows add up to zero.
@@ -29,7 +29,7 @@ AttestsWritten attested drives written now = (x : Place) → x.drive < drives �
 
 -- the same of each unit of the groups that is attested
 abbrev pub AttestsUsed : (groups : Groups) (attested : Place → Type 0) → Cells → Cells → Type 0
-AttestsUsed groups attested written now = (x : Place) → IsUsed groups x → attested x → held now x ≡ held written x
+AttestsUsed groups attested written now = (x : Place) → IsPlaceUsed groups x → attested x → held now x ≡ held written x
 
 -- the places that may be written: those of the first drives' units, each with this many, that aren't attested
 abbrev pub MayBeMended : (attested : Place → Type 0) (drives units : ℕ) → Place → Type 0

@@ -94,15 +94,15 @@ pub record IsUnchanged {V : Type 0} (seen : V → Image) (may_leave : V → Stop
   pub leaves : (stop : Stop) → Within (may_leave new stop) (may_leave old stop)
 
 -- whether a unit of this length is at a place, and that unit
-abbrev pub IsThere : Cells → Place → List ℕ → Bool → Type 0
-IsThere c place out true = held c place ≡ Some out
-IsThere c place out false = (unit : List ℕ) → held c place ≡ Some unit → length unit ≢ length out
+abbrev pub IsUnitThere : Cells → Place → List ℕ → Bool → Type 0
+IsUnitThere c place out true = held c place ≡ Some out
+IsUnitThere c place out false = (unit : List ℕ) → held c place ≡ Some unit → length unit ≢ length out
 
 -- What a read of a place's unit answers: there it is, none of this length is there, or one of this length is there that isn't as
 -- its digest says. Of a rotten unit's bytes nothing is said.
 abbrev pub IsUnitAt : Cells → Place → List ℕ → UnitRead → Type 0
-IsUnitAt c place out Whole = IsThere c place out true
-IsUnitAt c place out Absent = IsThere c place out false
+IsUnitAt c place out Whole = IsUnitThere c place out true
+IsUnitAt c place out Absent = IsUnitThere c place out false
 IsUnitAt c place out Rotten = (unit : List ℕ) × (held c place ≡ Some unit) × (length unit ≡ length out)
 
 -- the answer by whether a unit of this length is there, where none is rotten

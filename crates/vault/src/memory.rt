@@ -1,7 +1,7 @@
 // A vault in memory that keeps its calls. A stop leaves all that the contract of a vault lets it leave.
 ghost use Rattle.std.specs.Prelude.{◌≡◌, ◌++◌, [], ◌∷◌, ◌<◌, ◌≤◌, ◌+◌, ◌^◌, ℕ, List, length, IfOk, OnOk, OnErr, IfErr, ⊤};
 ghost use Rattle.vault.specs.Images.{Image};
-ghost use Rattle.vault.specs.Moments.{IsThere, read_of as the_read_of};
+ghost use Rattle.vault.specs.Moments.{IsUnitThere, read_of as the_read_of};
 ghost use Rattle.vault.specs.Replay.{seen_at, seen_after, HasBatchAt, leaves_at, LeftSince, left_now, only_left};
 ghost use Rattle.vault.specs.declared.memory.Call.{Call};
 ghost use Rattle.vault.specs.declared.store.VaultError.TheVariants.{Memory};
@@ -116,7 +116,7 @@ fn find_in(call: &Call, count: usize, index: usize, found: &mut Batch) -> Result
 
 // Whether a unit of this length is at a place after these calls, and that unit.
 fn find_unit(calls: &[Call], place: Place, out: &mut [u8]) -> bool
-    ensures { IsThere (Image.cells (seen_at calls.now)) place out.new result }
+    ensures { IsUnitThere (Image.cells (seen_at calls.now)) place out.new result }
 {
     // At first each place holds a unit without bytes.
     let mut there = out.is_empty();
@@ -128,7 +128,7 @@ fn find_unit(calls: &[Call], place: Place, out: &mut [u8]) -> bool
 
 // Whether a unit of this length is at a place after one call more, and that unit.
 fn unit_after(call: &Call, place: Place, there: bool, out: &mut [u8]) -> bool
-    ensures { (calls : List Call) → IsThere (Image.cells (seen_at calls)) place out.old there → IsThere (Image.cells (seen_after call.now (seen_at calls))) place out.new result }
+    ensures { (calls : List Call) → IsUnitThere (Image.cells (seen_at calls)) place out.old there → IsUnitThere (Image.cells (seen_after call.now (seen_at calls))) place out.new result }
 {
     let Call::Unit(at, unit) = call else {
         return there;

@@ -7,7 +7,7 @@ use Rattle.tiered_array.specs.Views.{TiersView}
 use Rattle.vault.specs.Images.{Image}
 use Rattle.vault.specs.declared.store.Stop.{Stop}
 use Rattle.byte_store.specs.Flat.{StoreState}
-use Rattle.byte_store.specs.Lasting.{Lasts, Shown, Shows}
+use Rattle.byte_store.specs.Lasting.{Lasts, Shown, ShowsState}
 use Rattle.byte_store.specs.declared.fault.StoreFault.{StoreFault}
 use Rattle.nbd_serve.specs.Stopping.{StoreType}
 use Rattle.nbd_serve.specs.declared.end.End.{End}
@@ -37,9 +37,9 @@ pub on_after : (groups : Groups) (drives : ℕ) (old new : TiersView) → IsOn g
 on_after groups drives old new on follows = record { groups_are = follows.groups ∙ on.groups_are; many = follows.many ∙ on.many }
 
 -- what a store shows whose parts are the same
-pub shows_then : (was now : StoreView) (u w : Bool) (F : StoreState) (what : Shown) → now ≡ was → w ≡ u → Shows was.tiers.world.array.keys F what × IsStoreOf was.tiers was.size u F
-    → Shows now.tiers.world.array.keys F what × IsStoreOf now.tiers now.size w F
-shows_then was now u w F what same noted there = subst (λ (s : StoreView). Shows s.tiers.world.array.keys F what × IsStoreOf s.tiers s.size w F) (sym same)
+pub shows_then : (was now : StoreView) (u w : Bool) (F : StoreState) (what : Shown) → now ≡ was → w ≡ u → ShowsState was.tiers.world.array.keys F what × IsStoreOf was.tiers was.size u F
+    → ShowsState now.tiers.world.array.keys F what × IsStoreOf now.tiers now.size w F
+shows_then was now u w F what same noted there = subst (λ (s : StoreView). ShowsState s.tiers.world.array.keys F what × IsStoreOf s.tiers s.size w F) (sym same)
     (there.0, subst (λ b. IsStoreOf was.tiers was.size b F) (sym noted) there.1)
 
 module _ {V : Type 0} (known : V → Type 0) (seen : V → Image) (may_leave : V → Stop → Image → Type 0) (moment : V → ℕ) (left_since : V → Stop → ℕ → Image → Type 0) where

@@ -2,13 +2,13 @@
 use Rattle.std.proofs.Common.{◌≡◌, ℕ, ◌≤◌, ◌⊎◌, List, [], ◌∷◌, ◌++◌, inl, inr, refl, sym, ap, subst, arith, ◌∙◌, Option}
 use Rattle.std.specs.Prelude.{Contains}
 use Rattle.byte_store.specs.Flat.{Sizes, StoreState}
-use Rattle.byte_store.specs.Lasting.{Covers, Lasts, Shown, Within}
+use Rattle.byte_store.specs.Lasting.{Covers, Lasts, Shown, HasAllOf}
 use Rattle.byte_store.specs.declared.fault.StoreFault.{StoreFault}
 use Rattle.journaled_store.proofs.Opening.{alone, one_of}
-use Rattle.nbd_serve.specs.Enduring.{AreRounds, CoversBoth, Endures, HoldsSince, Rise, Round, passed}
+use Rattle.nbd_serve.specs.Enduring.{AreServedRounds, CoversBoth, Endures, HoldsSince, Rise, Round, passed}
 use Rattle.nbd_serve.specs.Exchanges.{Exchange, RunsSession}
 use Rattle.nbd_serve.specs.Sessions.{Session}
-use Rattle.nbd_serve.specs.Stopping.{Comes, IsAt, Path, StoreType}
+use Rattle.nbd_serve.specs.Stopping.{Comes, IsStoreAt, Path, StoreType}
 use Rattle.nbd_serve.proofs.Stopping.{has_head, has_rest}
 use Rattle.nbd_serve.specs.declared.end.End.{End}
 
@@ -18,7 +18,7 @@ passed_first first [] = has_head first []
 passed_first first (r ∷ rs) = has_head first (r.then ∷ passed r.after rs)
 
 -- a list that covers itself and one that it has
-pub covers_one : (more some : List Shown) (x : Shown) → Within some more → Contains more x → Covers more some x x
+pub covers_one : (more some : List Shown) (x : Shown) → HasAllOf some more → Contains more x → Covers more some x x
 covers_one more some x within has = record { each = within; has_before = has; has_now = has }
 
 -- moments that rise to the last
@@ -42,7 +42,7 @@ module _ {S : Type 0} (type : StoreType S) where
     comes_same old new came = path_same came.0 old new came.1
 
     rounds_same : (may : StoreFault → Type 0) (size : ℕ) (F : StoreState) (xs : List Exchange) (H : StoreState) (run : RunsSession may size F xs H) (old : S) (rs : List (Round S)) (last : S)
-        → AreRounds type may size F xs H run old rs last → f last ≡ f old
+        → AreServedRounds type may size F xs H run old rs last → f last ≡ f old
     rounds_same may size F [] H run old [] last are = ap f are
     rounds_same may size F [] H run old (r ∷ rs) last are = absurd are
     rounds_same may size F (x ∷ xs) H run old [] last are = absurd are
@@ -70,7 +70,7 @@ module _ {S : Type 0} (type : StoreType S) where
   pub record Held (new : S) (t : ℕ) (final : Shown) (all : List Shown) : Type 0 where
     pub list : List Shown
     pub holds : HoldsSince type new t list list
-    pub within : Within list all
+    pub within : HasAllOf list all
     pub ends : Contains list final
 
   pub held_still : (t : ℕ) (what final : Shown) (old new : S) (all : List Shown) → new ≡ old → final ≡ what → Contains all what
@@ -102,7 +102,7 @@ module _ {S : Type 0} (type : StoreType S) where
       ]
 
   -- what a store shows after a session
-  pub session_ends : (may : StoreFault → Type 0) (sizes : Sizes) (F : StoreState) (first : Shown) (old new : S) (last : End) (before after held now : Option (List ℕ)) → IsAt type old F first
-      → Session type may sizes F first old new last before after held now → (G : StoreState) × (x : Shown) × IsAt type new G x
-  session_ends may sizes F first old new last before after held now is (inl turned) = let P : S → Type 0 = λ s. IsAt type s F first in (F, first, subst P (sym turned.same) is)
+  pub session_ends : (may : StoreFault → Type 0) (sizes : Sizes) (F : StoreState) (first : Shown) (old new : S) (last : End) (before after held now : Option (List ℕ)) → IsStoreAt type old F first
+      → Session type may sizes F first old new last before after held now → (G : StoreState) × (x : Shown) × IsStoreAt type new G x
+  session_ends may sizes F first old new last before after held now is (inl turned) = let P : S → Type 0 = λ s. IsStoreAt type s F first in (F, first, subst P (sym turned.same) is)
   session_ends may sizes F first old new last before after held now is (inr served) = let e = served.serves.endures in (served.serves.final, e.final, e.is)

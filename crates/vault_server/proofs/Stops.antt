@@ -3,7 +3,7 @@ use Rattle.std.proofs.Common.{◌≡◌, ℕ, ◌≤◌, ◌⊎◌, List, [], �
 use Rattle.std.specs.Prelude.{Contains, length}
 use Rattle.extent_groups.specs.Groups.{Groups}
 use Rattle.byte_store.specs.Flat.{Sizes, StoreState}
-use Rattle.byte_store.specs.Lasting.{Covers, Flushes, Lasts, Shown, Within}
+use Rattle.byte_store.specs.Lasting.{Covers, Flushes, Lasts, Shown, HasAllOf}
 use Rattle.byte_store.specs.declared.fault.StoreFault.{StoreFault}
 use Rattle.array_store.specs.Stores.{Follows}
 use Rattle.vault.specs.Images.{Image, recovered}
@@ -14,7 +14,7 @@ use Rattle.journaled_store.specs.Outlasting.{OpensAs, Outlasts, OutlastsSince, P
 use Rattle.nbd_serve.specs.Enduring.{AreKept, HoldsSince, IsHonored, Rise, Round, passed}
 use Rattle.nbd_serve.specs.Exchanges.{Exchange}
 use Rattle.nbd_serve.specs.Sessions.{Session}
-use Rattle.nbd_serve.specs.Stopping.{IsAt, StoreType}
+use Rattle.nbd_serve.specs.Stopping.{IsStoreAt, StoreType}
 use Rattle.nbd_serve.proofs.Stopping.{has_head, has_rest}
 use Rattle.nbd_serve.specs.declared.end.End.{End}
 use Rattle.vault_server.specs.Served.{AreFound, HasBegun, IsExchangeFound, IsOn, IsServedFrom, Opens, Outlived, StopsLeave, durable}
@@ -69,7 +69,7 @@ module _ {S V : Type 0} (type : StoreType S) (known : V → Type 0) (seen : V �
     opens_at : (stop : Stop) (t : ℕ) (killed cut : List Shown) → OutlastsSince HasBoth left_since q t killed cut → opens stop t (allowed stop killed cut)
     opens_at stop t killed cut since i left = these (allowed stop killed cut) i (since stop i left)
 
-    opens_within : (stop : Stop) (t : ℕ) (some more : List Shown) → Within some more → opens stop t some → opens stop t more
+    opens_within : (stop : Stop) (t : ℕ) (some more : List Shown) → HasAllOf some more → opens stop t some → opens stop t more
     opens_within stop t some more within given i left =
         let o = given i left in record { what = o.what; listed = within o.what o.listed; left = λ absent d there same. o.left absent d there same }
 
@@ -119,11 +119,11 @@ module _ {S V : Type 0} (type : StoreType S) (known : V → Type 0) (seen : V �
         }
 
     pub stops_leave : (may : StoreFault → Type 0) (sizes : Sizes) (F : StoreState) (what : Shown) (opened : S) (last : End) (before after held now : Option (List ℕ))
-        (session : Session type may sizes F what opened closed last before after held now) (t : ℕ) → IsAt type opened F what
-        → ((G : StoreState) (x : Shown) → IsAt type closed G x → Closes x) → t ≤ type.moment opened → HoldsSince type opened t (what ∷ []) (what ∷ [])
+        (session : Session type may sizes F what opened closed last before after held now) (t : ℕ) → IsStoreAt type opened F what
+        → ((G : StoreState) (x : Shown) → IsStoreAt type closed G x → Closes x) → t ≤ type.moment opened → HoldsSince type opened t (what ∷ []) (what ∷ [])
         → StopsLeave opens type.moment t (moment q.vault) ok what session
     stops_leave may sizes F what opened last before after held now (inl turned) t is close early was =
-        let P : S → Type 0 = λ s. IsAt type s F what in
+        let P : S → Type 0 = λ s. IsStoreAt type s F what in
         let all = what ∷ what ∷ [] in
         outlived t what what opened [] [] all early (close F what (subst P (sym turned.same) is)) (held_still type t what what opened closed all turned.same refl (has_head what (what ∷ [])) was)
         (has_head what (what ∷ [])) (let same = ap type.moment turned.same in omega (arith, same)) tt
@@ -137,9 +137,9 @@ module _ {S V : Type 0} (type : StoreType S) (known : V → Type 0) (seen : V �
   -- the array that is served keeps its groups and drives
   pub served_from_store : (groups : Groups) (drives : ℕ) (opened : S) → ((a b : S) → type.stays a b → Follows (at a).tiers (at b).tiers) → IsOn groups drives (at opened).tiers
       → ((G : StoreState) → type.represents closed G → Follows (at closed).tiers (at flushed).tiers × Follows (at flushed).tiers q.tiers)
-      → ((G : StoreState) (x : Shown) → IsAt type closed G x → Closes x) → (may : StoreFault → Type 0) (sizes : Sizes) (what : Shown) → sizes.bytes ≡ length what.bytes
-      → IsAt type opened (durable what) what → (last : End) (before after held now : Option (List ℕ))
-      → (IsAt type opened (durable what) what → Session type may sizes (durable what) what opened closed last before after held now) → (t : ℕ)
+      → ((G : StoreState) (x : Shown) → IsStoreAt type closed G x → Closes x) → (may : StoreFault → Type 0) (sizes : Sizes) (what : Shown) → sizes.bytes ≡ length what.bytes
+      → IsStoreAt type opened (durable what) what → (last : End) (before after held now : Option (List ℕ))
+      → (IsStoreAt type opened (durable what) what → Session type may sizes (durable what) what opened closed last before after held now) → (t : ℕ)
       → IsServedFrom type may (HasBegun known seen may_leave moment left_since t what (at opened)) (Opens left_since groups drives q.vault) t (moment q.vault) ok what last before after held now
   served_from_store groups drives opened stays on follows close may sizes what sized is last before after held now serves t =
       let session = serves is in

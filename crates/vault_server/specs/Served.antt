@@ -14,7 +14,7 @@ use Rattle.journaled_store.specs.Outlasting.{OpensAs, Outlasts, OutlastsSince, P
 use Rattle.nbd_serve.specs.Enduring.{Rise, Round, passed}
 use Rattle.nbd_serve.specs.Exchanges.{Exchange}
 use Rattle.nbd_serve.specs.Sessions.{Session}
-use Rattle.nbd_serve.specs.Stopping.{IsAt, SaysChanged, SaysDurable, StoreType}
+use Rattle.nbd_serve.specs.Stopping.{IsStoreAt, SaysChanged, SaysDurable, StoreType}
 use Rattle.nbd_serve.specs.declared.end.End.{End}
 
 -- an array has these groups, and so many drives
@@ -74,7 +74,7 @@ pub record IsServedFrom {S : Type 0} (type : StoreType S) (may : StoreFault → 
     (what : Shown) (last : End) (before after held now : Option (List ℕ)) : Type 0 where
   pub opened : S
   pub closed : S
-  pub shown : IsAt type opened (durable what) what
+  pub shown : IsStoreAt type opened (durable what) what
   pub sizes : Sizes
   pub sized : sizes.bytes ≡ length what.bytes
   pub session : Session type may sizes (durable what) what opened closed last before after held now

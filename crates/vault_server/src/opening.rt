@@ -4,9 +4,9 @@ ghost use Rattle.extents.specs.Sizes.{extent_units};
 ghost use Rattle.extent_groups.specs.Cells.{Cells};
 ghost use Rattle.vault.specs.Images.{recovered};
 ghost use Rattle.byte_store.specs.Flat.{StoreState};
-ghost use Rattle.byte_store.specs.Lasting.{Lasts, Shown, Shows};
+ghost use Rattle.byte_store.specs.Lasting.{Lasts, Shown, ShowsState};
 ghost use Rattle.array_store.specs.Stores.{Follows, IsStoreOf};
-ghost use Rattle.journaled_store.specs.Keeping.{whole};
+ghost use Rattle.journaled_store.specs.Keeping.{as_whole};
 ghost use Rattle.journaled_store.specs.Left.{HasBoth, IsLeftOf};
 ghost use Rattle.journaled_store.specs.Outlasting.{Outlasts, OutlastsSince, point};
 ghost use Rattle.array_recovery.specs.Found.{AreLastIfAttested, OnlyRead, with_cells};
@@ -51,11 +51,11 @@ fn recovered_store<N: Chronicle, V: Vault + Drop>(
     ensures read { V.known vault → IfOk result (λ s. V.known s.vault × OnlyRead V.seen V.may_leave V.moment V.left_since vault s.vault) }
     ensures back { V.known vault → IfErr result (λ e. V.known e.1 × OnlyRead V.seen V.may_leave V.moment V.left_since vault e.1) }
     ensures both { V.known vault → (what : Shown) → length what.bytes ≡ size → IsLeftOf HasBoth what groups drives absent.now (recovered (V.seen vault))
-        → IfOk result (λ s. Shows (⟦<JournaledStore<N, V> as ByteStore>⟧.keys s) (durable what) what
+        → IfOk result (λ s. ShowsState (⟦<JournaledStore<N, V> as ByteStore>⟧.keys s) (durable what) what
         × ⟦<JournaledStore<N, V> as ByteStore>⟧.represents s (durable what)) }
     ensures honest { V.known vault → (written : Cells) → AreLastIfAttested (V.attested vault) drives absent.now (V.seen vault) written
         → (what : Shown) → length what.bytes ≡ size → IsLeftOf HasBoth what groups drives absent.now (recovered (with_cells (V.seen vault) written))
-        → IfOk result (λ s. Shows (⟦<JournaledStore<N, V> as ByteStore>⟧.keys s) (durable what) what
+        → IfOk result (λ s. ShowsState (⟦<JournaledStore<N, V> as ByteStore>⟧.keys s) (durable what) what
         × ⟦<JournaledStore<N, V> as ByteStore>⟧.represents s (durable what)) }
     ensures size { IfOk result (λ s. s.store.size ≡ size) }
     ensures same { IfOk result (λ s. IsOpenedWith groups drives s.changes.noted absent.now s.store.tiers) }
@@ -83,7 +83,7 @@ fn resumed<N: Chronicle, V: Vault + Drop>(
     store: JournaledStore<N, V>,
     scrub_at: ScrubPosition,
 ) -> JournaledStore<N, V>
-    ensures { whole result ≡ whole store }
+    ensures { as_whole result ≡ as_whole store }
 {
     let mut store = store;
     store.resume_scrub(scrub_at);
@@ -110,8 +110,8 @@ fn mark_lost<N: Chronicle, V: Vault + Drop>(
 fn settled<N: Chronicle, V: Vault + Drop>(store: JournaledStore<N, V>) -> JournaledStore<N, V>
     ensures stays { V.known store.vault → V.known result.vault }
     ensures shows { (F : StoreState) (what : Shown) → IsStoreOf store.store.tiers store.store.size store.unsynced F
-        → Shows (⟦<JournaledStore<N, V> as ByteStore>⟧.keys store) F what
-        → Shows (⟦<JournaledStore<N, V> as ByteStore>⟧.keys result) F what × ⟦<JournaledStore<N, V> as ByteStore>⟧.represents result F }
+        → ShowsState (⟦<JournaledStore<N, V> as ByteStore>⟧.keys store) F what
+        → ShowsState (⟦<JournaledStore<N, V> as ByteStore>⟧.keys result) F what × ⟦<JournaledStore<N, V> as ByteStore>⟧.represents result F }
     ensures size { result.store.size ≡ store.store.size }
     ensures follows { (F : StoreState) → IsStoreOf store.store.tiers store.store.size store.unsynced F → Follows store.store.tiers result.store.tiers }
     ensures lasts { (F : StoreState) (what : Shown) → IsStoreOf store.store.tiers store.store.size store.unsynced F → HasBoth store.store.tiers what
@@ -142,13 +142,13 @@ pub fn open_settled<N: Chronicle, V: Vault + Drop>(
     ensures back { V.known vault → IfErr result (λ e. V.known e.1 × OnlyRead V.seen V.may_leave V.moment V.left_since vault e.1) }
     ensures stays { V.known vault → IfOk result (λ s. V.known s.store.vault) }
     ensures both { V.known vault → (what : Shown) → length what.bytes ≡ size → IsLeftOf HasBoth what groups drives absent.now (recovered (V.seen vault))
-        → IfOk result (λ s. Shows (⟦<JournaledStore<N, V> as ByteStore>⟧.keys s.store) (durable what) what
+        → IfOk result (λ s. ShowsState (⟦<JournaledStore<N, V> as ByteStore>⟧.keys s.store) (durable what) what
         × ⟦<JournaledStore<N, V> as ByteStore>⟧.represents s.store (durable what)) }
 
     // What is opened shows what was written last, where each unit that is as its digest says is that one: rotten units change nothing of it.
     ensures honest { V.known vault → (written : Cells) → AreLastIfAttested (V.attested vault) drives absent.now (V.seen vault) written
         → (what : Shown) → length what.bytes ≡ size → IsLeftOf HasBoth what groups drives absent.now (recovered (with_cells (V.seen vault) written))
-        → IfOk result (λ s. Shows (⟦<JournaledStore<N, V> as ByteStore>⟧.keys s.store) (durable what) what
+        → IfOk result (λ s. ShowsState (⟦<JournaledStore<N, V> as ByteStore>⟧.keys s.store) (durable what) what
         × ⟦<JournaledStore<N, V> as ByteStore>⟧.represents s.store (durable what)) }
     ensures same { V.known vault → (what : Shown) → length what.bytes ≡ size → IsLeftOf HasBoth what groups drives absent.now (recovered (V.seen vault))
         → IfOk result (λ s. IsOn groups drives s.store.store.tiers) }

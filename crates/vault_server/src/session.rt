@@ -3,7 +3,7 @@ ghost use Rattle.std.specs.Prelude.{◌≡◌, ◌*◌, ℕ, length, IfErr, IfOk
 ghost use Rattle.extents.specs.Sizes.{extent_units};
 ghost use Rattle.extent_groups.specs.Groups.{Groups};
 ghost use Rattle.vault.specs.Images.{recovered};
-ghost use Rattle.byte_store.specs.Lasting.{Shown, Shows};
+ghost use Rattle.byte_store.specs.Lasting.{Shown, ShowsState};
 ghost use Rattle.journaled_store.specs.Left.{HasBoth, IsLeftOf};
 ghost use Rattle.journaled_store.specs.Outlasting.{point};
 ghost use Rattle.nbd_serve.specs.Stopping.{store_type};
@@ -54,7 +54,7 @@ fn attend<N: Chronicle, V: Vault + Drop, W: Sees<JournaledStore<N, V>> + Drop, R
     ensures served { let type = store_type ⟦<Watched<JournaledStore<N, V>, W> as ByteStore>⟧.represents ⟦<Watched<JournaledStore<N, V>, W> as ByteStore>⟧.keys
         ⟦<Watched<JournaledStore<N, V>, W> as ByteStore>⟧.stays ⟦<Watched<JournaledStore<N, V>, W> as ByteStore>⟧.outlasts
         ⟦<Watched<JournaledStore<N, V>, W> as ByteStore>⟧.moment ⟦<Watched<JournaledStore<N, V>, W> as ByteStore>⟧.outlasts_since in
-        (what : Shown) → store.store.size ≡ length what.bytes → Shows (⟦<JournaledStore<N, V> as ByteStore>⟧.keys store) (durable what) what
+        (what : Shown) → store.store.size ≡ length what.bytes → ShowsState (⟦<JournaledStore<N, V> as ByteStore>⟧.keys store) (durable what) what
         → ⟦<JournaledStore<N, V> as ByteStore>⟧.represents store (durable what)
         → (groups : Groups) (drives since : ℕ) → IsOn groups drives store.store.tiers
         → IsServedFrom type ⟦<Watched<JournaledStore<N, V>, W> as ByteStore>⟧.may_refuse

@@ -2,7 +2,7 @@ use Rattle.std.proofs.Common.{◌≡◌, ◌++◌, ◌∷◌, ◌∙◌, [], len
 use Rattle.extent_groups.proofs.Losses.{kept_fades}
 use Rattle.unit_store.specs.Laws.{loses_more}
 use Rattle.unit_store.specs.Slots.{cells_in}
-use Rattle.drive_rebuild.specs.Scrubbed.{Reports, ReportsUnsound, slot_total}
+use Rattle.drive_rebuild.specs.Scrubbed.{ReportsSlots, ReportsUnsound, slot_total}
 use Rattle.drive_rebuild.proofs.Scrubbing.{only_one, tested_later}
 use Rattle.drive_rebuild.proofs.scrub.name_unsound.Goals as goal
 
@@ -30,7 +30,7 @@ returns-in_ok-note-clause-reported g c = λ reported.
     let mid = cells_in g.D.Drive.units g.D.Drive.lost c.find_unsound.new.parts in
     let new = cells_in g.D.Drive.units g.D.Drive.lost c.scrub_groups.new.parts in
     let so = subst (λ groups. ReportsUnsound groups mid new c.scrub_groups.new.findings) same
-    (c.in_ok-scrub_groups.ensures.reported (subst (λ groups. Reports (slot_total groups) [] c.args.findings.now) (sym same) reported)) in
+    (c.in_ok-scrub_groups.ensures.reported (subst (λ groups. ReportsSlots (slot_total groups) [] c.args.findings.now) (sym same) reported)) in
     let none : length so.slots ≡ 0 = sym so.reported.counted ∙ c.if-findings-eq0.true in
     record {
       slots = so.slots ++ c.in-Some.slot ∷ [];
@@ -46,5 +46,5 @@ returns-else-findings-eq0-clause-reported g c = λ reported.
     let mid = cells_in g.D.Drive.units g.D.Drive.lost c.find_unsound.new.parts in
     let new = cells_in g.D.Drive.units g.D.Drive.lost c.scrub_groups.new.parts in
     let so = subst (λ groups. ReportsUnsound groups mid new c.scrub_groups.new.findings) same
-    (c.in_ok-scrub_groups.ensures.reported (subst (λ groups. Reports (slot_total groups) [] c.args.findings.now) (sym same) reported)) in
+    (c.in_ok-scrub_groups.ensures.reported (subst (λ groups. ReportsSlots (slot_total groups) [] c.args.findings.now) (sym same) reported)) in
     record { slots = so.slots; are = tested_later t old mid new so.slots (kept_fades c.find_unsound.ensures.only.drives) so.are; reported = so.reported }

@@ -3,7 +3,7 @@ use Rattle.extent_groups.specs.Stores.{unit_bytes}
 use Rattle.unit_store.specs.Fit.{IsFit}
 use Rattle.unit_store.specs.Losses.{LosesOnly}
 use Rattle.unit_store.specs.Slots.{cells_in}
-use Rattle.drive_rebuild.specs.Scrubbed.{Reports, ReportsBelow, slot_total}
+use Rattle.drive_rebuild.specs.Scrubbed.{ReportsSlots, ReportsBelow, slot_total}
 use Rattle.drive_rebuild.proofs.scrub.scrub_groups.Given as goal
 
 abbrev pub invariant-loop-group : goal.invariant-loop-group
@@ -13,7 +13,7 @@ invariant-loop-group g l = record {
   only : LosesOnly g.D.Drive.units g.D.Drive.lost g.D.Drive.failures l.fn.parts l.parts;
   unit : length l.unit ≡ unit_bytes l.fn.parts.groups;
   other : length l.other ≡ unit_bytes l.fn.parts.groups;
-  reported : Reports (slot_total l.fn.parts.groups) [] l.fn.findings
+  reported : ReportsSlots (slot_total l.fn.parts.groups) [] l.fn.findings
       → ReportsBelow l.fn.parts.groups (cells_in g.D.Drive.units g.D.Drive.lost l.fn.parts) (cells_in g.D.Drive.units g.D.Drive.lost l.parts)
       (slot_total l.fn.parts.groups) (128 * l.group) l.findings;
 }

@@ -1,7 +1,7 @@
 use Rattle.std.proofs.Common.{◌≡◌, ◌⊎◌, inl, inr, slice_get, [], ◌∷◌, ◌++◌, length, take, rules, refl, sym, ◌∙◌, ap, subst, List, Some}
 use Rattle.std.proofs.lemmas.List.{take_all}
 use Rattle.std.proofs.lemmas.Option.{slice_get-get_or}
-use Rattle.byte_store.specs.Lasting.{Shown, Within}
+use Rattle.byte_store.specs.Lasting.{Shown, HasAllOf}
 use Rattle.array_calls.proofs.Growing.{call_grows, made_grows}
 use Rattle.array_calls.specs.Calls.{IsMade}
 use Rattle.array_calls.specs.declared.call.CallAnswer.{CallAnswer}
@@ -107,7 +107,7 @@ returns-clause-run g c T before first matches shown out =
     let r = c.loop-at.invariant.runs T before first matches shown out in
     let last = last_shown first r.kept in
     subst (λ (calls : List Call). (run : IsKeptRun v.known v.seen v.may_leave v.moment v.left_since store.store.size (v.moment store.vault) T before first calls c.loop-at.answers.items p)
-    × (run.last ≡ run.state) × (cut : List Shown) × Within cut (before ++ first ∷ shown_in run.kept) × Outlasts HasBoth v.known v.seen v.may_leave p (run.shown ∷ []) cut)
+    × (run.last ≡ run.state) × (cut : List Shown) × HasAllOf cut (before ++ first ∷ shown_in run.kept) × Outlasts HasBoth v.known v.seen v.may_leave p (run.shown ∷ []) cut)
     (take_all c.loop-at.at c.args.calls.now c.loop-at-test.false) (
       run_of v.known v.seen v.may_leave v.moment v.left_since p p last (at_rest v.known v.seen v.may_leave v.moment v.left_since g.met.V.Vault.counts_now g.met.V.Vault.only_now p last)
           store.store.size (v.moment store.vault) T before first (take c.loop-at.at c.args.calls.now) c.loop-at.answers.items r r.state r.matches r.is_shown,

@@ -1,8 +1,8 @@
 use Rattle.std.proofs.Common.{◌*◌, ◌≡◌, ◌∙◌, sym, ap, subst}
 use Rattle.extents.specs.Sizes.{extent_units}
-use Rattle.byte_store.specs.Lasting.{Shows}
+use Rattle.byte_store.specs.Lasting.{ShowsState}
 use Rattle.array_store.specs.Stores.{IsStoreOf, StoreView}
-use Rattle.journaled_store.specs.Keeping.{Whole, at_point, whole}
+use Rattle.journaled_store.specs.Keeping.{Whole, at_point, as_whole}
 use Rattle.journaled_store.specs.Outlasting.{point}
 use Rattle.journaled_store.proofs.Batching.{when_ok}
 use Rattle.journaled_store.proofs.Lasting.{on_ok_by}
@@ -20,7 +20,7 @@ returns-in-Ok-clause-stays g c = λ known.
 pub returns-in-Ok-clause-honest : goal.returns-in-Ok-clause-honest
 returns-in-Ok-clause-honest g c = λ known written last what long left.
     let there = c.in-Ok.ensures.honest known written last what long left in
-    let was = subst (λ (w : Whole g.row.V.Denot). Shows w.store.tiers.world.array.keys (durable what) what × IsStoreOf w.store.tiers w.store.size w.unsynced (durable what)) (sym c.resumed.ensures) there in
+    let was = subst (λ (w : Whole g.row.V.Denot). ShowsState w.store.tiers.world.array.keys (durable what) what × IsStoreOf w.store.tiers w.store.size w.unsynced (durable what)) (sym c.resumed.ensures) there in
     let same = c.mark_lost-store.ensures.same in
     let now = shows_then c.resumed.result.store c.mark_lost-store.result.0.store c.resumed.result.unsynced c.mark_lost-store.result.0.unsynced (durable what) what same.0 same.1 was in
     c.settled.ensures.shows (durable what) what now.1 now.0
@@ -34,7 +34,7 @@ pub returns-in-Ok-clause-same : goal.returns-in-Ok-clause-same
 returns-in-Ok-clause-same g c = λ known what long left.
     let there = c.in-Ok.ensures.both known what long left in
     let with = c.in-Ok.ensures.same in
-    let was = subst (λ (w : Whole g.row.V.Denot). Shows w.store.tiers.world.array.keys (durable what) what × IsStoreOf w.store.tiers w.store.size w.unsynced (durable what)) (sym c.resumed.ensures) there in
+    let was = subst (λ (w : Whole g.row.V.Denot). ShowsState w.store.tiers.world.array.keys (durable what) what × IsStoreOf w.store.tiers w.store.size w.unsynced (durable what)) (sym c.resumed.ensures) there in
     let same = c.mark_lost-store.ensures.same in
     let now = shows_then c.resumed.result.store c.mark_lost-store.result.0.store c.resumed.result.unsynced c.mark_lost-store.result.0.unsynced (durable what) what same.0 same.1 was in
     let on = subst (λ (w : Whole g.row.V.Denot). IsOn c.args.groups c.args.drives w.store.tiers) (sym c.resumed.ensures) (record { groups_are = with.groups_are; many = with.many }) in
@@ -50,7 +50,7 @@ returns-in-Ok-clause-lasts g c = λ known what long sound.
     let vault = g.V.Vault in
     let e = c.in-Ok.ensures in
     let there = e.both known what long (left_absent what c.args.groups c.args.drives c.args.absent.now _ sound.left) in
-    let was = subst (λ (w : Whole g.row.V.Denot). Shows w.store.tiers.world.array.keys (durable what) what × IsStoreOf w.store.tiers w.store.size w.unsynced (durable what)) (sym c.resumed.ensures) there in
+    let was = subst (λ (w : Whole g.row.V.Denot). ShowsState w.store.tiers.world.array.keys (durable what) what × IsStoreOf w.store.tiers w.store.size w.unsynced (durable what)) (sym c.resumed.ensures) there in
     let same = c.mark_lost-store.ensures.same in
     let now = shows_then c.resumed.result.store c.mark_lost-store.result.0.store c.resumed.result.unsynced c.mark_lost-store.result.0.unsynced (durable what) what same.0 same.1 was in
     let begun = subst (λ (w : Whole g.row.V.Denot). HasBegun vault.known vault.seen vault.may_leave vault.moment vault.left_since (vault.moment c.args.vault) what (at_point w)) (sym c.resumed.ensures)
@@ -66,7 +66,7 @@ returns-in-Ok-clause-marks g c = λ known what long sound.
     let e = c.in-Ok.ensures in
     let units = c.args.shape.now.extents * extent_units c.args.shape.now.segments in
     let there = e.both known what long sound.left in
-    let was = subst (λ (w : Whole g.row.V.Denot). Shows w.store.tiers.world.array.keys (durable what) what × IsStoreOf w.store.tiers w.store.size w.unsynced (durable what)) (sym c.resumed.ensures) there in
+    let was = subst (λ (w : Whole g.row.V.Denot). ShowsState w.store.tiers.world.array.keys (durable what) what × IsStoreOf w.store.tiers w.store.size w.unsynced (durable what)) (sym c.resumed.ensures) there in
     let same = c.mark_lost-store.ensures.same in
     let now = shows_then c.resumed.result.store c.mark_lost-store.result.0.store c.resumed.result.unsynced c.mark_lost-store.result.0.unsynced (durable what) what same.0 same.1 was in
     let opened = subst (λ (w : Whole g.row.V.Denot). IsOpenedBut vault.known vault.seen vault.may_leave vault.moment vault.left_since what c.args.groups c.args.drives units c.args.absent.now c.args.vault

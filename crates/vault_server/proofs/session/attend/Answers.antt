@@ -1,5 +1,5 @@
 use Rattle.std.proofs.Common.{◌∙◌, IsOk, sym, ap, subst, refl}
-use Rattle.byte_store.specs.Lasting.{Lasts, Shows}
+use Rattle.byte_store.specs.Lasting.{Lasts, ShowsState}
 use Rattle.array_store.specs.Stores.{Follows, IsStoreOf}
 use Rattle.journaled_store.specs.Left.{HasBoth}
 use Rattle.journaled_store.specs.Outlasting.{Outlasts, OutlastsSince, Point, point, sizes_of}
@@ -36,5 +36,5 @@ returns-clause-served g c = λ what size shows represents groups drives since on
           (c.settle.ensures.lasts after.0 x (subst (λ s. IsStoreOf s.store.tiers s.store.size s.unsynced after.0) (sym parted) after.1) (subst (λ s. HasBoth s.store.tiers x) (sym parted) both));
     })
     _ (sizes_of opened.store) what (ap (λ s. s.store.size) (sym made) ∙ size)
-    (record { represented = subst (λ s. IsStoreOf s.store.tiers s.store.size s.unsynced (durable what)) made represents; shown = subst (λ s. Shows s.store.tiers.world.array.keys (durable what) what) made shows })
+    (record { represented = subst (λ s. IsStoreOf s.store.tiers s.store.size s.unsynced (durable what)) made represents; shown = subst (λ s. ShowsState s.store.tiers.world.array.keys (durable what) what) made shows })
     _ _ _ _ _ (c.serve-end.ensures (durable what) what) since)

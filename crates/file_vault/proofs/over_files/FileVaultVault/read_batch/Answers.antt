@@ -36,8 +36,8 @@ pub returns-clause-batch : goal.returns-clause-batch
 returns-clause-batch g c = λ known low.
     let some = known.batches c.if-self.false in
     let read = batch_read (plan_of c.args.self.now.layout) g.F.Files.seen g.F.Files.may_leave c.args.self.now.files c.args.self.now.places.items some.batches c.args.self.now.end c.args.self.now.durable some.sound
-    c.args.index c.place_at.result c.place_at-2.result c.saturating_add-body.result c.saturating_sub-length.result c.deref.result.now c.deref-2.result.now c.deref-3.result.now
-    (omega (arith, c.if-index-len.false, c.len.ensures, c.args.self.now.places.ok.0)) c.deref.ensures.value c.deref-2.ensures.value c.place_at.ensures c.saturating_add-body.ensures c.place_at-2.ensures
+    c.args.index c.place_after.result c.place_after-2.result c.saturating_add-body.result c.saturating_sub-length.result c.deref.result.now c.deref-2.result.now c.deref-3.result.now
+    (omega (arith, c.if-index-len.false, c.len.ensures, c.args.self.now.places.ok.0)) c.deref.ensures.value c.deref-2.ensures.value c.place_after.ensures c.saturating_add-body.ensures c.place_after-2.ensures
     c.saturating_sub-length.ensures (c.deref-3.ensures.value ∙ c.in_ok-read_body.ensures.bytes known.files_known) in
     on_ok_weaker c.decode_into.result (λ same. read.1 ∙ ap (λ w. Some w) (sym same)) c.decode_into.ensures.batch
 
@@ -45,8 +45,8 @@ pub returns-clause-cause : goal.returns-clause-cause
 returns-clause-cause g c = λ known low.
     let some = known.batches c.if-self.false in
     let read = batch_read (plan_of c.args.self.now.layout) g.F.Files.seen g.F.Files.may_leave c.args.self.now.files c.args.self.now.places.items some.batches c.args.self.now.end c.args.self.now.durable some.sound
-    c.args.index c.place_at.result c.place_at-2.result c.saturating_add-body.result c.saturating_sub-length.result c.deref.result.now c.deref-2.result.now c.deref-3.result.now
-    (omega (arith, c.if-index-len.false, c.len.ensures, c.args.self.now.places.ok.0)) c.deref.ensures.value c.deref-2.ensures.value c.place_at.ensures c.saturating_add-body.ensures c.place_at-2.ensures
+    c.args.index c.place_after.result c.place_after-2.result c.saturating_add-body.result c.saturating_sub-length.result c.deref.result.now c.deref-2.result.now c.deref-3.result.now
+    (omega (arith, c.if-index-len.false, c.len.ensures, c.args.self.now.places.ok.0)) c.deref.ensures.value c.deref-2.ensures.value c.place_after.ensures c.saturating_add-body.ensures c.place_after-2.ensures
     c.saturating_sub-length.ensures (c.deref-3.ensures.value ∙ c.in_ok-read_body.ensures.bytes known.files_known) in
     memory_cause _ _ _ c.decode_into.result ((c.read_body.ensures.cause known.files_known).later) (c.decode_into.ensures.is read.0)
 

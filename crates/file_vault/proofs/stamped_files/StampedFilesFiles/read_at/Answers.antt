@@ -1,6 +1,6 @@
 use Rattle.std.proofs.Common.{sym, subst}
 use Rattle.std.proofs.lemmas.Result.{on_ok_weaker}
-use Rattle.file_vault.specs.Generations.{unstamped, IsApart}
+use Rattle.file_vault.specs.Generations.{unstamped, HasNoGeneration}
 use Rattle.file_vault.proofs.Unstamped.{unstamped_elapses, agree_read, seen_reads}
 use Rattle.file_vault.proofs.stamped_files.StampedFilesFiles.read_at.Goals as goal
 
@@ -13,7 +13,7 @@ returns-then-is_apart-clause-stays g c = λ known. (
 pub returns-then-is_apart-clause-bytes : goal.returns-then-is_apart-clause-bytes
 returns-then-is_apart-clause-bytes g c = λ known.
     on_ok_weaker c.read_at.result
-    (λ reads. seen_reads c.args.file c.args.at c.read_at.new.out (g.F.Files.seen c.args.self.now.files) (subst (λ n. IsApart c.args.file c.args.at n) (sym c.read_at.auto.out) (c.is_apart.ensures c.if-is_apart.true)) reads)
+    (λ reads. seen_reads c.args.file c.args.at c.read_at.new.out (g.F.Files.seen c.args.self.now.files) (subst (λ n. HasNoGeneration c.args.file c.args.at n) (sym c.read_at.auto.out) (c.is_apart.ensures c.if-is_apart.true)) reads)
     (c.read_at.ensures.bytes known.0)
 
 pub returns-then-is_apart-clause-time : goal.returns-then-is_apart-clause-time

@@ -1,5 +1,5 @@
 use Rattle.std.proofs.Common.{◌≡◌, refl, sym, ◌∙◌, subst, inl, inr}
-use Rattle.journaled_store.specs.Keeping.{Whole, whole}
+use Rattle.journaled_store.specs.Keeping.{Whole, as_whole}
 use Rattle.std.specs.Prelude.{length}
 use Rattle.array_store.specs.Stores.{StoreView}
 use Rattle.vault.specs.Images.{Image}
@@ -13,12 +13,12 @@ use Rattle.journaled_store.proofs.store.JournaledStore.check.Goals as goal
 pub returns-then-self-clause-kept : goal.returns-then-self-clause-kept
 returns-then-self-clause-kept g c =
     let v = g.V.Vault in
-    kept_none v.known v.seen v.may_leave v.moment v.left_since g.met.V.Vault.counts_now g.met.V.Vault.only_now (whole c.args.self.now)
+    kept_none v.known v.seen v.may_leave v.moment v.left_since g.met.V.Vault.counts_now g.met.V.Vault.only_now (as_whole c.args.self.now)
 
 pub returns-then-has_lost_two-clause-kept : goal.returns-then-has_lost_two-clause-kept
 returns-then-has_lost_two-clause-kept g c =
     let v = g.V.Vault in
-    kept_none v.known v.seen v.may_leave v.moment v.left_since g.met.V.Vault.counts_now g.met.V.Vault.only_now (whole c.args.self.now)
+    kept_none v.known v.seen v.may_leave v.moment v.left_since g.met.V.Vault.counts_now g.met.V.Vault.only_now (as_whole c.args.self.now)
 
 pub returns-in_default-clause-kept : goal.returns-in_default-clause-kept
 returns-in_default-clause-kept g c =
@@ -27,12 +27,12 @@ returns-in_default-clause-kept g c =
 pub returns-in_err-found-clause-kept : goal.returns-in_err-found-clause-kept
 returns-in_err-found-clause-kept g c =
     let v = g.V.Vault in
-    kept_more v.known v.seen v.may_leave v.moment v.left_since g.met.V.Vault.counts_now g.met.V.Vault.only_now (whole c.args.self.now) (whole c.pick.new.self) (whole c.read_back.new.self) c.pick.ensures.kept c.read_back.ensures.kept
+    kept_more v.known v.seen v.may_leave v.moment v.left_since g.met.V.Vault.counts_now g.met.V.Vault.only_now (as_whole c.args.self.now) (as_whole c.pick.new.self) (as_whole c.read_back.new.self) c.pick.ensures.kept c.read_back.ensures.kept
 
 pub returns-clause-kept : goal.returns-clause-kept
 returns-clause-kept g c =
     let v = g.V.Vault in
-    kept_more v.known v.seen v.may_leave v.moment v.left_since g.met.V.Vault.counts_now g.met.V.Vault.only_now (whole c.args.self.now) (whole c.pick.new.self) (whole c.read_back.new.self) c.pick.ensures.kept c.read_back.ensures.kept
+    kept_more v.known v.seen v.may_leave v.moment v.left_since g.met.V.Vault.counts_now g.met.V.Vault.only_now (as_whole c.args.self.now) (as_whole c.pick.new.self) (as_whole c.read_back.new.self) c.pick.ensures.kept c.read_back.ensures.kept
 
 pub returns-clause-same : goal.returns-clause-same
 returns-clause-same g c known is =

@@ -1,7 +1,7 @@
 use Rattle.std.proofs.Common.{refl, ◌∙◌, sym, subst}
 use Rattle.tiered_array.specs.Views.{TiersView}
 use Rattle.journaled_store.specs.Scrubbing.{HasUnit}
-use Rattle.journaled_store.specs.Keeping.{whole}
+use Rattle.journaled_store.specs.Keeping.{as_whole}
 use Rattle.journaled_store.proofs.Keeping.{kept_same}
 use Rattle.journaled_store.proofs.Positions.{picked_next, picked_none, picked_unit}
 use Rattle.journaled_store.proofs.Storing.{same_parts}
@@ -11,7 +11,7 @@ pub returns-then-not-collect-clause-kept : goal.returns-then-not-collect-clause-
 returns-then-not-collect-clause-kept g c =
     let v = g.V.Vault in
     let e = c.collect.ensures in
-    kept_same v.known v.seen v.may_leave v.moment v.left_since g.met.V.Vault.counts_now g.met.V.Vault.only_now (whole c.args.self.now) _
+    kept_same v.known v.seen v.may_leave v.moment v.left_since g.met.V.Vault.counts_now g.met.V.Vault.only_now (as_whole c.args.self.now) _
     (same_parts c.args.self.now.store c.collect.new.store e.same) refl refl refl
     (λ lost cells live. record { step = e.step lost cells live.step; noted = e.noted cells live.noted; rest = λ at. e.rest cells at ∙ live.rest at })
 
@@ -19,7 +19,7 @@ pub returns-clause-kept : goal.returns-clause-kept
 returns-clause-kept g c =
     let v = g.V.Vault in
     let e = c.collect.ensures in
-    kept_same v.known v.seen v.may_leave v.moment v.left_since g.met.V.Vault.counts_now g.met.V.Vault.only_now (whole c.args.self.now) _
+    kept_same v.known v.seen v.may_leave v.moment v.left_since g.met.V.Vault.counts_now g.met.V.Vault.only_now (as_whole c.args.self.now) _
     (same_parts c.args.self.now.store c.collect.new.store e.same) refl refl refl
     (λ lost cells live. record { step = e.step lost cells live.step; noted = e.noted cells live.noted; rest = λ at. e.rest cells at ∙ live.rest at })
 

@@ -1,5 +1,5 @@
 use Rattle.std.proofs.Common.{length, ◌≡◌, refl, sym, ◌∙◌, subst, inl, inr}
-use Rattle.journaled_store.specs.Keeping.{Whole, whole}
+use Rattle.journaled_store.specs.Keeping.{Whole, as_whole}
 use Rattle.vault.specs.Images.{Image}
 use Rattle.journaled_store.specs.declared.position.ScrubPosition.{ScrubPosition}
 use Rattle.journaled_store.specs.Scrubbing.{IsHeldAt, IsNextPosition, IsPending, place_at_position}
@@ -17,7 +17,7 @@ returns-in-Err-clause-moves g c =
 pub returns-clause-kept : goal.returns-clause-kept
 returns-clause-kept g c =
     let v = g.V.Vault in
-    kept_more v.known v.seen v.may_leave v.moment v.left_since g.met.V.Vault.counts_now g.met.V.Vault.only_now (whole c.args.self.now) (whole c.check.new.self) (whole c.finish-done.new.self) c.check.ensures.kept c.finish-done.ensures.kept
+    kept_more v.known v.seen v.may_leave v.moment v.left_since g.met.V.Vault.counts_now g.met.V.Vault.only_now (as_whole c.args.self.now) (as_whole c.check.new.self) (as_whole c.finish-done.new.self) c.check.ensures.kept c.finish-done.ensures.kept
 
 pub returns-clause-moves : goal.returns-clause-moves
 returns-clause-moves g c =
