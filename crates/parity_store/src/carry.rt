@@ -46,27 +46,6 @@ fn write_way<D: Drive>(
     }
 }
 
-// Drafts the write of a unit and makes its writes: the way, and false where the first of these was refused, or there is none.
-#[inline(always)]
-fn write_once<D: Drive>(
-    groups: &GroupTable,
-    drives: &mut [D],
-    target: &Target,
-    unit: &[u8],
-    part: &mut [u8],
-    sum: &mut [u8],
-) -> (Way, bool)
-    requires target { IsAccessible D.units groups.now target.now (length unit.now) drives.old }
-    requires part { length part.old ≡ length unit.now }
-    requires sum { length sum.old ≡ length unit.now }
-    ensures tried { Tried groups.now (cells D.units D.lost drives.old) (cells D.units D.lost drives.new) target.now unit.now result.0 result.1 }
-    ensures touched { KeepsDrives D.units D.lost D.failures (IsOwn (Pair target.now.home target.now.parity)) drives.old drives.new }
-{
-    let way = find_way(groups, drives, target, unit, part, sum);
-    let done = write_way(drives, target.home, target.parity, unit, sum, way);
-    (way, done)
-}
-
 // Writes a unit whose drive was lost in its first write. Kept out of line, since it runs only then.
 #[inline(never)]
 fn write_again<D: Drive>(
@@ -84,7 +63,8 @@ fn write_again<D: Drive>(
         × Tried groups.now (cells D.units D.lost drives.old) (cells D.units D.lost drives.new) target.now unit.now way result }
     ensures touched { KeepsDrives D.units D.lost D.failures (IsOwn (Pair target.now.home target.now.parity)) drives.old drives.new }
 {
-    write_once(groups, drives, target, unit, part, sum).1
+    let way = find_way(groups, drives, target, unit, part, sum);
+    write_way(drives, target.home, target.parity, unit, sum, way)
 }
 
 /// Writes a unit of a stripe in the way that its draft finds; false, with nothing written, where there is none.
@@ -103,7 +83,8 @@ pub(crate) fn write_stripe<D: Drive>(
     ensures ends { Ends groups.now (cells D.units D.lost drives.old) (cells D.units D.lost drives.new) target.now unit.now result }
     ensures touched { KeepsDrives D.units D.lost D.failures (IsOwn (site_to groups.now target.now)) drives.old drives.new }
 {
-    let (way, done) = write_once(groups, drives, target, unit, part, sum);
+    let way = find_way(groups, drives, target, unit, part, sum);
+    let done = write_way(drives, target.home, target.parity, unit, sum, way);
     if done {
         return true;
     }

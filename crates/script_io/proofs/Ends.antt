@@ -8,12 +8,13 @@ use Rattle.script_exec.specs.State.{State}
 use Rattle.script_exec.specs.Carrying.{MatchesState}
 use Rattle.script_io.specs.Says.{Says, IsTranscript, lines_of}
 use Rattle.script_io.specs.Feeding.{IsCut, Advances, Left}
-use Rattle.script_io.specs.Turns.{AllSaid, Concludes, GoesOn, IsAllSaid, IsFronted, IsPartSaid, IsPartWritten, PartSaid, SaysBy, TurnsTo, end_of}
+use Rattle.script_io.specs.Turns.{AllSaid, Concludes, IsAllSaid, IsFronted, IsPartSaid, IsPartWritten, PartSaid, SaysBy, TurnsTo, end_of}
 use Rattle.script_io.specs.declared.end.End.{End}
 use Rattle.script_io.specs.declared.end.End.TheVariants as end
 use Rattle.script_io.specs.declared.halt.Halt.{Halt}
 use Rattle.script_io.specs.declared.halt.Halt.TheVariants as halt
 use Rattle.script_io.specs.declared.script.Script.{Script}
+use Rattle.script_io.proofs.Chunks.{GoesOn}
 use Rattle.script_io.proofs.Opens.{count_more, lines_more, text_join, text_more}
 use Rattle.script_io.proofs.Feeds.{cut_following, cut_more, leads_left, leads_more}
 

@@ -6,12 +6,13 @@ use Rattle.std.proofs.lemmas.List.{take_all}
 use Rattle.script_exec.specs.State.{State}
 use Rattle.script_io.specs.Says.{IsTranscript, lines_of}
 use Rattle.script_io.specs.Feeding.{Closes, Feeds, IsCut}
-use Rattle.script_io.specs.Turns.{IsBroken, IsBrokenOff, IsFronted, IsPartWritten}
+use Rattle.script_io.specs.Turns.{IsBrokenOff, IsFronted, IsPartWritten}
 use Rattle.script_io.specs.declared.end.End.{End}
 use Rattle.script_io.specs.declared.end.End.TheVariants as end
 use Rattle.script_io.specs.declared.script.Script.{Script}
 use Rattle.script_io.specs.declared.stop.Stop.{Stop}
 use Rattle.script_io.specs.declared.stop.Stop.TheVariants as stop
+use Rattle.script_io.proofs.Chunks.{IsBroken}
 use Rattle.script_io.proofs.Feeds.{cut_along}
 
 -- what was written is a prefix of the bytes

@@ -44,12 +44,6 @@ pub record IsPartSaid (old : Script) (state : State) (new : Script) (input rest 
   pub wrote : Appends held now bytes
   pub leads : Advances old.number state whole bytes new.number next
 
--- a chunk with a fault was answered and written
-pub record IsFaultSaid (old : Script) (state : State) (chunk : List ℕ) (held now : Option (List ℕ)) : Type 0 where
-  pub bytes : List ℕ
-  pub wrote : Appends held now bytes
-  pub reported : (more : List ℕ) → Left old.number state old.line.items (chunk ++ more) bytes end.Fault
-
 -- out of memory: the answers to a prefix of the input, of whole lines, are written
 pub record IsCutSaid (old : Script) (state : State) (input : List ℕ) (held now : Option (List ℕ)) : Type 0 where
   pub bytes : List ℕ
@@ -64,21 +58,6 @@ pub record IsFronted (n : ℕ) (state : State) (text out : List ℕ) : Type 0 wh
   pub ends : AreLines front ⊎ (rest ≡ [])
   pub last : End
   pub reported : IsTranscript n state (lines_of front) out last
-
--- a write failed: a prefix of the answers is written, with any bytes after the chunk
-pub record IsBroken (old : Script) (state : State) (chunk : List ℕ) (held now : Option (List ℕ)) : Type 0 where
-  pub bytes : List ℕ
-  pub part : IsPartWritten held now bytes
-  pub fronted : (more : List ℕ) → IsFronted old.number state (old.line.items ++ (chunk ++ more)) bytes
-
--- what was done with a chunk, by what halted the script, if anything did
-abbrev pub GoesOn : Option Halt → Script → State → Script → List ℕ → Option (List ℕ) → Option (List ℕ) → Type 0
-GoesOn None old state new chunk held now = IsPartSaid old state new chunk [] held now
-GoesOn (Some halt.Fault) old state new chunk held now = IsFaultSaid old state chunk held now
-GoesOn (Some halt.Memory) old state new chunk held now = IsCutSaid old state chunk held now
-GoesOn (Some (halt.WriteBroke broke)) old state new chunk held now = IsBroken old state chunk held now
-GoesOn (Some halt.Whole) old state new chunk held now = ⊥
-GoesOn (Some (halt.ReadBroke broke)) old state new chunk held now = ⊥
 
 -- all of the input was answered and written
 pub record IsAllSaid (old : Script) (state : State) (input : List ℕ) (held now : Option (List ℕ)) (last : End) : Type 0 where

@@ -1,9 +1,9 @@
 //! A script from a reader to a writer.
-ghost use Rattle.std.specs.Prelude.{◌≡◌, ◌+◌, ◌<◌, ◌≤◌, [], length, Some, IfSome, IsNone, IfOk};
+ghost use Rattle.std.specs.Prelude.{◌≡◌, ◌<◌, [], length, Some, IfSome, IfOk};
 ghost use Rattle.script_exec.specs.State.{State};
 ghost use Rattle.script_exec.specs.Carrying.{MatchesState};
-ghost use Rattle.script_io.specs.Feeding.{IsScript, most_left};
-ghost use Rattle.script_io.specs.Turns.{Concludes, GoesOn, SaysBy, TurnsTo};
+ghost use Rattle.script_io.specs.Feeding.{IsScript};
+ghost use Rattle.script_io.specs.Turns.{Concludes, SaysBy, TurnsTo};
 
 use crate::calls::{read_some, write_out};
 use crate::end::End;
@@ -71,38 +71,20 @@ fn turns<R: Read, W: Write>(
             // No bytes are the end of the input: a chunk isn't empty.
             Ok(0) => return close(alloc, writer, script),
             Ok(count) => {
-                if let Some(halt) = go_on(alloc, writer, script, &chunk[..count]) {
-                    return halt;
+                let fed = script.feed(alloc, &chunk[..count]);
+                // Also before a fault or Memory: the answers of earlier lines are whole. A failed write hides both.
+                match write_out(writer, &script.out) {
+                    Ok(()) => {}
+                    Err(broke) => return Halt::WriteBroke(broke),
+                }
+                match fed {
+                    Ok(()) => script.out.clear(),
+                    Err(Stop::Fault) => return Halt::Fault,
+                    Err(Stop::Memory) => return Halt::Memory,
                 }
             }
             Err(broke) => return Halt::ReadBroke(broke),
         }
-    }
-}
-
-// Answers the lines that end in a chunk, and writes the answers, also before a fault or Memory: those of earlier lines are
-// whole. A failed write hides both.
-fn go_on<W: Write>(alloc: Global, writer: &mut W, script: &mut Script, chunk: &[u8]) -> Option<Halt>
-    requires good { IsScript script.old }
-    requires written { script.old.out.items ≡ [] }
-    ensures stays { IsNone result → IsScript script.new }
-    ensures written { IsNone result → script.new.out.items ≡ [] }
-    ensures fewer { IsNone result → most_left script.new + length chunk.now ≤ most_left script.old }
-    ensures said { (state : State) → MatchesState script.old.bench state →
-        GoesOn result script.old state script.new chunk.now (W.contents writer.old) (W.contents writer.new) }
-{
-    let fed = script.feed(alloc, chunk);
-    match write_out(writer, &script.out) {
-        Ok(()) => {}
-        Err(broke) => return Some(Halt::WriteBroke(broke)),
-    }
-    match fed {
-        Ok(()) => {
-            script.out.clear();
-            None
-        }
-        Err(Stop::Fault) => Some(Halt::Fault),
-        Err(Stop::Memory) => Some(Halt::Memory),
     }
 }
 

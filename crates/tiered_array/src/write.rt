@@ -33,29 +33,11 @@ impl<D: Drive> Tiers<D> {
         }
         match self.demote(alloc) {
             // Also after `NoRoom`, `Nothing` or a refusal: the demotion then freed no slot, and the second look says so.
-            Ok(_) => self.write_after_demotion(alloc, block, given),
+            Ok(_) => match self.free_mirror() {
+                Some(slot) => self.put(alloc, slot, block, Some(given)),
+                None => Ok(Outcome::NoRoom),
+            },
             Err(_) => Err(AllocError),
-        }
-    }
-
-    // Looks for a slot once more.
-    fn write_after_demotion(
-        &mut self,
-        alloc: Global,
-        block: u32,
-        given: Given,
-    ) -> Result<Outcome, AllocError>
-        requires block { block < self.old.world.array.parts.groups.blocks }
-        requires given { IsGivenFor self.old.world.array.parts.groups.payload given }
-        ensures ok { (w : ℕ) → IfOk result (λ outcome. (T : Tiered) → RepresentsTiers self.old T → (slot : Option ℕ) × IsFirst (IsFreeMirror T.flat) slot
-            × ((U : Tiered) × WritesIn T w block (content_of given.entry) slot outcome U × RepresentsTiers self.new U)) }
-        ensures err { (w : ℕ) → OnErr result ((T : Tiered) → RepresentsTiers self.old T → (slot : ℕ) × IsFirst (IsFreeMirror T.flat) (Some slot)
-            × ((U : Tiered) × PutStops T w (Fresh (content_of given.entry)) block slot U × RepresentsTiers self.new U)) }
-        ensures room { SameSizes self.old.world.array self.new.world.array }
-    {
-        match self.free_mirror() {
-            Some(slot) => self.put(alloc, slot, block, Some(given)),
-            None => Ok(Outcome::NoRoom),
         }
     }
 

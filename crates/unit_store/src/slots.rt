@@ -81,27 +81,3 @@ pub(crate) fn read_group_headers<D: Drive>(
         None => 0,
     }
 }
-
-/// Writes the unit of a slot of either class.
-pub(crate) fn write_slot<D: Drive>(
-    groups: &GroupTable,
-    drives: &mut [D],
-    slot: u16,
-    unit: &[u8],
-    scratch: &mut [u8],
-) -> Result<(), StoreRefusal>
-    requires slot { IsSlot groups.now slot }
-    requires drives { AreDrives D.units groups.now drives.old }
-    requires unit { length unit.now ≡ unit_bytes groups.now }
-    requires scratch { length scratch.old ≡ 2 * unit_bytes groups.now }
-    ensures ok { OnOk result (unit_of groups.now (cells D.units D.lost drives.new) slot ≡ Some unit.now) }
-    ensures gone { IfErr result (NamesGone groups.now (cells D.units D.lost drives.new) slot) }
-    ensures wrote { WroteSlot groups.now (cells D.units D.lost drives.old) (cells D.units D.lost drives.new) slot unit.now }
-    ensures touched { KeepsDrives D.units D.lost D.failures (IsOwnOf groups.now slot) drives.old drives.new }
-    ensures drives { AreDrives D.units groups.now drives.new }
-{
-    match groups.class_of(slot / SLOTS) {
-        Some(Class::Mirrored) => mirrored_store::write(groups, drives, slot, unit, scratch),
-        _ => parity_store::write(groups, drives, slot, unit, scratch),
-    }
-}
