@@ -14,14 +14,16 @@ fn cut_unit(word: &str) -> (&str, u64) {
     }
 }
 
-/// The bytes that a word names: digits, and K, M or G. None where it is no such word, or 2^64 bytes or more.
+/// The bytes that a word names: digits, and K, M or G. 2^64 bytes or more count as one fewer: no disk is so large. None where it is no
+/// such word.
 pub fn size_in(word: &str) -> Option<u64> {
     let (number, unit) = cut_unit(word);
-    if !number.bytes().all(|byte| byte.is_ascii_digit()) {
+    if number.is_empty() || !number.bytes().all(|byte| byte.is_ascii_digit()) {
         return None;
     }
     match number.parse::<u64>() {
-        Ok(count) => count.checked_mul(unit),
-        Err(_) => None,
+        Ok(count) => Some(count.saturating_mul(unit)),
+        // All of it are digits, so it is only too long.
+        Err(_) => Some(u64::MAX),
     }
 }

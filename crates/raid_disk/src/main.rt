@@ -54,9 +54,15 @@ fn refused(rt: &HostRuntime, error: &clap::Error) -> ExitCode {
     if error.kind() == clap::error::ErrorKind::OutOfMemory {
         return ended(rt, Err(Trouble::Memory), named(""));
     }
-    // Nothing is left to do where the text can't be written.
-    let _ = error.print(rt);
-    ExitCode::from(if error.use_stderr() { WRONG_WORDS } else { 0 })
+    let printed = error.print(rt);
+    if error.use_stderr() {
+        // Nothing is left to do where standard error can't be written.
+        return ExitCode::from(WRONG_WORDS);
+    }
+    match printed {
+        Ok(()) => ExitCode::from(0),
+        Err(why) => ended(rt, Err(Trouble::Output(why)), named("")),
+    }
 }
 
 // A folder of which nothing but the name is known.
