@@ -97,7 +97,7 @@ pub(crate) fn shorten_log<D: Drive>(alloc: Global, tiers: &mut Tiers<D>)
     }
 }
 
-/// Reads a piece of a block, from a byte of it on. The buffer has a block's length.
+/// Reads a piece of a block, from a byte of it on. The buffer has a block's length, and is overwritten. Refused where the block is gone.
 pub(crate) fn read_piece<D: Drive>(
     tiers: &mut Tiers<D>,
     buffer: &mut [u8],
@@ -125,7 +125,7 @@ pub(crate) fn read_piece<D: Drive>(
     Ok(())
 }
 
-/// Writes a piece of a block, from a byte of it on. The buffer has a block's length.
+/// Writes a piece of a block, from a byte of it on. The buffer has a block's length, and is overwritten.
 pub(crate) fn write_piece<D: Drive>(
     alloc: Global,
     tiers: &mut Tiers<D>,
@@ -153,7 +153,7 @@ pub(crate) fn write_piece<D: Drive>(
     put(alloc, tiers, block, Given::Payload(buffer))
 }
 
-/// Makes a piece of a block zero, from a byte of it on. The buffer has a block's length.
+/// Makes a piece of a block zero, from a byte of it on. The buffer has a block's length, and is overwritten.
 pub(crate) fn zero_piece<D: Drive>(
     alloc: Global,
     tiers: &mut Tiers<D>,

@@ -17,47 +17,43 @@ pub(crate) type Memory = Array<MemDrive, Plain>;
 #[derive(Drop)]
 pub(crate) struct Allocations {
     pub(crate) answers: usize,
-    pub(crate) expected: u32,
+    pub(crate) stops: u32,
 }
 
 /// Runs a case; at its line `--` the array is restarted from its drives, groups and claims.
 pub(crate) fn run_case(alloc: Global, case: &Case<'_>) -> Result<Allocations, Trouble> {
-    let mut expected = 0u32;
-    let world = run_on(alloc, case.world(alloc)?, &case.before, &mut expected)?;
-    let world = afresh(alloc, world, &mut expected)?;
-    run_on(alloc, world, &case.following, &mut expected)?;
+    let mut stops = 0u32;
+    let world = run_on(alloc, case.world(alloc)?, &case.before, &mut stops)?;
+    let world = afresh(alloc, world, &mut stops)?;
+    run_on(alloc, world, &case.following, &mut stops)?;
     Ok(Allocations {
         answers: case
             .before
             .steps
             .len()
             .saturating_add(case.following.steps.len()),
-        expected,
+        stops,
     })
 }
 
 // Counts a call that ran out of memory.
-fn count(expected: &mut u32) {
-    *expected = expected.saturating_add(1);
+fn count(stops: &mut u32) {
+    *stops = stops.saturating_add(1);
 }
 
-// Runs a world over steps. If it stopped out of memory, it goes on from there. One allocation fails in a run, so the rest has
-// to come to its end.
-fn run_on(
-    alloc: Global,
-    world: World,
-    part: &Part<'_>,
-    expected: &mut u32,
-) -> Result<World, Trouble> {
+// Runs a world over steps, and compares its answers with the file's: others are `Wrong`. If it stopped out of memory, that is counted, and
+// it goes on from there. One allocation fails in a run, so the rest has to come to its end.
+fn run_on(alloc: Global, world: World, part: &Part<'_>, stops: &mut u32) -> Result<World, Trouble> {
     match run_once(alloc, world, &part.steps)? {
         Ok(run) => answered(run, &part.expected),
         Err(stopped) => {
-            count(expected);
+            count(stops);
             go_on(alloc, stopped, part)
         }
     }
 }
 
+// Compares the answers before the stop, and runs the rest of the steps.
 fn go_on(alloc: Global, stopped: Stopped, part: &Part<'_>) -> Result<World, Trouble> {
     let steps = part.steps.get(stopped.at..).ok_or(Trouble::Wrong)?;
     let (done, left) = part
@@ -72,37 +68,37 @@ fn go_on(alloc: Global, stopped: Stopped, part: &Part<'_>) -> Result<World, Trou
 
 // Takes a world apart and rebuilds it, with each call repeated once after it was out of memory. The map of the headers is the
 // running map before and after. A call that failed returns what it took, else there would be nothing to repeat it with.
-fn afresh(alloc: Global, world: World, expected: &mut u32) -> Result<World, Trouble> {
+fn afresh(alloc: Global, world: World, stops: &mut u32) -> Result<World, Trouble> {
     let array = world.into_array();
     let before = map_of(alloc, &array)?;
-    let array = remade(alloc, array, &before, expected)?;
+    let array = remade(alloc, array, &before, stops)?;
     if !map_of(alloc, &array)?.agrees(&before) {
         return Err(Trouble::Wrong);
     }
-    housed(alloc, array, expected)
+    housed(alloc, array, stops)
 }
 
 fn remade(
     alloc: Global,
     array: Memory,
     before: &BlockMap,
-    expected: &mut u32,
+    stops: &mut u32,
 ) -> Result<Memory, Trouble> {
-    let (mut parts, claims) = apart(alloc, array, expected)?;
-    if !is_map(scan_again(alloc, &mut parts, expected), before)? {
+    let (mut parts, claims) = apart(alloc, array, stops)?;
+    if !is_map(scan_again(alloc, &mut parts, stops), before)? {
         return Err(Trouble::Wrong);
     }
-    made(alloc, parts, claims, expected)
+    made(alloc, parts, claims, stops)
 }
 
 fn scan_again(
     alloc: Global,
     parts: &mut Parts<MemDrive>,
-    expected: &mut u32,
+    stops: &mut u32,
 ) -> Result<BlockMap, ScanFault> {
     match scan_fit(alloc, parts) {
         Err(ScanFault::Memory) => {
-            count(expected);
+            count(stops);
             scan_fit(alloc, parts)
         }
         scanned => scanned,
@@ -132,12 +128,12 @@ fn is_map(scanned: Result<BlockMap, ScanFault>, expected: &BlockMap) -> Result<b
 
 type Taken = (Parts<MemDrive>, Vec<Plain>);
 
-fn apart(alloc: Global, array: Memory, expected: &mut u32) -> Result<Taken, Trouble> {
+fn apart(alloc: Global, array: Memory, stops: &mut u32) -> Result<Taken, Trouble> {
     let array = match array.into_parts(alloc) {
         Ok(taken) => return Ok(taken),
         Err(array) => array,
     };
-    count(expected);
+    count(stops);
     match array.into_parts(alloc) {
         Ok(taken) => Ok(taken),
         Err(_) => Err(Trouble::Memory),
@@ -148,13 +144,13 @@ fn made(
     alloc: Global,
     parts: Parts<MemDrive>,
     claims: Vec<Plain>,
-    expected: &mut u32,
+    stops: &mut u32,
 ) -> Result<Memory, Trouble> {
     let (parts, claims) = match made_once(alloc, parts, claims)? {
         Ok(array) => return Ok(array),
         Err(back) => back,
     };
-    count(expected);
+    count(stops);
     match made_once(alloc, parts, claims)? {
         Ok(array) => Ok(array),
         Err(_) => Err(Trouble::Memory),
@@ -177,12 +173,12 @@ fn made_once(
     }
 }
 
-fn housed(alloc: Global, array: Memory, expected: &mut u32) -> Result<World, Trouble> {
+fn housed(alloc: Global, array: Memory, stops: &mut u32) -> Result<World, Trouble> {
     let array = match World::of(alloc, array) {
         Ok(world) => return Ok(world),
         Err(array) => array,
     };
-    count(expected);
+    count(stops);
     match World::of(alloc, array) {
         Ok(world) => Ok(world),
         Err(_) => Err(Trouble::Memory),

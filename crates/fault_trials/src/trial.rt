@@ -50,7 +50,7 @@ fn answer_allocations(rt: &HostRuntime, file: Option<&str>) -> Result<(), Troubl
     let file = named(file)?;
     let text = fs::read_to_string(rt, file)?;
     let counts = run_case(rt.alloc(), &read_case(rt.alloc(), text.as_str())?)?;
-    let (answers, expected) = (counts.answers, counts.expected);
+    let (answers, expected) = (counts.answers, counts.stops);
     println!(rt; "growths {file}: {answers} answers, memory wanted {expected} times")?;
     Ok(())
 }

@@ -90,7 +90,7 @@ impl<D: Drive, N: slot_words::Naming + Sizes, A: map_words::Naming, B: map_words
 }
 
 // One round: a write, a migration and a read at the other controller. The payload is the worker's number and the round's, with
-// zeros after them.
+// zeros after them. The tally counts what was done: no call that found no free slot, or whose record was ahead of the array.
 fn play<
     R: Wait,
     D: Drive,
