@@ -8,7 +8,7 @@ help:
 	@echo "make         builds raid_bench without proof and answers the examples: 2 to 3 minutes"
 	@echo "make lib     builds the library for C without proof, as crates/raid_c/out/quick/libraid_c.a: 1 to 2 minutes"
 	@echo "make build   proves and optimises raid_bench, and answers the examples: 20 to 40 minutes"
-	@echo "make test    the gate: all proofs, must-fail edits, tests and cases: 114 minutes on two processors"
+	@echo "make test    the gate: all proofs, must-fail edits, tests and cases: 79 to 114 minutes on two processors"
 	@echo "make faces   a script's drives kept in files, one left out, and all recovered: a second after make test"
 	@echo "make faults  the long run of injected faults: half an hour after make test, else 30 to 60 minutes of proofs first"
 	@echo "make mutants the must-fail edits that the gate leaves out: over an hour after make test, estimated"
