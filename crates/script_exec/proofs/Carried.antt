@@ -20,11 +20,6 @@ use Rattle.script_exec.specs.Carrying.{AreMapsOf, Carries, IsCarried, IsMap}
 use Rattle.script_exec.specs.declared.bench.Bench.{Bench}
 use Rattle.script_exec.proofs.Benches.{put_here}
 
--- what was carried out by an order was by an equal one
-pub same_order : {E : Type 0} (r : Result (Unit {0}) E) (before after : Bench) (order other : Order) (old new : List ℕ) → OnOk r (Carries before after order old new) → order ≡ other
-    → OnOk r (Carries before after other old new)
-same_order r before after order other old new carried same = subst (λ o. OnOk r (Carries before after o old new)) same carried
-
 -- a step whose answer is appended carries its command out
 pub reported_noted : {E : Type 0} (r : Result (Unit {0}) E) (before : Bench) (u : TiersView) (order : Order) (step : FlatStep) (answer : FlatAnswer)
     (old new : List ℕ) → OnOk r (new ≡ old ++ answer_text (asked_version step) answer)

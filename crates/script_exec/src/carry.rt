@@ -81,17 +81,9 @@ pub fn carry_out(
         Verb::Unmake => unmake(alloc, bench, first as u8, second as u16, out),
         Verb::Claim => claim(bench, first as u8, second as u16, out),
         Verb::Release => release(bench, first as u8, second as u16, out),
-        Verb::Fill => {
-            let filled = bench.tiers.fill(first as u8, second as u16, payload)?;
-            put_answer(out, &filled, 0)
-        }
+        Verb::Fill => fill(bench, first as u8, second as u16, payload, out),
         Verb::Copy => copy(bench, first as u8, second as u16, third as u32, out),
-        Verb::Commit => {
-            let committed = bench
-                .tiers
-                .commit(alloc, first as u8, second as u16, third as u32)?;
-            put_answer(out, &committed, 0)
-        }
+        Verb::Commit => commit(alloc, bench, first as u8, second as u16, third as u32, out),
         Verb::Discard => discard(bench, first as u8, second as u16, out),
         Verb::Add => add(alloc, bench, out),
         Verb::Balance => balance(bench, out),
@@ -106,12 +98,7 @@ pub fn carry_out(
         Verb::Map => map(alloc, bench, out),
         Verb::Log => log(alloc, bench, out),
         Verb::Scan => scan(alloc, bench, out),
-        Verb::Write => {
-            let written = bench
-                .tiers
-                .write(alloc, second as u32, Given::Payload(payload))?;
-            put_outcome(out, written)
-        }
+        Verb::Write => write(alloc, bench, second as u32, payload, out),
         Verb::Trim => trim(alloc, bench, second as u32, out),
         Verb::Demote => demote(alloc, bench, out),
         Verb::Plug => plug(alloc, bench, out),
@@ -135,6 +122,21 @@ fn release(bench: &mut Bench, worker: u8, slot: u16, out: &mut Vec<u8>) -> Resul
     put_answer(out, &answer, 0)
 }
 
+fn fill(
+    bench: &mut Bench,
+    worker: u8,
+    slot: u16,
+    payload: &[u8],
+    out: &mut Vec<u8>,
+) -> Result<(), AllocError>
+    requires payload { length payload.now ≡ bench.old.tiers.world.array.parts.groups.payload }
+    ensures carried { OnOk result (Carries bench.old bench.new (o.Fill worker slot payload.now) out.old.items out.new.items) }
+    ensures kept { IsPrefix out.old.items out.new.items }
+{
+    let answer = bench.tiers.fill(worker, slot, payload)?;
+    put_answer(out, &answer, 0)
+}
+
 fn copy(
     bench: &mut Bench,
     worker: u8,
@@ -147,6 +149,22 @@ fn copy(
     ensures kept { IsPrefix out.old.items out.new.items }
 {
     let answer = bench.tiers.copy(worker, slot, block)?;
+    put_answer(out, &answer, 0)
+}
+
+fn commit(
+    alloc: Global,
+    bench: &mut Bench,
+    worker: u8,
+    slot: u16,
+    block: u32,
+    out: &mut Vec<u8>,
+) -> Result<(), AllocError>
+    requires block { block < bench.old.tiers.world.array.parts.groups.blocks }
+    ensures carried { OnOk result (Carries bench.old bench.new (o.Commit worker slot block) out.old.items out.new.items) }
+    ensures kept { IsPrefix out.old.items out.new.items }
+{
+    let answer = bench.tiers.commit(alloc, worker, slot, block)?;
     put_answer(out, &answer, 0)
 }
 
@@ -270,6 +288,22 @@ fn log(alloc: Global, bench: &mut Bench, out: &mut Vec<u8>) -> Result<(), AllocE
         return Err(AllocError)
     };
     put_listing(out, b"log ", &records)
+}
+
+fn write(
+    alloc: Global,
+    bench: &mut Bench,
+    block: u32,
+    payload: &[u8],
+    out: &mut Vec<u8>,
+) -> Result<(), AllocError>
+    requires block { block < bench.old.tiers.world.array.parts.groups.blocks }
+    requires payload { length payload.now ≡ bench.old.tiers.world.array.parts.groups.payload }
+    ensures carried { (w : ℕ) → OnOk result (Carries bench.old bench.new (o.Write w block payload.now) out.old.items out.new.items) }
+    ensures kept { IsPrefix out.old.items out.new.items }
+{
+    let outcome = bench.tiers.write(alloc, block, Given::Payload(payload))?;
+    put_outcome(out, outcome)
 }
 
 fn trim(alloc: Global, bench: &mut Bench, block: u32, out: &mut Vec<u8>) -> Result<(), AllocError>
