@@ -6,3 +6,4 @@ pub mod Stripes
 pub mod Planning
 pub mod Carrying
 pub mod There
+pub mod Reading

@@ -14,19 +14,14 @@ use Rattle.extent_groups.specs.Groups.{Groups}
 use Rattle.parity_store.specs.declared.way.Way.{Way}
 use Rattle.parity_store.specs.declared.way.Way.TheVariants.{Both, Alone, Parity, Missed}
 
--- both places were read, and the sum is the parity by difference; the parity's drive is lost; or the unit's is
-abbrev pub IsRead : Cells → Place → Place → List ℕ → List ℕ → Way → Type 0
-IsRead c home parity unit sum Both = (d : List ℕ) × (q : List ℕ) × (held c home ≡ Some d) × (held c parity ≡ Some q) × (sum ≡ plus (plus q d) unit)
-IsRead c home parity unit sum Alone = (d : List ℕ) × (held c home ≡ Some d) × (held c parity ≡ None)
-IsRead c home parity unit sum Parity = ⊥
-IsRead c home parity unit sum Missed = held c home ≡ None
-
--- a complete draft: as read above, and where the unit's drive is lost the sum is the parity from all others, or the slot is gone
+-- a draft: both places were read, and the sum is the parity by difference; the parity's drive is lost; the unit's is, and the sum
+-- is the parity from all others; or the slot is gone
 abbrev pub IsDraft : ℕ → Cells → List Place → ℕ → ℕ → Place → Place → List ℕ → List ℕ → Way → Type 0
+IsDraft n c row p i home parity unit sum Both = (d : List ℕ) × (q : List ℕ) × (held c home ≡ Some d) × (held c parity ≡ Some q) × (sum ≡ plus (plus q d) unit)
+IsDraft n c row p i home parity unit sum Alone = (d : List ℕ) × (held c home ≡ Some d) × (held c parity ≡ None)
 IsDraft n c row p i home parity unit sum Parity =
     (rest : List ℕ) × (held c home ≡ None) × (held c parity ≡ None → ⊥) × (xor_total n (length row) (bare n (row_of c row) i p) ≡ Some rest) × (sum ≡ plus unit rest)
 IsDraft n c row p i home parity unit sum Missed = unit_at n c (InStripe row p i) ≡ None
-IsDraft n c row p i home parity unit sum way = IsRead c home parity unit sum way
 
 -- the writes of a way, in order: the unit where it lies, then the sum as the parity
 abbrev pub writes_by : Place → Place → List ℕ → List ℕ → Way → List Intended

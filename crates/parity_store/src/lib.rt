@@ -29,36 +29,6 @@ pub use listing::plan;
 pub use parity::read_parity;
 pub use way::Way;
 
-// Reads the first bytes of a slot's effective unit, `buffer.len()` of them, with another buffer for each member's and one of a
-// unit's length or, for a whole unit, an empty one; false where the unit's drive and another member's are lost. Inlined, so that
-// a header's copy has a constant length.
-#[inline(always)]
-fn read_fronts<D: Drive>(
-    groups: &GroupTable,
-    members: &[Member],
-    drives: &mut [D],
-    at: &ParityAt,
-    buffer: &mut [u8],
-    part: &mut [u8],
-    scratch: &mut [u8],
-) -> bool
-    requires slot { IsSlotOf Parity groups.now at.now.slot }
-    requires members { IsGroupOf groups.now (at.now.slot / 128) members.now }
-    requires stripe { IsParityAt (length members.now) at.now }
-    requires drives { AreDrives D.units groups.now drives.old }
-    requires size { length buffer.old ≤ unit_bytes groups.now }
-    requires part { length part.old ≡ length buffer.old }
-    requires scratch { IsBuffer (unit_bytes groups.now) (length buffer.old) (length scratch.old) }
-    ensures front { front (length buffer.old) (unit_of groups.now (cells D.units D.lost drives.new) at.now.slot) ≡ if_ok result buffer.new }
-    ensures whole { length buffer.old ≡ unit_bytes groups.now
-        → unit_of groups.now (cells D.units D.lost drives.new) at.now.slot ≡ if_ok result buffer.new }
-    ensures leaves { ReadLeaves D.units D.lost D.failures groups.now (at.now.slot / 128) drives.old drives.new }
-{
-    let row = groups.row_among(members, at);
-    let group = at.slot / SLOTS;
-    stripe::read_stripe(groups, members, drives, group, &row, buffer, part, scratch)
-}
-
 /// Reads the effective unit of a slot, with two buffers of a unit's length; refused where the unit's drive and another member's
 /// are lost.
 pub fn read<D: Drive>(
@@ -77,10 +47,12 @@ pub fn read<D: Drive>(
     ensures leaves { ReadLeaves D.units D.lost D.failures groups.now (slot / 128) drives.old drives.new }
 {
     let size = unit.len();
-    let members = groups.members(slot / SLOTS);
+    let group = slot / SLOTS;
+    let members = groups.members(group);
     let at = groups.locate_parity(members, slot);
+    let row = groups.row_among(members, &at);
     let part = &mut scratch[..size];
-    read_fronts(groups, members, drives, &at, unit, part, &mut [])
+    stripe::read_stripe(groups, members, drives, group, &row, unit, part, &mut [])
         .then_some(())
         .ok_or(StoreRefusal::Gone(slot))
 }
@@ -128,9 +100,11 @@ fn read_header_at<D: Drive>(
     ensures header { header_of groups.now (cells D.units D.lost drives.new) at.now.slot ≡ if_ok result header.new }
     ensures leaves { ReadLeaves D.units D.lost D.failures groups.now (at.now.slot / 128) drives.old drives.new }
 {
+    let row = groups.row_among(members, at);
+    let group = at.slot / SLOTS;
     let (whole, rest) = scratch.split_at_mut(scratch.len() / 2);
     let part = &mut rest[..header.len()];
-    read_fronts(groups, members, drives, at, header, part, whole)
+    stripe::read_stripe(groups, members, drives, group, &row, header, part, whole)
 }
 
 /// Reads the headers of a parity group's slots in ascending order, that of index i into `headers[i]`, with a buffer of two

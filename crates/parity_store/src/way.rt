@@ -1,10 +1,10 @@
 // What a write of a member of a stripe needs to know, read before the first write.
-ghost use Rattle.std.specs.Prelude.{◌≡◌, ◌≢◌, ◌⊎◌, None, length};
+ghost use Rattle.std.specs.Prelude.{◌≡◌, None, length};
 ghost use Rattle.extent_groups.specs.Cells.{cells, held};
-ghost use Rattle.extent_groups.specs.Calls.{AreSized, IsPlace, NoPlace, SameBut, KeepsDrives};
+ghost use Rattle.extent_groups.specs.Calls.{NoPlace, SameBut, KeepsDrives};
 ghost use Rattle.extent_groups.specs.Stores.{HasMemberOn};
 ghost use Rattle.parity_store.specs.Targets.{IsAccessible};
-ghost use Rattle.parity_store.specs.Drafts.{IsRead, IsDraftOf};
+ghost use Rattle.parity_store.specs.Drafts.{IsDraftOf};
 
 use crate::exclusive_or::xor_both_into;
 use crate::others::{Others, add_others};
@@ -23,37 +23,6 @@ pub enum Way {
     Parity,
     /// No way was found.
     Missed,
-}
-
-// Reads both places, and makes of the sum the parity by difference; `Missed` where the unit's drive is lost.
-#[inline(always)]
-fn read_two<D: Drive>(
-    drives: &mut [D],
-    home: Place,
-    parity: Place,
-    unit: &[u8],
-    part: &mut [u8],
-    sum: &mut [u8],
-) -> Way
-    requires home { IsPlace D.units drives.old home }
-    requires parity { IsPlace D.units drives.old parity }
-    requires apart { home.drive ≢ parity.drive }
-    requires size { AreSized D.units (length unit.now) drives.old }
-    requires part { length part.old ≡ length unit.now }
-    requires sum { length sum.old ≡ length unit.now }
-    ensures reported { IsRead (cells D.units D.lost drives.new) home parity unit.now sum.new result }
-    ensures touched { KeepsDrives D.units D.lost D.failures NoPlace drives.old drives.new }
-    ensures elsewhere { SameBut (λ d. (d ≡ home.drive) ⊎ (d ≡ parity.drive)) drives.old drives.new }
-{
-    if !read_place(drives, home, part) {
-        return Way::Missed;
-    }
-    if !read_place(drives, parity, sum) {
-        // No other member is asked, because with its own unit the slot isn't gone.
-        return Way::Alone;
-    }
-    xor_both_into(sum, part, unit);
-    Way::Both
 }
 
 // Finds the way of a unit whose drive was found lost: the parity is computed from all other members. Kept out of line, since it
@@ -112,9 +81,13 @@ pub(crate) fn find_way<D: Drive>(
     ensures touched { KeepsDrives D.units D.lost D.failures NoPlace drives.old drives.new }
     ensures elsewhere { SameBut (HasMemberOn groups.now target.now.group) drives.old drives.new }
 {
-    let read = read_two(drives, target.home, target.parity, unit, part, sum);
-    if read != Way::Missed {
-        return read;
+    if !read_place(drives, target.home, part) {
+        return find_without(groups, drives, target, unit, part, sum);
     }
-    find_without(groups, drives, target, unit, part, sum)
+    if !read_place(drives, target.parity, sum) {
+        // No other member is asked, because with its own unit the slot isn't gone.
+        return Way::Alone;
+    }
+    xor_both_into(sum, part, unit);
+    Way::Both
 }

@@ -1,12 +1,12 @@
 //! Blocks that are written into the mirrored level.
-ghost use Rattle.std.specs.Prelude.{◌≡◌, ℕ, ◌<◌, IfOk, IfSome, OnErr, Option, Some};
+ghost use Rattle.std.specs.Prelude.{◌≡◌, ℕ, ◌<◌, IfOk, IfSome, OnErr};
 ghost use Rattle.extent_groups.specs.declared.class.Class.TheVariants.{Mirrored};
 ghost use Rattle.slot_tables.specs.Views.{SameSizes};
 ghost use Rattle.migrator.specs.First.{IsFirst};
 ghost use Rattle.tiered_array.specs.Inside.{IsFreeOf};
-ghost use Rattle.tiered_array.specs.Placing.{Fresh, IsGivenFor, content_of};
+ghost use Rattle.tiered_array.specs.Placing.{IsGivenFor, content_of};
 ghost use Rattle.tiered_array.specs.Matches.{RepresentsTiers};
-ghost use Rattle.tiered_array.specs.Steps.{IsFreeMirror, PutStops, TierCase, TierStops, WritesIn};
+ghost use Rattle.tiered_array.specs.Steps.{IsFreeMirror, TierCase, TierStops};
 ghost use Rattle.tiered_array.specs.Steps as t;
 ghost use Rattle.tiered_array.specs.Tiered.{Tiered};
 

@@ -12,7 +12,7 @@ ghost use Rattle.unit_store.specs.Losses.{AllFare, KeepsTables, LosesOnly};
 ghost use Rattle.unit_store.specs.Slots.{IsSlot, cells_in, missing_in, HoldsUnit, ReportsGone};
 
 use crate::note::Note;
-use crate::slots::{read_group_headers, read_slot_header};
+use crate::slots::{read_group_headers, read_slot, read_slot_header};
 use extent_groups::{Class, GroupTable, SLOTS, sync_drives};
 use extents::{Drive, ExtentTable, HEADER_BYTES, Shape};
 use flat_machine::Refusal;
@@ -100,12 +100,7 @@ impl<D: Drive> Parts<D> {
         ensures fit { IsFit D.units self.new }
     {
         let drives: &mut [D] = &mut self.drives;
-        if let Some(Class::Mirrored) = self.groups.class_of(slot / SLOTS) {
-            return mirrored_store::read(&self.groups, drives, slot, unit)
-                .ok()
-                .ok_or(Refusal::Gone(slot));
-        }
-        parity_store::read(&self.groups, drives, slot, unit, scratch)
+        read_slot(&self.groups, drives, slot, unit, scratch)
             .ok()
             .ok_or(Refusal::Gone(slot))
     }

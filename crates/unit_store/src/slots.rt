@@ -1,10 +1,9 @@
-// Reads and writes of slots of either class.
+// Reads of slots of either class.
 ghost use Rattle.std.specs.Prelude.{◌≡◌, ◌+◌, ◌*◌, ◌/◌, ◌<◌, ◌≤◌, length, Some, None, OnOk, IfErr};
 ghost use Rattle.extents.specs.declared.shape.TheConstants.{HEADER_BYTES};
 ghost use Rattle.extent_groups.specs.Cells.{cells};
 ghost use Rattle.extent_groups.specs.Groups.{group_at, slots_in};
-ghost use Rattle.extent_groups.specs.Calls.{KeepsDrives};
-ghost use Rattle.extent_groups.specs.Stores.{unit_bytes, unit_of, header_of, AreHeaders, AreSound, AreDrives, WroteSlot, NamesGone, IsOwnOf, ReadLeaves};
+ghost use Rattle.extent_groups.specs.Stores.{unit_bytes, unit_of, header_of, AreHeaders, AreSound, AreDrives, NamesGone, ReadLeaves};
 ghost use Rattle.unit_store.specs.Slots.{IsSlot};
 
 use extent_groups::{Class, GroupTable, SLOTS, StoreRefusal};
