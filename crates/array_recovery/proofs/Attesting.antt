@@ -4,12 +4,12 @@ use Rattle.std.proofs.lemmas.Option.{slice_get_within}
 use Rattle.extents.specs.Condition.{Held}
 use Rattle.extent_groups.specs.declared.place.Place.{Place}
 use Rattle.extent_groups.specs.Cells.{Cells, held}
-use Rattle.vault.specs.Images.{Image, recovered}
+use Rattle.vault.specs.Images.{Image}
 use Rattle.vault.specs.Moments.{IsAsAttested, IsUnitAt}
 use Rattle.vault.specs.declared.store.UnitRead.{UnitRead}
 use Rattle.vault.specs.declared.store.UnitRead.TheVariants.{Absent, Rotten, Whole}
 use Rattle.rotten_units.specs.Loaded.{AreReadOrNoted}
-use Rattle.array_recovery.specs.Found.{AreGone, AreLastIfAttested, AreMarksIf, IsLastIfAttested, IsTable, with_cells}
+use Rattle.array_recovery.specs.Found.{AreLastIfAttested, AreMarksIf, AreUnitsLastIfAttested, IsLastIfAttested}
 use Rattle.array_recovery.proofs.Marking.{some_is}
 
 -- where the marks lie
@@ -27,17 +27,16 @@ marks_written attested written now out Rotten known whole there last is at = rec
 }
 
 -- what was read, but for noted places, is what was written last
-pub read_written : (noted attested digest : Place → Type 0) (marks : List ℕ) (drives : ℕ) (absent lost : List Bool) (base : Image) (written : Cells) (caches : List Held) → length caches ≡ drives
-    → AreGone marks absent lost → AreLastIfAttested attested drives absent base written → IsTable marks (recovered (with_cells base written)) → ((x : Place) → digest x → attested x)
-    → AreReadOrNoted noted digest lost base.cells caches → AreReadOrNoted noted digest lost written caches
-read_written noted attested digest marks drives absent lost base written caches many gone last is_table before are = record {
+pub read_written : (noted attested digest : Place → Type 0) (drives : ℕ) (lost : List Bool) (now written : Cells) (caches : List Held) → length caches ≡ drives
+    → AreUnitsLastIfAttested attested drives lost written now → ((x : Place) → digest x → attested x) → AreReadOrNoted noted digest lost now caches → AreReadOrNoted noted digest lost written caches
+read_written noted attested digest drives lost now written caches many last before are = record {
   each = λ d at m e not low.
       let is = are.each d at m e not low in
       let x : Place = record { drive = d; address = at } in
-      let one = last.each marks is_table x (let inside = slice_get_within caches d m e in omega (arith, inside, many)) (sym (gone.each d) ∙ not) in
+      let one = last x (let inside = slice_get_within caches d m e in omega (arith, inside, many)) not in
       record {
         there = one.there is.there;
-        found = λ out. (let unit = some_is (held base.cells x) is.there in one.same (before x (is.digest out)) unit.0 unit.1 ∙ sym unit.1 ∙ is.found out);
+        found = λ out. (let unit = some_is (held now x) is.there in one.same (before x (is.digest out)) unit.0 unit.1 ∙ sym unit.1 ∙ is.found out);
         digest = is.digest;
       };
 }

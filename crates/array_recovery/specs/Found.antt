@@ -8,6 +8,7 @@ use Rattle.history.specs.Entries.{Course}
 use Rattle.vault.specs.Images.{Image, is_lost, recovered}
 use Rattle.vault.specs.Moments.{IsWrittenTo}
 use Rattle.cached_drive.specs.Saving.{Units, saved_by}
+pub use Rattle.vault.specs.Attested.{IsLastIfAttested, with_cells}
 pub use Rattle.rotten_units.specs.Loaded.{AreFormed, HaveUnits, OnlyRead}
 
 -- the table has these marks
@@ -37,14 +38,10 @@ pub record IsFoundInCells (c : Cells) (absent : List Bool) (marks : List ℕ) (l
   pub gone : AreGone marks absent lost
   pub units : HaveUnits lost c caches
 
--- an image with other units, and the same journal
-abbrev pub with_cells : Image → Cells → Image
-with_cells i cells = record { cells = cells; journal = i.journal }
-
--- What lies at a place is the unit that was written last there, if it is attested; and if anything lies there a unit was written.
-pub record IsLastIfAttested (attested : Place → Type 0) (written now : Cells) (x : Place) : Type 0 where
-  pub there : is_some (held now x) ≡ true → is_some (held written x) ≡ true
-  pub same : attested x → (unit : List ℕ) → held now x ≡ Some unit → held written x ≡ Some unit
+-- Of the units of the first drives, but for lost ones, drives return what was written last, or nothing, or bytes that aren't as their digest
+-- says.
+abbrev pub AreUnitsLastIfAttested : (attested : Place → Type 0) → ℕ → List Bool → (written now : Cells) → Type 0
+AreUnitsLastIfAttested attested drives lost written now = (x : Place) → x.drive < drives → is_lost lost x.drive ≡ false → IsLastIfAttested attested written now x
 
 -- Drives return what was written last, or nothing, or bytes that aren't as their digest says: so it is with the table's marks, and with each
 -- unit of the first drives that aren't lost. A drive is lost that the marks of what was written say is, or that is absent. The journal is as it

@@ -2,10 +2,11 @@
 ghost use Rattle.std.specs.Prelude.{◌≡◌, ◌+◌, ◌*◌, length, OnOk, IfOk};
 ghost use Rattle.extents.specs.Sizes.{extent_units};
 ghost use Rattle.extents.specs.declared.shape.TheConstants.{HEADER_BYTES};
+ghost use Rattle.extent_groups.specs.Cells.{Cells};
 ghost use Rattle.extent_groups.specs.declared.place.Place.{Place};
 ghost use Rattle.vault.specs.Images.{Image};
 ghost use Rattle.vault.specs.Marks.{Has};
-ghost use Rattle.array_recovery.specs.Found.{AreFormed, HaveUnits, OnlyRead};
+ghost use Rattle.array_recovery.specs.Found.{AreFormed, AreUnitsLastIfAttested, HaveUnits, OnlyRead};
 
 use crate::fault::RecoveryFault;
 use extents::{DRIVES, MemDrive, Shape};
@@ -39,6 +40,10 @@ pub fn load_drives<V: Vault>(
     ensures many { IfOk result (λ caches. length caches.items ≡ drives) }
     ensures formed { IfOk result (λ caches. AreFormed (shape.now.extents * extent_units shape.now.segments) (HEADER_BYTES + shape.now.payload) caches.items) }
     ensures units { V.known vault.old → IfOk result (λ caches. HaveUnits lost.now (Image.cells (V.seen vault.old)) caches.items) }
+
+    // No unit is used that isn't as its digest says: where each other one is the one that was written last, these are what was written.
+    ensures honest { V.known vault.old → (written : Cells) → AreUnitsLastIfAttested (V.attested vault.old) drives lost.now written (Image.cells (V.seen vault.old))
+        → IfOk result (λ caches. HaveUnits lost.now written caches.items) }
 {
     let loaded = load_units(alloc, vault, shape, drives, lost)?;
     test_rotten(&loaded.rotten)?;

@@ -355,7 +355,7 @@ fn cut_some(held: &mut Vec<Vec<u8>>, file: u8, at: u64, whole: bool, random: &mu
 // Makes the bytes from an offset on zeros: none of them (`how` 0), all (1), those past another (2), or those that a coin chooses (3).
 fn cut_bytes(held: &mut [u8], from: usize, how: u64, past: usize, random: &mut u64) {
     for spot in from..held.len() {
-        if is_kept(how, spot >= past, random) {
+        if takes_effect(how, spot >= past, random) {
             held[spot] = 0;
         }
     }
@@ -388,7 +388,7 @@ fn put_some(
 // Writes none of the bytes (`how` 0), all (1), those before a cut (2), or those that a coin chooses (3).
 fn put_bytes(held: &mut [u8], from: usize, bytes: &[u8], how: u64, cut: usize, random: &mut u64) {
     for index in 0..bytes.len() {
-        let kept = is_kept(how, index < cut, random);
+        let kept = takes_effect(how, index < cut, random);
         let spot = from.saturating_add(index);
         if kept && spot < held.len() {
             held[spot] = bytes[index];
@@ -396,8 +396,8 @@ fn put_bytes(held: &mut [u8], from: usize, bytes: &[u8], how: u64, cut: usize, r
     }
 }
 
-// Whether a byte of a call is kept.
-fn is_kept(how: u64, inside: bool, random: &mut u64) -> bool {
+// Whether a call takes effect on a byte: never (`how` 0), always (1), inside a range (2), or as a coin says (3).
+fn takes_effect(how: u64, inside: bool, random: &mut u64) -> bool {
     match how {
         0 => false,
         1 => true,

@@ -12,7 +12,8 @@ use Rattle.vault.specs.Images.{Image, flat}
 use Rattle.vault.specs.Moments.{Elapses}
 use Rattle.vault.specs.declared.store.Stop.{Stop}
 use Rattle.vault.proofs.Writes.{after_both, flat_last, take_next}
-use Rattle.group_form.specs.Form.{HasGroups, SpellsGroups, count_unit, group_unit}
+use Rattle.vault.specs.Attested.{IsLastIfAttested}
+use Rattle.group_form.specs.Form.{AreFormLastIfAttested, HasGroups, SpellsGroups, count_unit, group_unit}
 use Rattle.group_form.specs.Reading.{AreKnownOf, AreUnitsOf, OnlyReadsVault}
 use Rattle.group_form.proofs.Writing.{over_there}
 
@@ -99,6 +100,18 @@ units_add units c o at is are = record {
   ];
   there = λ u p e. elim (at_end o units u p e) [ inl old ↦ are.there u p old | inr new ↦ ap (λ k. is_some (c 16 (suc k))) new.0 ∙ is ];
 }
+
+-- what was written last, also after calls that attest no more and find the same
+pub last_later : (old new : Place → Type 0) (written : Cells) (was now : Image) (x : Place) → ((y : Place) → new y → old y) → now ≡ was
+    → IsLastIfAttested old written was.cells x → IsLastIfAttested new written now.cells x
+last_later old new written was now x less same last = record {
+  there = λ here. last.there (subst (λ (i : Image). is_some (held i.cells x) ≡ true) same here);
+  same = λ is unit at. last.same (less x is) unit (subst (λ (i : Image). held i.cells x ≡ Some unit) same at);
+}
+
+-- what lies there now may be what was written last
+pub as_found : (attested : Place → Type 0) (now : Cells) → AreFormLastIfAttested attested now now
+as_found attested now = λ u low. record { there = λ here. here; same = λ is unit at. at }
 
 -- the first units are known
 pub record AreFirst (units : List (Option (List ℕ))) (known : List (List ℕ)) : Type 0 where

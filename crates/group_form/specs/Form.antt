@@ -7,6 +7,7 @@ use Rattle.extent_groups.specs.declared.class.Member.{Member}
 use Rattle.extent_groups.specs.Cells.{Cells, held}
 use Rattle.extent_groups.specs.Planned.{Intended}
 use Rattle.extent_groups.specs.declared.place.Place.{Place}
+use Rattle.vault.specs.Attested.{IsLastIfAttested}
 use Rattle.extent_groups.specs.Groups.{Groups, class_in, group_at, members_of}
 
 -- the number of a class
@@ -46,6 +47,10 @@ pub record SpellsGroups (groups : Groups) (count : ℕ) (units : List (List ℕ)
 pub record HasGroups (groups : Groups) (count : ℕ) (c : Cells) : Type 0 where
   pub each : (u : ℕ) → u < 1024 → c 16 (suc u) ≡ Some (group_unit groups u)
   pub last : c 16 1025 ≡ Some (count_unit count)
+
+-- Of the units that spell the groups, drives return what was written last, or nothing, or bytes that aren't as their digest says.
+abbrev pub AreFormLastIfAttested : (attested : Place → Type 0) → (written now : Cells) → Type 0
+AreFormLastIfAttested attested written now = (u : ℕ) → u < 1025 → IsLastIfAttested attested written now (record { drive = 16; address = suc u })
 
 -- units are at the table's addresses
 abbrev pub HasFormPlaces : Cells → Type 0

@@ -3,6 +3,9 @@ ghost use Rattle.std.specs.Prelude.{◌≡◌, is_some, suc, true, Some, IfOk, I
 ghost use Rattle.extent_groups.specs.Cells.{Cells};
 ghost use Rattle.extent_groups.specs.Planned.{after, with_unit};
 ghost use Rattle.vault.specs.Images.{Image, recovered};
+ghost use Rattle.vault.specs.Attested.{IsLastIfAttested, with_cells};
+ghost use Rattle.vault.specs.Moments.{AttestsNoMore};
+ghost use Rattle.group_form.specs.Form.{AreFormLastIfAttested};
 ghost use Rattle.group_form.specs.Reading.{AreKnownOf, AreUnitsOf, OnlyReadsVault};
 
 use crate::fault::FormFault;
@@ -15,8 +18,13 @@ use vault::{Batch, TABLE, UnitRead, Vault};
 fn load_unit<V: Vault>(vault: &mut V, index: u16) -> Result<Option<[u8; FORM_BYTES]>, FormFault>
     ensures stays { V.known vault.old → V.known vault.new }
     ensures read { V.known vault.old → OnlyReadsVault V.seen V.may_leave V.moment V.left_since vault.old vault.new }
-    ensures unit { V.known vault.old → IfOk result (λ found. IfSome found (λ unit. Image.cells (V.seen vault.old) 16 (suc index) ≡ Some unit)) }
-    ensures there { V.known vault.old → OnOk result (is_some (Image.cells (V.seen vault.old) 16 (suc index)) ≡ true) }
+    ensures attests { V.known vault.old → AttestsNoMore V.attested vault.old vault.new }
+    ensures unit { V.known vault.old → (written : Cells)
+        → IsLastIfAttested (V.attested vault.old) written (Image.cells (V.seen vault.old)) (record { drive = 16; address = suc index })
+        → IfOk result (λ found. IfSome found (λ unit. written 16 (suc index) ≡ Some unit)) }
+    ensures there { V.known vault.old → (written : Cells)
+        → IsLastIfAttested (V.attested vault.old) written (Image.cells (V.seen vault.old)) (record { drive = 16; address = suc index })
+        → OnOk result (is_some (written 16 (suc index)) ≡ true) }
 {
     let place = Place {
         drive: TABLE,
@@ -38,7 +46,8 @@ fn load_units<V: Vault>(
 ) -> Result<Vec<Option<[u8; FORM_BYTES]>>, FormFault>
     ensures stays { V.known vault.old → V.known vault.new }
     ensures read { V.known vault.old → OnlyReadsVault V.seen V.may_leave V.moment V.left_since vault.old vault.new }
-    ensures units { V.known vault.old → IfOk result (λ units. AreKnownOf units.items (Image.cells (V.seen vault.old))) }
+    ensures units { V.known vault.old → (written : Cells) → AreFormLastIfAttested (V.attested vault.old) written (Image.cells (V.seen vault.old))
+        → IfOk result (λ units. AreKnownOf units.items written) }
 {
     let mut units = Vec::new(alloc);
     for index in 0..FORM_UNITS {
@@ -101,7 +110,7 @@ fn lay_journal<V: Vault>(
     ensures stays { V.known vault.old → V.known vault.new }
     ensures read { V.known vault.old → OnlyReadsVault V.seen V.may_leave V.moment V.left_since vault.old vault.new }
     ensures units { V.known vault.old
-        → OnOk result (AreKnownOf units.old (Image.cells (V.seen vault.old)) → AreKnownOf units.new (recovered (V.seen vault.old))) }
+        → OnOk result ((c : Cells) → AreKnownOf units.old c → AreKnownOf units.new (recovered (with_cells (V.seen vault.old) c))) }
 {
     let count = vault.batches()?;
     for index in 0..count {
@@ -128,15 +137,16 @@ fn all_known(
     Ok(known)
 }
 
-/// The units of the table that spell the groups, as the vault stands for them. Refused where one is rotten that the journal doesn't
-/// write.
+/// The units of the table that spell the groups, as the vault stands for them: for any units that were written last where what lies
+/// there is as its digest says. Refused where one is rotten that the journal doesn't write.
 pub(crate) fn table_units<V: Vault>(
     alloc: Global,
     vault: &mut V,
 ) -> Result<Vec<[u8; FORM_BYTES]>, FormFault>
     ensures stays { V.known vault.old → V.known vault.new }
     ensures read { V.known vault.old → OnlyReadsVault V.seen V.may_leave V.moment V.left_since vault.old vault.new }
-    ensures units { V.known vault.old → IfOk result (λ units. AreUnitsOf units.items (recovered (V.seen vault.old))) }
+    ensures units { V.known vault.old → (written : Cells) → AreFormLastIfAttested (V.attested vault.old) written (Image.cells (V.seen vault.old))
+        → IfOk result (λ units. AreUnitsOf units.items (recovered (with_cells (V.seen vault.old) written))) }
 {
     let mut batch = Batch::new(alloc);
     let mut units = load_units(alloc, vault)?;

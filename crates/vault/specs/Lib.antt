@@ -5,3 +5,4 @@ pub mod Moments
 pub mod Replay
 pub mod Memory
 pub mod Marks
+pub mod Attested

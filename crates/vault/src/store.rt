@@ -12,8 +12,8 @@ use extent_groups::Place;
 use extents::DRIVES;
 use std::alloc::{AllocError, AllocFailed};
 
-/// The drive number of the table, which says which drives are lost: one unit, at address 0. As a place like any other it goes
-/// through batches, so that a loss is noted together with the writes that skipped the drive.
+/// The drive number of the table. Its unit at address 0 says which drives are lost; a disk's groups are spelled in units after it.
+/// As places like any other they go through batches, so that a loss is noted together with the writes that skipped the drive.
 pub const TABLE: u8 = 16;
 
 /// How a run ends.

@@ -54,7 +54,8 @@ returns-clause-honest g c = λ known written last.
     let finds : g.V.Vault.seen c.load_units.new.vault ≡ base = (c.load_units.ensures.read marked).finds ∙ first in
     let table = c.in_ok-marks.ensures.honest known written last.table in
     let are : AreReadOrNoted noted digest lost written items =
-    read_written noted (g.V.Vault.attested c.args.vault.now) digest _ c.args.drives c.args.absent.now lost base written items c.in_ok-loaded.ensures.many c.lost_drives-lost.ensures.gone last table (c.read_marks.ensures.attests known)
+    read_written noted (g.V.Vault.attested c.args.vault.now) digest c.args.drives lost base.cells written items c.in_ok-loaded.ensures.many
+    (λ x low not. last.each _ table x low (sym (c.lost_drives-lost.ensures.gone.each x.drive) ∙ not)) (c.read_marks.ensures.attests known)
     (subst (λ (s : Image). AreReadOrNoted noted digest lost s.cells items) first (c.in_ok-loaded.ensures.found marked)) in
     let lent : c.deref_mut.result.now ≡ items = c.deref_mut.ensures.value in
     let formed = subst (λ (l : List Held). AreFormed (c.args.shape.now.extents * extent_units c.args.shape.now.segments) (HEADER_BYTES + c.args.shape.now.payload) l) (sym lent)
