@@ -333,7 +333,9 @@ fn rebuild(rt: &HostRuntime, folder: Folder<'_>, table: Table, number: u8) -> Re
 }
 
 fn warn_begun(rt: &HostRuntime, number: u8) -> io::Result<()> {
-    eprintln!(rt; "raid_disk: drive {number} has its file: units that are right in it aren't written again")
+    eprintln!(rt;
+        "raid_disk: drive {number} has its file: units that are right in it aren't written again"
+    )
 }
 
 // Gives a drive that is marked its units: in its own file, if that is as new as the others, else in a fresh one.
