@@ -1,29 +1,54 @@
 //! Sizes as words.
+ghost use Rattle.std.specs.Prelude.{◌≡◌, ◌-◌, ◌^◌, ℕ, [], ◌∷◌, min, IfSome, IfNone};
+ghost use Rattle.std.specs.Str.Parse.{IsNumeral, digits_value};
+ghost use Rattle.disk_commands.specs.Sizes.{IsUnit, NamesSize};
 
-// The word without its unit, and the bytes of the unit.
-fn cut_unit(word: &str) -> (&str, u64) {
-    if let Some(number) = word.strip_suffix("K") {
-        return (number, 1024);
+// The bytes of the unit with this letter.
+fn unit_of(letter: u8) -> Option<u64>
+    ensures some { IfSome result (λ unit. IsUnit (letter ∷ []) unit) }
+    ensures none { IfNone result ((unit : ℕ) → IsUnit (letter ∷ []) unit → ⊥) }
+{
+    match letter {
+        b'K' => Some(1024),
+        b'M' => Some(1024 * 1024),
+        b'G' => Some(1024 * 1024 * 1024),
+        _ => None,
     }
-    if let Some(number) = word.strip_suffix("M") {
-        return (number, 1024 * 1024);
+}
+
+// The number that digits spell, and 2^64 - 1 for each one above; none where a byte is no digit, or there is none.
+fn number_in(digits: &[u8]) -> Option<u64>
+    ensures some { IfSome result (λ number. IsNumeral 10 digits.now × (number ≡ min (digits_value 10 digits.now) (2 ^ 64 - 1))) }
+    ensures none { IfNone result (IsNumeral 10 digits.now → ⊥) }
+{
+    if digits.is_empty() {
+        return None;
     }
-    match word.strip_suffix("G") {
-        Some(number) => (number, 1024 * 1024 * 1024),
-        None => (word, 1),
+    let mut number: u64 = 0;
+    for at in 0..digits.len() {
+        let byte = digits[at];
+        if !byte.is_ascii_digit() {
+            return None;
+        }
+        number = number
+            .saturating_mul(10)
+            .saturating_add(u64::from(byte - b'0'));
     }
+    Some(number)
 }
 
 /// The bytes that a word names: digits, and K, M or G. 2^64 bytes or more count as one fewer: no disk is so large. None where it is no
 /// such word.
-pub fn size_in(word: &str) -> Option<u64> {
-    let (number, unit) = cut_unit(word);
-    if number.is_empty() || !number.bytes().all(|byte| byte.is_ascii_digit()) {
+pub fn size_in(word: &str) -> Option<u64>
+    ensures some { IfSome result (NamesSize word.now) }
+    ensures none { IfNone result ((size : ℕ) → NamesSize word.now size → ⊥) }
+{
+    let bytes = word.as_bytes();
+    let Some(last) = bytes.len().checked_sub(1) else {
         return None;
-    }
-    match number.parse::<u64>() {
-        Ok(count) => Some(count.saturating_mul(unit)),
-        // All of it are digits, so it is only too long.
-        Err(_) => Some(u64::MAX),
+    };
+    match unit_of(bytes[last]) {
+        Some(unit) => Some(number_in(&bytes[..last])?.saturating_mul(unit)),
+        None => number_in(bytes),
     }
 }

@@ -1,9 +1,10 @@
 //! A script from a reader to a writer.
-ghost use Rattle.std.specs.Prelude.{◌≡◌, ◌<◌, [], length, Some, IfSome, IfOk};
+ghost use Rattle.std.specs.Prelude.{◌≡◌, [], length, IfSome, IfOk};
 ghost use Rattle.script_exec.specs.State.{State};
 ghost use Rattle.script_exec.specs.Carrying.{MatchesState};
-ghost use Rattle.script_io.specs.Feeding.{IsScript};
-ghost use Rattle.script_io.specs.Turns.{Concludes, SaysBy, TurnsTo};
+ghost use Rattle.script_io.specs.Feeding.{Closes, IsScript};
+ghost use Rattle.script_io.specs.declared.script.Script.{Script};
+ghost use Rattle.script_io.specs.Turns.{Concludes, SaysBy, end_of};
 
 use crate::calls::{read_some, write_out};
 use crate::end::End;
@@ -45,47 +46,40 @@ pub fn run_and_leave<R: Read, W: Write>(
     let Ok(payload) = zeros(alloc, LONGEST_PAYLOAD) else {
         return (End::Memory, None);
     };
+    let chunk: &mut [u8] = &mut chunk;
     let mut script = Script::new(alloc, payload);
-    let end = turns(alloc, reader, writer, &mut chunk, &mut script).end();
-    let Script { bench, .. } = script;
-    (end, bench)
-}
-
-// Repeats turns until the script ends: read a chunk, answer the lines that end in it, and write the answers.
-fn turns<R: Read, W: Write>(
-    alloc: Global,
-    reader: &mut R,
-    writer: &mut W,
-    chunk: &mut [u8],
-    script: &mut Script,
-) -> Halt
-    requires room { 0 < length chunk.old }
-    requires good { IsScript script.old }
-    requires written { script.old.out.items ≡ [] }
-    ensures { (state : State) → MatchesState script.old.bench state →
-        TurnsTo (Some result) (R.remaining reader.old) (R.remaining reader.new) script.old state script.new
-        (W.contents writer.old) (W.contents writer.new) }
-{
+    // Turns: read a chunk, answer the lines that end in it, and write the answers.
     loop {
         match read_some(reader, chunk) {
             // No bytes are the end of the input: a chunk isn't empty.
-            Ok(0) => return close(alloc, writer, script),
+            Ok(0) => {
+                let halt = close(alloc, writer, &mut script);
+                return left_by(halt, script);
+            }
             Ok(count) => {
                 let fed = script.feed(alloc, &chunk[..count]);
                 // Also before a fault or Memory: the answers of earlier lines are whole. A failed write hides both.
                 match write_out(writer, &script.out) {
                     Ok(()) => {}
-                    Err(broke) => return Halt::WriteBroke(broke),
+                    Err(broke) => return left_by(Halt::WriteBroke(broke), script),
                 }
                 match fed {
                     Ok(()) => script.out.clear(),
-                    Err(Stop::Fault) => return Halt::Fault,
-                    Err(Stop::Memory) => return Halt::Memory,
+                    Err(Stop::Fault) => return left_by(Halt::Fault, script),
+                    Err(Stop::Memory) => return left_by(Halt::Memory, script),
                 }
             }
-            Err(broke) => return Halt::ReadBroke(broke),
+            Err(broke) => return left_by(Halt::ReadBroke(broke), script),
         }
     }
+}
+
+// How a script ended, and the array that it leaves.
+fn left_by(halt: Halt, script: Script) -> (End, Option<Bench>)
+    ensures { result.0 ≡ end_of halt }
+{
+    let Script { bench, .. } = script;
+    (halt.end(), bench)
 }
 
 // Answers the line that is open at the end of the input, if there is one, and writes the answer. A failed write hides a fault
@@ -96,7 +90,18 @@ fn close<W: Write>(alloc: Global, writer: &mut W, script: &mut Script) -> Halt
     ensures { (state : State) → MatchesState script.old.bench state →
         Concludes result script.old state [] (W.contents writer.old) (W.contents writer.new) }
 {
-    let finished = script.finish(alloc);
+    if script.line.is_empty() {
+        return conclude(writer, script, Ok(()));
+    }
+    let finished = script.answer_open(alloc);
+    conclude(writer, script, finished)
+}
+
+// Writes what the last line's answer made of a script, and says how that ends.
+fn conclude<W: Write>(writer: &mut W, script: &Script, finished: Result<(), Stop>) -> Halt
+    ensures { (old : Script) (state : State) → old.out.items ≡ [] → Closes finished old state script.now →
+        Concludes result old state [] (W.contents writer.old) (W.contents writer.new) }
+{
     match write_out(writer, &script.out) {
         Ok(()) => {}
         Err(broke) => return Halt::WriteBroke(broke),

@@ -64,17 +64,6 @@ impl Script {
         self.take_in(rest)
     }
 
-    /// Answers the line that is open at the end of the input, if there is one.
-    pub fn finish(&mut self, alloc: Global) -> Result<(), Stop>
-        requires { IsScript self.old }
-        ensures { (state : State) → MatchesState self.old.bench state → Closes result self.old state self.new }
-    {
-        if self.line.is_empty() {
-            return Ok(());
-        }
-        self.answer_open(alloc)
-    }
-
     // Appends bytes to the open line, or reports that it is too long or one too many. Both are reported before the line ends:
     // more bytes can't change them, and `line` stays within its limit.
     fn take_in(&mut self, part: &[u8]) -> Result<(), Stop>
@@ -112,8 +101,8 @@ impl Script {
         }
     }
 
-    // Answers the open line, which ends here, and keeps its memory for the next one.
-    fn answer_open(&mut self, alloc: Global) -> Result<(), Stop>
+    /// Answers the open line, which ends here, and keeps its memory for the next one.
+    pub(crate) fn answer_open(&mut self, alloc: Global) -> Result<(), Stop>
         requires { IsScript self.old }
         ensures keeps { OnOk result (IsScript self.new) }
         ensures fewer { OnOk result (most_left self.new + 1 ≤ most_left self.old) }

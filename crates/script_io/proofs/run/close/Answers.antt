@@ -1,7 +1,11 @@
-use Rattle.script_io.proofs.Writes.{broken_closed}
+use Rattle.std.proofs.Common.{◌≡◌, ◌<◌, length, arith, vec_len}
+use Rattle.script_io.proofs.Feeds.{closed_answered, not_empty}
 use Rattle.script_io.proofs.run.close.Goals as goal
 
-pub returns-in-Err : goal.returns-in-Err
-returns-in-Err g c state matches =
-    broken_closed c.finish-finished.result c.args.script.now state c.finish-finished.new.self _ _ c.deref.result.now (c.finish-finished.ensures state matches)
-    c.deref.ensures.value c.requires.written c.in-Err.ensures.part
+pub returns : goal.returns
+returns g c state matches =
+    let bytes : 0 < vec_len c.args.script.now.line = not_empty _ c.is_empty.result c.is_empty.ensures c.if-is_empty.false in
+    let same : vec_len c.args.script.now.line ≡ length c.args.script.now.line.items = c.args.script.now.line.ok.0 in
+    let some : 0 < length c.args.script.now.line.items = omega (arith, bytes, same) in
+    c.conclude-2.ensures c.args.script.now state c.requires.written
+    (closed_answered c.answer_open-finished.result c.args.script.now state c.answer_open-finished.new.self c.requires.good.open_line some (c.answer_open-finished.ensures.reported state matches))

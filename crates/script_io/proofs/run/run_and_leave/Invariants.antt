@@ -3,7 +3,7 @@ use Rattle.script_exec.specs.State.{State}
 use Rattle.script_exec.specs.Carrying.{MatchesState}
 use Rattle.script_io.specs.Feeding.{IsScript, most_left}
 use Rattle.script_io.specs.Turns.{PartSaid}
-use Rattle.script_io.proofs.run.turns.Given as goal
+use Rattle.script_io.proofs.run.run_and_leave.Given as goal
 
 -- what was read so far is answered and written
 abbrev pub invariant-loop-writer : goal.invariant-loop-writer
@@ -12,8 +12,8 @@ invariant-loop-writer g l =
     let contents = g.W.Write.contents in record {
       good : IsScript l.script;
       written : l.script.out.items ≡ [];
-      said : (state : State) → MatchesState l.fn.script.bench state → PartSaid (remaining l.fn.reader) (remaining l.reader)
-          l.fn.script state l.script (contents l.fn.writer) (contents l.writer);
+      said : (state : State) → MatchesState l.initial.script.bench state → PartSaid (remaining l.fn.reader) (remaining l.reader)
+          l.initial.script state l.script (contents l.fn.writer) (contents l.writer);
     }
 
 abbrev pub decreases-loop-writer : goal.decreases-loop-writer
