@@ -1,2 +1,3 @@
 pub mod Batched
 pub mod Arrays
+pub mod Changes

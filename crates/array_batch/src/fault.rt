@@ -1,4 +1,5 @@
 // Why an array makes no batch.
+use array_recovery::RecoveryFault;
 use std::alloc::{AllocError, AllocFailed};
 use vault::VaultError;
 
@@ -9,10 +10,12 @@ pub enum BatchFault {
     Memory,
     /// A call of the vault failed.
     Vault(VaultError),
-    /// This drive is lost in memory.
+    /// This drive is lost in memory, or the table marks it as lost.
     Lost(u8),
     /// The vault has no unit of the right length at one of a drive's places.
     Misfit,
+    /// The table's marks can't be read.
+    Recovery(RecoveryFault),
 }
 
 impl From<AllocError> for BatchFault {
@@ -30,5 +33,11 @@ impl<T: Drop> From<AllocFailed<T>> for BatchFault {
 impl From<VaultError> for BatchFault {
     fn from(error: VaultError) -> BatchFault {
         BatchFault::Vault(error)
+    }
+}
+
+impl From<RecoveryFault> for BatchFault {
+    fn from(fault: RecoveryFault) -> BatchFault {
+        BatchFault::Recovery(fault)
     }
 }

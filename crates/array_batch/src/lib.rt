@@ -4,7 +4,9 @@
 mod batch;
 mod fault;
 mod memory;
+mod stages;
 
 pub use batch::put_array;
 pub use fault::BatchFault;
 pub use memory::{parts_in, test_present};
+pub use stages::{carry_out, prepare, test_table};

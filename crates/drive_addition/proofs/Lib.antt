@@ -1,5 +1,1 @@
-mod Settling
 mod Growing
-mod Planning
-mod Adding
-mod Running

@@ -1,5 +1,5 @@
 -- An array that gets one more drive, in a vault.
-use Rattle.std.specs.Prelude.{◌≡◌, ◌⊎◌, ◌+◌, ◌<◌, ℕ, Bool, false, None, List, [], ◌∷◌}
+use Rattle.std.specs.Prelude.{◌≡◌, ◌+◌, ◌<◌, ℕ, Bool, false, None, List}
 use Rattle.extents.specs.declared.shape.Shape.{Shape}
 use Rattle.extent_groups.specs.Cells.{Cells}
 use Rattle.extent_groups.specs.Groups.{Groups}
@@ -7,15 +7,11 @@ use Rattle.flat_machine.specs.Flat.{Flat}
 use Rattle.tiered_array.specs.Regrouping.{IsBalanceOf}
 use Rattle.tiered_array.specs.Views.{TiersView}
 use Rattle.byte_store.specs.Lasting.{Shown}
-use Rattle.vault.specs.Images.{Image, Matches, recovered}
-use Rattle.vault.specs.Moments.{AreLogged}
+use Rattle.vault.specs.Images.{Image}
 use Rattle.vault.specs.declared.store.Stop.{Stop}
-use Rattle.journaled_store.specs.Left.{HasBoth, IsLeftOf}
-use Rattle.journaled_store.specs.Outlasting.{OpensAs}
 use Rattle.array_expansion.specs.Expansion.{SameShapes}
-use Rattle.array_recovery.specs.Reopened.{EndsAt}
-use Rattle.drive_rebuild.specs.Rebuilt.{AreMarkedLost, HasAllDrives}
-use Rattle.array_batch.specs.Arrays.{HasArray, HaveSizes}
+use Rattle.array_batch.specs.Arrays.{HaveSizes}
+use Rattle.array_batch.specs.Changes.{CanChange, HasArrayWith, IsBeforeOrWith, KeepsArrayWith, OpensEither, OpensWith}
 
 -- The groups' extents are spread over so many drives, none of which is lost: the plan that balances their loads moves none.
 pub record AreSpread (groups : Groups) (drives : ℕ) : Type 0 where
@@ -33,34 +29,26 @@ pub record AreGroupsFor (shape : Shape) (old : Groups) (drives : ℕ) (groups : 
   pub spread : AreSpread groups drives
 
 -- Units of an array on so many drives that shows this, over all of which its extents are spread, and none past the ends of the drives.
-pub record IsAddedIn (what : Shown) (shape : Shape) (old : Groups) (drives units : ℕ) (c : Cells) : Type 0 where
-  pub groups : Groups
-  pub are : AreGroupsFor shape old drives groups
-  pub array : HasArray what groups drives c
-  pub ends : EndsAt [] drives units c
+abbrev pub IsAddedIn : Shown → Shape → Groups → (drives units : ℕ) → Cells → Type 0
+IsAddedIn what shape old drives units c = HasArrayWith (AreGroupsFor shape old drives) what drives units c
 
 -- a vault has these, and each stop leaves them
-pub record IsAdded {V : Type 0} (seen : V → Image) (may_leave : V → Stop → Image → Type 0) (what : Shown) (shape : Shape) (old : Groups) (drives units : ℕ) (vault : V) : Type 0 where
-  pub inside : IsAddedIn what shape old drives units (recovered (seen vault))
-  pub durable : AreLogged seen may_leave [] vault
+abbrev pub IsAdded : {V : Type 0} → (V → Image) → (V → Stop → Image → Type 0) → Shown → Shape → Groups → (drives units : ℕ) → V → Type 0
+IsAdded seen may_leave what shape old drives units vault = KeepsArrayWith seen may_leave (AreGroupsFor shape old drives) what drives units vault
 
 -- what a stop leaves while a drive is added: the units of before, but for those of drives that aren't the array's, or those with the drive
 abbrev pub IsBeforeOrAdded : List Bool → Cells → Shown → Shape → Groups → (drives units : ℕ) → Image → Type 0
-IsBeforeOrAdded lost before what shape old drives units i = Matches lost before i ⊎ IsAddedIn what shape old (drives + 1) units (recovered i)
+IsBeforeOrAdded lost before what shape old drives units i = IsBeforeOrWith lost before (AreGroupsFor shape old (drives + 1)) what (drives + 1) units i
 
 -- A vault that has an array that shows this, and no unit past the ends of its drives or of one more. A stop leaves all of the journal, and of
 -- units only those of lost drives in doubt.
-pub record CanGrow {V : Type 0} (seen : V → Image) (may_leave : V → Stop → Image → Type 0) (what : Shown) (groups : Groups) (drives units : ℕ) (lost : List Bool) (vault : V) : Type 0 where
-  pub left : IsLeftOf HasBoth what groups drives [] (recovered (seen vault))
-  pub ends : EndsAt [] (drives + 1) units (recovered (seen vault))
-  pub lost_are : AreMarkedLost drives lost (recovered (seen vault))
-  pub logged : AreLogged seen may_leave lost vault
+abbrev pub CanGrow : {V : Type 0} → (V → Image) → (V → Stop → Image → Type 0) → Shown → Groups → (drives units : ℕ) → List Bool → V → Type 0
+CanGrow seen may_leave what groups drives units lost vault = CanChange seen may_leave what groups drives (drives + 1) units lost vault
 
 -- a vault from which an array on so many drives is opened that shows this, over all of which its extents are spread
 abbrev pub IsWholeOn : {V X : Type 0} → (TiersView → X → Type 0) → (V → Image) → (V → Stop → Image → Type 0) → X → Shape → Groups → (drives units : ℕ) → V → Type 0
-IsWholeOn shows seen may_leave what shape old drives units vault = (g : Groups) × AreGroupsFor shape old drives g × HasAllDrives shows seen may_leave what g drives units vault
+IsWholeOn shows seen may_leave what shape old drives units vault = OpensWith shows seen may_leave what (AreGroupsFor shape old drives) drives units vault
 
 -- what a stop leaves while a drive is added: an array that shows this is opened, the one of before or that with the drive
 abbrev pub OpensBeforeOrWith : {X : Type 0} → (TiersView → X → Type 0) → X → Shape → Groups → ℕ → Image → Type 0
-OpensBeforeOrWith shows what shape groups drives i = OpensAs shows (what ∷ []) groups drives (recovered i)
-    ⊎ ((g : Groups) × AreGroupsFor shape groups (drives + 1) g × OpensAs shows (what ∷ []) g (drives + 1) (recovered i))
+OpensBeforeOrWith shows what shape groups drives i = OpensEither shows what groups drives (AreGroupsFor shape groups (drives + 1)) (drives + 1) i

@@ -13,7 +13,7 @@ ghost use Rattle.drive_addition.specs.Added.{CanGrow, IsAdded, IsBeforeOrAdded, 
 
 use crate::fault::AdditionFault;
 use crate::plan::plan;
-use crate::stages::{carry_out, prepare, test_table};
+use array_batch::{carry_out, prepare, test_table};
 use extent_groups::GroupTable;
 use extents::{DRIVES, ExtentTable, Shape};
 use std::alloc::Global;

@@ -53,6 +53,7 @@ impl From<BatchFault> for AdditionFault {
             BatchFault::Vault(error) => AdditionFault::Vault(error),
             BatchFault::Lost(drive) => AdditionFault::Lost(drive),
             BatchFault::Misfit => AdditionFault::Misfit,
+            BatchFault::Recovery(fault) => AdditionFault::Recovery(fault),
         }
     }
 }

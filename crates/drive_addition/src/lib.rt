@@ -5,7 +5,6 @@ mod add;
 mod fault;
 mod memory;
 mod plan;
-mod stages;
 
 pub use add::add_drive;
 pub use fault::AdditionFault;

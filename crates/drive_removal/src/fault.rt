@@ -64,6 +64,7 @@ impl From<BatchFault> for RemovalFault {
             BatchFault::Vault(error) => RemovalFault::Vault(error),
             BatchFault::Lost(drive) => RemovalFault::Lost(drive),
             BatchFault::Misfit => RemovalFault::Misfit,
+            BatchFault::Recovery(fault) => RemovalFault::Recovery(fault),
         }
     }
 }

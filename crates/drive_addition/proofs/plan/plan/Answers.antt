@@ -9,8 +9,9 @@ use Rattle.vault.specs.Images.{Image}
 use Rattle.rotten_units.proofs.Reading.{read_more}
 use Rattle.array_batch.specs.Batched.{HasAllDriveUnits}
 use Rattle.drive_addition.specs.Grown.{IsGrownTo}
-use Rattle.drive_addition.proofs.Planning.{added, outlives}
-use Rattle.drive_addition.proofs.Settling.{none_lost}
+use Rattle.drive_addition.specs.Added.{AreGroupsFor}
+use Rattle.array_batch.proofs.Planning.{outlives, planned}
+use Rattle.array_batch.proofs.Settling.{none_lost}
 use Rattle.drive_addition.proofs.plan.plan.Goals as goal
 
 pub put_array-requires : goal.put_array-requires
@@ -42,6 +43,6 @@ returns-clause-planned g c = λ known what array ends.
     (outlives what c.args.groups c.args.drives cells array (replicate 16 false) (none_lost 16) (shape.extents * extent_units shape.segments) (HEADER_BYTES + shape.payload) caches
     (c.in_ok-caches.ensures.units known) c.in_ok-caches.ensures.formed many
     (record { shape = shape; groups = c.args.groups; extents = c.args.extents; drives = c.in_ok-caches.caches; note = None }) refl refl)) in
-    added what c.args.groups c.args.drives cells array shape ends parts grown c.in_ok-parts.ensures.fit c.in_ok-parts.ensures.present batch
+    planned what c.args.groups c.args.drives cells array (AreGroupsFor shape c.args.groups (c.args.drives + 1)) shape (λ g are. are.sizes) (c.args.drives + 1) ends parts grown c.in_ok-parts.ensures.fit c.in_ok-parts.ensures.present batch
     (subst (λ (l : List Held). HasAllDriveUnits l (after cells batch)) lent (subst (λ (i : Image). HasAllDriveUnits c.deref_mut-drives.result.now (after i.cells batch)) finds (c.in_ok-put_array.ensures.units stays)))
     (subst (λ (l : List Held). (e : Cells) → HasFormPlaces e → HasGroups parts.groups (length l) (after e batch)) lent c.in_ok-put_array.ensures.groups) c.in_ok-put_array.ensures.marks

@@ -1,8 +1,8 @@
 use Rattle.std.proofs.Common.{[], false, refl, replicate}
 use Rattle.std.proofs.lemmas.Result.{on_ok_weaker}
 use Rattle.drive_rebuild.proofs.Underway.{noted_units}
-use Rattle.drive_addition.proofs.Settling.{carried_moment, logged_all, none_lost, settled_none}
-use Rattle.drive_addition.proofs.stages.carry_out.Goals as goal
+use Rattle.array_batch.proofs.Settling.{carried_moment, logged_all, none_lost, settled_none}
+use Rattle.array_batch.proofs.stages.carry_out.Goals as goal
 
 pub returns-in_err-keep-clause-any_moment : goal.returns-in_err-keep-clause-any_moment
 returns-in_err-keep-clause-any_moment g c = λ known logged stop. c.keep.ensures.any_moment known [] stop logged

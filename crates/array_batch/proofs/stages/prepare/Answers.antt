@@ -2,8 +2,8 @@ use Rattle.std.proofs.Common.{false, replicate}
 use Rattle.std.proofs.lemmas.Result.{on_ok_weaker}
 use Rattle.array_recovery.specs.Found.{OnlyRead}
 use Rattle.drive_rebuild.proofs.Underway.{logged_synced, settled_moment, underway_none, underway_read}
-use Rattle.drive_addition.proofs.Settling.{none_lost, settled_none}
-use Rattle.drive_addition.proofs.stages.prepare.Goals as goal
+use Rattle.array_batch.proofs.Settling.{none_lost, settled_none}
+use Rattle.array_batch.proofs.stages.prepare.Goals as goal
 
 pub returns-in_err-sync_units-clause-any_moment : goal.returns-in_err-sync_units-clause-any_moment
 returns-in_err-sync_units-clause-any_moment g c = λ known lost logged stop.

@@ -1,8 +1,7 @@
--- A vault that gets one more drive: what it has before and after, and what a stop leaves.
-use Rattle.std.proofs.Common.{◌≡◌, ◌+◌, ◌≤◌, inl, inr, ℕ, suc, Bool, true, false, Some, List, [], ◌∷◌, slice_get, refl, sym, ◌∙◌, ap, arith}
+-- A vault whose array one batch changes: what it has before and after, and what a stop leaves.
+use Rattle.std.proofs.Common.{◌≡◌, ◌≤◌, inl, inr, ℕ, suc, Bool, true, false, Some, List, [], ◌∷◌, slice_get, refl, sym, ◌∙◌, ap, arith}
 use Rattle.std.proofs.lemmas.Bool.{true≢false}
 use Rattle.std.proofs.lemmas.Option.{same_Some, slice_get_within}
-use Rattle.extents.specs.declared.shape.Shape.{Shape}
 use Rattle.extent_groups.specs.Cells.{Cells}
 use Rattle.extent_groups.specs.Groups.{Groups}
 use Rattle.unit_store.specs.Views.{DriveView}
@@ -22,7 +21,7 @@ use Rattle.drive_rebuild.proofs.Underway.{logged_less, now_matches}
 use Rattle.array_batch.specs.Arrays.{HasArray, MarksNone}
 use Rattle.array_batch.proofs.Batching.{at}
 use Rattle.array_batch.proofs.Opening.{array_on, left_now, none_marked, opens_array, opens_same}
-use Rattle.drive_addition.specs.Added.{CanGrow, IsAdded, IsAddedIn, IsBeforeOrAdded, IsWholeOn, OpensBeforeOrWith}
+use Rattle.array_batch.specs.Changes.{CanChange, HasArrayWith, IsBeforeOrWith, KeepsArrayWith, OpensEither, OpensWith}
 
 -- a drive whose mark is 0
 unlost : (b : Bool) → loss_mark b ≡ 0 → b ≡ false
@@ -72,8 +71,8 @@ module _ (what : Shown) (groups : Groups) (drives : ℕ) (before : Cells) (left 
   }
 
 -- the same units have the same array
-pub added_on : (what : Shown) (shape : Shape) (old : Groups) (drives units : ℕ) (c d : Cells) → SameOn [] d c → IsAddedIn what shape old drives units c → IsAddedIn what shape old drives units d
-added_on what shape old drives units c d same is = record {
+pub with_on : (such : Groups → Type 0) (what : Shown) (drives units : ℕ) (c d : Cells) → SameOn [] d c → HasArrayWith such what drives units c → HasArrayWith such what drives units d
+with_on such what drives units c d same is = record {
   groups = is.groups;
   are = is.are;
   array = array_on [] what is.groups drives c d refl (λ k low. refl) same is.array;
@@ -81,41 +80,41 @@ added_on what shape old drives units c d same is = record {
 }
 
 -- an array that shows this, of which no drive is lost or marked
-module _ {X : Type 0} (shows : TiersView → X → Type 0) (x : X) (what : Shown) (give : (t : TiersView) → HasBoth t what → shows t x) (shape : Shape) (old : Groups) (drives units : ℕ) where
-  pub opens_added : (c : Cells) (is : IsAddedIn what shape old drives units c) → OpensAs shows (x ∷ []) is.groups drives c
-  opens_added c is = opens_array shows x what give is.groups drives c is.array
+module _ {X : Type 0} (shows : TiersView → X → Type 0) (x : X) (what : Shown) (give : (t : TiersView) → HasBoth t what → shows t x) (such : Groups → Type 0) (drives units : ℕ) where
+  pub opens_with : (c : Cells) (is : HasArrayWith such what drives units c) → OpensAs shows (x ∷ []) is.groups drives c
+  opens_with c is = opens_array shows x what give is.groups drives c is.array
 
-  pub whole_on : {V : Type 0} (seen : V → Image) (may_leave : V → Stop → Image → Type 0) (moment : V → ℕ) (left_since : V → Stop → ℕ → Image → Type 0) (vault : V)
-      → IsAdded seen may_leave what shape old drives units vault → IsWholeOn shows seen may_leave x shape old drives units vault
-  whole_on seen may_leave moment left_since vault added =
-      let left = left_now shows x what give added.inside.groups drives (recovered (seen vault)) added.inside.array in (
-        added.inside.groups,
-        added.inside.are,
+  pub whole_with : {V : Type 0} (seen : V → Image) (may_leave : V → Stop → Image → Type 0) (moment : V → ℕ) (left_since : V → Stop → ℕ → Image → Type 0) (vault : V)
+      → KeepsArrayWith seen may_leave such what drives units vault → OpensWith shows seen may_leave x such drives units vault
+  whole_with seen may_leave moment left_since vault keeps =
+      let left = left_now shows x what give keeps.inside.groups drives (recovered (seen vault)) keeps.inside.array in (
+        keeps.inside.groups,
+        keeps.inside.are,
         record {
           sound = record {
             left = left;
             away = λ d low absent. absurd (true≢false (sym absent));
-            ends = λ d a low not high. added.inside.ends d a low refl high;
-            logged = logged_less seen may_leave moment left_since (marked left.kept.marks) [] vault (λ d e. refl) added.durable;
+            ends = λ d a low not high. keeps.inside.ends d a low refl high;
+            logged = logged_less seen may_leave moment left_since (marked left.kept.marks) [] vault (λ d e. refl) keeps.durable;
           };
-          none_marked = none_marked shows x what give added.inside.groups drives (recovered (seen vault)) added.inside.array left.kept.marks left.kept.noted;
-          leaves = λ stop i now. opens_same shows x what give added.inside.groups drives (recovered (seen vault)) added.inside.array [] refl (λ d low. refl) i
-              (now_matches seen may_leave moment left_since [] vault stop i added.durable now);
+          none_marked = none_marked shows x what give keeps.inside.groups drives (recovered (seen vault)) keeps.inside.array left.kept.marks left.kept.noted;
+          leaves = λ stop i now. opens_same shows x what give keeps.inside.groups drives (recovered (seen vault)) keeps.inside.array [] refl (λ d low. refl) i
+              (now_matches seen may_leave moment left_since [] vault stop i keeps.durable now);
         },
       )
 
 -- what a stop leaves, by the array of before
-pub opens_either : {X : Type 0} (shows : TiersView → X → Type 0) (x : X) (what : Shown) → ((t : TiersView) → HasBoth t what → shows t x) → (shape : Shape) (groups : Groups) (drives units : ℕ) (before : Cells)
-    → IsLeftOf shows x groups drives [] before → (lost : List Bool) → AreMarkedLost drives lost before → (i : Image) → IsBeforeOrAdded lost before what shape groups drives units i → OpensBeforeOrWith shows x shape groups drives i
-opens_either shows x what give shape groups drives units before left lost lost_are i (inl was) = inl (before_opens shows x groups drives before left lost lost_are i was)
-opens_either shows x what give shape groups drives units before left lost lost_are i (inr is) =
-    inr (is.groups, is.are, opens_added shows x what give shape groups (drives + 1) units (recovered i) is)
+pub opens_either : {X : Type 0} (shows : TiersView → X → Type 0) (x : X) (what : Shown) → ((t : TiersView) → HasBoth t what → shows t x) → (groups : Groups) (drives : ℕ) (such : Groups → Type 0) (afterwards units : ℕ) (before : Cells)
+    → IsLeftOf shows x groups drives [] before → (lost : List Bool) → AreMarkedLost drives lost before → (i : Image) → IsBeforeOrWith lost before such what afterwards units i → OpensEither shows x groups drives such afterwards i
+opens_either shows x what give groups drives such afterwards units before left lost lost_are i (inl was) = inl (before_opens shows x groups drives before left lost lost_are i was)
+opens_either shows x what give groups drives such afterwards units before left lost lost_are i (inr is) =
+    inr (is.groups, is.are, opens_with shows x what give such afterwards units (recovered i) is)
 
 -- an array that shows bytes or keys has both
-pub can_grow : {V X : Type 0} (shows : TiersView → X → Type 0) (x : X) (what : Shown) (seen : V → Image) (may_leave : V → Stop → Image → Type 0) (groups : Groups) (drives units : ℕ) (vault : V)
-    (can : CanBeRebuilt shows seen may_leave x groups drives units vault) → HasBoth can.left.tiers what → EndsAt [] (drives + 1) units (recovered (seen vault))
-    → CanGrow seen may_leave what groups drives units can.lost vault
-can_grow shows x what seen may_leave groups drives units vault can both ends = record {
+pub can_change : {V X : Type 0} (shows : TiersView → X → Type 0) (x : X) (what : Shown) (seen : V → Image) (may_leave : V → Stop → Image → Type 0) (groups : Groups) (drives afterwards units : ℕ) (vault : V)
+    (can : CanBeRebuilt shows seen may_leave x groups drives units vault) → HasBoth can.left.tiers what → EndsAt [] afterwards units (recovered (seen vault))
+    → CanChange seen may_leave what groups drives afterwards units can.lost vault
+can_change shows x what seen may_leave groups drives afterwards units vault can both ends = record {
   left = record {
     tiers = can.left.tiers;
     shown = both;

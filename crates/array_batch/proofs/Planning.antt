@@ -1,5 +1,6 @@
--- The drives that are read into memory are those of the array that a vault has, and after the batch it has the array on one drive more.
-use Rattle.std.proofs.Common.{◌≡◌, ◌+◌, ◌*◌, inl, inr, ℕ, Bool, false, Option, Some, List, [], length, map, slice_get, sym, ◌∙◌, ap, subst, arith}
+-- The drives that are read into memory are those of the array that a vault has, and after the batch it has the array that was put together
+-- in memory.
+use Rattle.std.proofs.Common.{◌≡◌, ◌*◌, inl, inr, ℕ, Bool, false, Option, Some, List, [], length, map, slice_get, sym, ◌∙◌, ap, subst, arith}
 use Rattle.std.specs.Prelude.{option_map}
 use Rattle.std.proofs.lemmas.List.{length-map}
 use Rattle.std.proofs.lemmas.Option.{slice_get-map, slice_get_cases, slice_get_within}
@@ -21,11 +22,10 @@ use Rattle.journaled_store.specs.Outlasting.{parts_of}
 use Rattle.array_recovery.specs.Found.{AreFormed, HaveUnits}
 use Rattle.array_recovery.specs.Reopened.{EndsAt, Outlives}
 use Rattle.drive_rebuild.proofs.Shown.{of_view, there}
-use Rattle.array_batch.specs.Arrays.{AreHeldPresent, HasArray, held_view}
+use Rattle.array_batch.specs.Arrays.{AreHeldPresent, HasArray, HaveSizes, held_view}
 use Rattle.array_batch.specs.Batched.{HasAllDriveUnits}
 use Rattle.array_batch.proofs.Arrays.{array_put, ends_after, form_there, of_held, shown_at}
-use Rattle.drive_addition.specs.Added.{IsAddedIn}
-use Rattle.drive_addition.specs.Grown.{IsGrownTo}
+use Rattle.array_batch.specs.Changes.{HasArrayWith, HasPartsWith}
 
 module _ (what : Shown) (groups : Groups) (drives : ℕ) (c : Cells) (array : HasArray what groups drives c) where
   -- drives that were read
@@ -59,9 +59,9 @@ module _ (what : Shown) (groups : Groups) (drives : ℕ) (c : Cells) (array : Ha
       fades = λ x. subst (λ (l : List Held). Fades (drive_cells (parts_of array.tiers) x.drive x.address) (cell drive_units drive_lost (slice_get (map of_held l) x.drive) x.address)) (sym drives_are) (fade x.drive x.address);
     }
 
-  -- the array in memory on one drive more, and a batch with its units and its groups
-  module _ (shape : Shape) (ends : EndsAt [] (drives + 1) (shape.extents * extent_units shape.segments) c)
-      (parts : Parts Held) (grown : IsGrownTo what shape groups (drives + 1) parts) (fit : IsFit held_units parts) (present : AreHeldPresent parts.drives.items)
+  -- the array of afterwards in memory, and a batch with its units and its groups
+  module _ (such : Groups → Type 0) (shape : Shape) (sizes : (g : Groups) → such g → HaveSizes shape g) (afterwards : ℕ) (ends : EndsAt [] afterwards (shape.extents * extent_units shape.segments) c)
+      (parts : Parts Held) (grown : HasPartsWith such what afterwards parts) (fit : IsFit held_units parts) (present : AreHeldPresent parts.drives.items)
       (writes : List Intended) (has : HasAllDriveUnits parts.drives.items (after c writes)) (spelled : (e : Cells) → HasFormPlaces e → HasGroups parts.groups (length parts.drives.items) (after e writes))
       (marks : (e : Cells) → after e writes 16 0 ≡ e 16 0) where
     abbrev now : Cells
@@ -70,16 +70,19 @@ module _ (what : Shown) (groups : Groups) (drives : ℕ) (c : Cells) (array : Ha
     abbrev units : ℕ
     units = shape.extents * extent_units shape.segments
 
-    past : EndsAt [] (drives + 1) units now
-    past = ends_after (drives + 1) units c writes ends
+    past : EndsAt [] afterwards units now
+    past = ends_after afterwards units c writes ends
+
+    fitting : HaveSizes shape parts.groups
+    fitting = sizes parts.groups grown.are
 
     long : (d : ℕ) (m : Held) → slice_get parts.drives.items d ≡ Some m → length m.units ≡ units
-    long d m is = fit.drives.many d m is ∙ ap (λ n. n * extent_units parts.groups.segments) (sym grown.are.sizes.of_extents) ∙ ap (λ n. shape.extents * extent_units n) (sym grown.are.sizes.of_segments)
+    long d m is = fit.drives.many d m is ∙ ap (λ n. n * extent_units parts.groups.segments) (sym fitting.of_extents) ∙ ap (λ n. shape.extents * extent_units n) (sym fitting.of_segments)
 
     array_now : HasArray what parts.groups (length parts.drives.items) now
     array_now = array_put what grown.tiers grown.shows parts.groups parts.drives.items (ap (λ (p : PartsView). p.groups) grown.parts_are) (ap (λ (p : PartsView). p.drives) grown.parts_are)
         fit.most present units long now has (subst (λ n. EndsAt [] n units now) (sym grown.many) past) (spelled c (form_there groups drives c array.table))
         (record { marks = array.unmarked.marks; table = marks c ∙ array.unmarked.table; clear = array.unmarked.clear })
 
-    pub added : IsAddedIn what shape groups (drives + 1) units now
-    added = record { groups = parts.groups; are = grown.are; array = subst (λ n. HasArray what parts.groups n now) grown.many array_now; ends = past }
+    pub planned : HasArrayWith such what afterwards units now
+    planned = record { groups = parts.groups; are = grown.are; array = subst (λ n. HasArray what parts.groups n now) grown.many array_now; ends = past }

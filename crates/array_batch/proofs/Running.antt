@@ -1,6 +1,5 @@
--- The calls of an addition, one after the other.
-use Rattle.std.proofs.Common.{◌≡◌, ◌+◌, inl, inr, ℕ, Bool, List, [], refl, ◌∙◌, ap}
-use Rattle.extents.specs.declared.shape.Shape.{Shape}
+-- The calls of a change that is one batch, one after the other.
+use Rattle.std.proofs.Common.{◌≡◌, inl, inr, ℕ, Bool, List, [], refl, ◌∙◌, ap}
 use Rattle.extent_groups.specs.Cells.{Cells, held}
 use Rattle.extent_groups.specs.Groups.{Groups}
 use Rattle.extent_groups.specs.Planned.{Intended, after}
@@ -13,18 +12,18 @@ use Rattle.array_recovery.specs.Found.{OnlyRead}
 use Rattle.array_recovery.specs.Reopened.{EndsAt}
 use Rattle.drive_rebuild.proofs.Underway.{Underway, further, logged_less, logged_read, recovered_empty, underway_none, underway_read}
 use Rattle.array_batch.specs.Arrays.{HasArray, MarksNone}
-use Rattle.drive_addition.specs.Added.{CanGrow, IsAdded, IsAddedIn, IsBeforeOrAdded}
-use Rattle.drive_addition.proofs.Adding.{added_on, array_there}
+use Rattle.array_batch.specs.Changes.{CanChange, HasArrayWith, IsBeforeOrWith, KeepsArrayWith}
+use Rattle.array_batch.proofs.Changing.{array_there, with_on}
 use Rattle.array_batch.proofs.Batching.{at}
 
 module _ {V : Type 0} (seen : V → Image) (may_leave : V → Stop → Image → Type 0) (moment : V → ℕ) (left_since : V → Stop → ℕ → Image → Type 0)
-    (what : Shown) (shape : Shape) (groups : Groups) (drives units : ℕ) (lost : List Bool) (v0 : V) (can : CanGrow seen may_leave what groups drives units lost v0)
+    (what : Shown) (groups : Groups) (drives : ℕ) (such : Groups → Type 0) (afterwards units : ℕ) (lost : List Bool) (v0 : V) (can : CanChange seen may_leave what groups drives afterwards units lost v0)
     (only : (stop : Stop) (i : Image) → left_since v0 stop (moment v0) i → may_leave v0 stop i) where
   abbrev before : Cells
   before = recovered (seen v0)
 
   abbrev Outcome : Image → Type 0
-  Outcome = IsBeforeOrAdded lost before what shape groups drives units
+  Outcome = IsBeforeOrWith lost before such what afterwards units
 
   -- nothing has begun
   abbrev pub begun : Underway seen may_leave moment left_since lost v0 v0
@@ -58,7 +57,7 @@ module _ {V : Type 0} (seen : V → Image) (may_leave : V → Stop → Image →
         pub array_found : MarksNone before → HasArray what groups drives (seen v2).cells
         array_found unmarked = array_there what groups drives before can.left unmarked (seen v2).cells same_units
 
-        pub ends_found : EndsAt [] (drives + 1) units (seen v2).cells
+        pub ends_found : EndsAt [] afterwards units (seen v2).cells
         ends_found d a low not high = same_units (at d a) refl ∙ can.ends d a low not high
 
         module _ (v3 : V) (planned_by : OnlyRead seen may_leave moment left_since v2 v3) where
@@ -72,12 +71,12 @@ module _ {V : Type 0} (seen : V → Image) (may_leave : V → Stop → Image →
           found_units : recovered (seen v3) ≡ (seen v2).cells
           found_units = ap (λ (s : Image). recovered s) planned_by.finds ∙ recovered_empty (seen v2) settled.empty
 
-          module _ (writes : List Intended) (planned : IsAddedIn what shape groups (drives + 1) units (after (seen v2).cells writes)) where
-            kept : (c : Cells) → SameOn [] c (after (recovered (seen v3)) writes) → IsAddedIn what shape groups (drives + 1) units c
-            kept c same = added_on what shape groups (drives + 1) units (after (seen v2).cells writes) c (λ x on. same x on ∙ ap (λ (e : Cells). held (after e writes) x) found_units) planned
+          module _ (writes : List Intended) (planned : HasArrayWith such what afterwards units (after (seen v2).cells writes)) where
+            kept : (c : Cells) → SameOn [] c (after (recovered (seen v3)) writes) → HasArrayWith such what afterwards units c
+            kept c same = with_on such what afterwards units (after (seen v2).cells writes) c (λ x on. same x on ∙ ap (λ (e : Cells). held (after e writes) x) found_units) planned
 
-            pub added : (v4 : V) → SameOn [] (recovered (seen v4)) (after (recovered (seen v3)) writes) → AreLogged seen may_leave [] v4 → IsAdded seen may_leave what shape groups (drives + 1) units v4
-            added v4 same durable = record { inside = kept (recovered (seen v4)) same; durable = durable }
+            pub changed : (v4 : V) → SameOn [] (recovered (seen v4)) (after (recovered (seen v3)) writes) → AreLogged seen may_leave [] v4 → KeepsArrayWith seen may_leave such what afterwards units v4
+            changed v4 same durable = record { inside = kept (recovered (seen v4)) same; durable = durable }
 
             outcome : (i : Image) → IsBeforeOrAfter [] (recovered (seen v3)) writes i → Outcome i
             outcome i which = elim which [
