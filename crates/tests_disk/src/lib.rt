@@ -20,6 +20,8 @@ mod model;
 #[cfg(test)]
 mod recovered;
 #[cfg(test)]
+mod regrouped;
+#[cfg(test)]
 mod removed;
 #[cfg(test)]
 mod replaced;

@@ -34,7 +34,13 @@ fn removed<V: Vault>(
 }
 
 // Tests that the disk has so many drives, that no group has a member past them, and that all slots are sound.
-fn test_drives<V: Vault>(rt: &impl Abort, alloc: Global, plan: &Plan, vault: &mut V, drives: u8) {
+pub(crate) fn test_drives<V: Vault>(
+    rt: &impl Abort,
+    alloc: Global,
+    plan: &Plan,
+    vault: &mut V,
+    drives: u8,
+) {
     let Ok(form) = find_groups(alloc, vault, &plan.shape) else {
         rt.panic("no groups")
     };

@@ -45,7 +45,7 @@ pub(crate) struct Reached {
 }
 
 // Where the units of a disk lie.
-fn layout_of(plan: &Plan) -> Layout {
+pub(crate) fn layout_of(plan: &Plan) -> Layout {
     let mut counts = [0u32; DRIVES];
     for drive in 0..DRIVES {
         if drive < usize::from(plan.drives) {

@@ -1,0 +1,4 @@
+mod Applying
+mod Changing
+mod Regrouping
+mod Refusing
