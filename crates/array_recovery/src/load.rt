@@ -41,7 +41,8 @@ pub fn load_drives<V: Vault>(
     ensures formed { IfOk result (λ caches. AreFormed (shape.now.extents * extent_units shape.now.segments) (HEADER_BYTES + shape.now.payload) caches.items) }
     ensures units { V.known vault.old → IfOk result (λ caches. HaveUnits lost.now (Image.cells (V.seen vault.old)) caches.items) }
 
-    // No unit is used that isn't as its digest says: where each other one is the one that was written last, these are what was written.
+    // No unit is used that isn't as its digest says: where the attested units are those that were written last, these are what was
+    // written.
     ensures honest { V.known vault.old → (written : Cells) → AreUnitsLastIfAttested (V.attested vault.old) drives lost.now written (Image.cells (V.seen vault.old))
         → IfOk result (λ caches. HaveUnits lost.now written caches.items) }
 {

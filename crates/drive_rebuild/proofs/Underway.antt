@@ -94,28 +94,6 @@ module _ {V : Type 0} (seen : V → Image) (may_leave : V → Stop → Image →
         during : AreLogged seen may_leave lost old → (stop : Stop) (i : Image) → torn_at place (may_leave mid stop) i → IsTorn lost (seen mid) i
         during logged stop i from = lost_torn lost (seen mid) from.0 i place gone (torn_now lost mid stop from.0 (so_far.leaves logged) from.1) from.2
 
-    -- a call that only reads
-    pub wrote_read : (old mid new : V) → WroteLost seen may_leave moment left_since lost old mid → OnlyRead seen may_leave moment left_since mid new → WroteLost seen may_leave moment left_since lost old new
-    wrote_read old mid new so_far read = record {
-      journal = ap (λ (s : Image). s.journal) read.finds ∙ so_far.journal;
-      there = λ x. ap (λ (s : Image). is_some (held s.cells x)) read.finds ∙ so_far.there x;
-      cells = subst (λ (s : Image). SameOn lost s.cells (seen old).cells) (sym read.finds) so_far.cells;
-      leaves = λ logged. logged_read lost mid new (so_far.leaves logged) read;
-      moments = λ logged stop. goes_on moment left_since stop old mid new (Matches lost (recovered (seen old))) (may_leave mid stop) (may_leave new stop) (so_far.moments logged stop) (read.time stop)
-          (λ i now x on. now_matches lost mid stop i (so_far.leaves logged) now x on ∙ recovered_same lost (seen mid) (seen old) so_far.journal so_far.cells x on);
-    }
-
-    -- calls, and then others
-    pub wrote_both : (old mid new : V) → WroteLost seen may_leave moment left_since lost old mid → WroteLost seen may_leave moment left_since lost mid new → WroteLost seen may_leave moment left_since lost old new
-    wrote_both old mid new first second = record {
-      journal = second.journal ∙ first.journal;
-      there = λ x. second.there x ∙ first.there x;
-      cells = λ x on. second.cells x on ∙ first.cells x on;
-      leaves = λ logged. second.leaves (first.leaves logged);
-      moments = λ logged stop. both_runs moment left_since stop old mid new (Matches lost (recovered (seen old))) (Matches lost (recovered (seen mid))) (Matches lost (recovered (seen old)))
-          (first.moments logged stop) (second.moments (first.leaves logged) stop) (λ i p. p) (λ i q x on. q x on ∙ recovered_same lost (seen mid) (seen old) first.journal first.cells x on);
-    }
-
     -- so far the vault stands for the units of before, but for those of lost drives, and so did what a stop left
     pub record Underway (old mid : V) : Type 0 where
       pub cells : SameOn lost (recovered (seen mid)) (recovered (seen old))

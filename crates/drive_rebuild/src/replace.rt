@@ -71,9 +71,8 @@ fn replace_marked<V: Vault, W: Watch>(
 }
 
 /// Gives a drive that the table marks as lost its units again, and clears its mark. Its places must be there, with any units. They are
-/// computed from those of the other drives, of which none may be lost, written where another unit lies, and synced. All drives are read
-/// back then, and the mark is cleared only if each slot is sound. Stopped or refused, open the vault again and try again: units that were
-/// written by then aren't written again.
+/// computed from those of the other drives, of which none may be lost, written and synced. All drives are read back then, and the mark
+/// is cleared only if each slot is sound. Stopped or refused, open the vault again and try again.
 pub fn replace_drive<V: Vault, W: Watch>(
     alloc: Global,
     vault: &mut V,

@@ -103,14 +103,7 @@ fn rebuild_units<V: Vault, W: Watch>(
     if place >= drives.len() {
         return Err(RebuildFault::Misfit);
     }
-    write_drive(
-        vault,
-        watch,
-        number,
-        &mut drives[place],
-        &mut unit,
-        &mut part,
-    )
+    write_drive(vault, watch, number, &mut drives[place], &mut unit)
 }
 
 /// Empties the journal, and gives a drive its units, which are computed from those that were found. All is durable and was read back

@@ -7,42 +7,21 @@ ghost use Rattle.drive_rebuild.specs.Written.{WroteLost};
 use crate::fault::RebuildFault;
 use extent_groups::Place;
 use extents::{Drive, MemDrive};
-use vault::{UnitRead, Vault};
+use vault::Vault;
 
 /// Who is told how far a rebuild has come.
 pub trait Watch {
-    /// So many units of so many are written, also those that lay there already.
+    /// So many units of so many were written.
     fn wrote(&mut self, units: u32, of: u32);
 }
 
-// Writes a unit to its place, unless it lies there: a rebuild that was stopped has written it. Takes a buffer of a unit's length.
-fn put_unit<V: Vault>(
-    vault: &mut V,
-    place: Place,
-    unit: &[u8],
-    there: &mut [u8],
-) -> Result<(), RebuildFault>
-    ensures stays { V.known vault.old → V.known vault.new }
-    ensures wrote { V.known vault.old → (lost : List Bool) → is_lost lost place.drive ≡ true
-        → WroteLost V.seen V.may_leave V.moment V.left_since lost vault.old vault.new }
-{
-    // A read that fails says nothing: the write tells whether the drive is there.
-    let found = vault.read_unit(place, there);
-    if found == Ok(UnitRead::Whole) && *there == *unit {
-        return Ok(());
-    }
-    vault.write_unit(place, unit)?;
-    Ok(())
-}
-
-/// Writes all units of a drive in memory to their places, but for those that lie there. Takes two buffers of a unit's length.
+/// Writes all units of a drive in memory to their places. Takes a buffer of a unit's length.
 pub(crate) fn write_drive<V: Vault, W: Watch>(
     vault: &mut V,
     watch: &mut W,
     number: u8,
     cache: &mut MemDrive,
     unit: &mut [u8],
-    there: &mut [u8],
 ) -> Result<(), RebuildFault>
     ensures stays { V.known vault.old → V.known vault.new }
     ensures wrote { V.known vault.old → (lost : List Bool) → is_lost lost number ≡ true
@@ -60,7 +39,7 @@ pub(crate) fn write_drive<V: Vault, W: Watch>(
             drive: number,
             address,
         };
-        put_unit(vault, place, unit, there)?;
+        vault.write_unit(place, unit)?;
         watch.wrote(address + 1, count);
     }
     Ok(())

@@ -48,7 +48,7 @@ pub record HasGroups (groups : Groups) (count : ℕ) (c : Cells) : Type 0 where
   pub each : (u : ℕ) → u < 1024 → c 16 (suc u) ≡ Some (group_unit groups u)
   pub last : c 16 1025 ≡ Some (count_unit count)
 
--- Of the units that spell the groups, drives return what was written last, or nothing, or bytes that aren't as their digest says.
+-- Of the units that spell the groups, those that are attested are the ones that were written last.
 abbrev pub AreFormLastIfAttested : (attested : Place → Type 0) → (written now : Cells) → Type 0
 AreFormLastIfAttested attested written now = (u : ℕ) → u < 1025 → IsLastIfAttested attested written now (record { drive = 16; address = suc u })
 

@@ -26,8 +26,8 @@ pub fn find_groups<V: Vault>(
     ensures read { V.known vault.old → OnlyReadsVault V.seen V.may_leave V.moment V.left_since vault.old vault.new }
     ensures groups { V.known vault.old → IfOk result (λ s. HasGroups s.groups s.drives (recovered (V.seen vault.old))) }
 
-    // No unit is used that isn't as its digest says: where each other one is the one that was written last, the groups are those that
-    // were written.
+    // No unit is used that isn't as its digest says: where the attested units are those that were written last, the groups are those
+    // that were written. The journal is taken as it lies there.
     ensures honest { V.known vault.old → (written : Cells) → AreFormLastIfAttested (V.attested vault.old) written (Image.cells (V.seen vault.old))
         → IfOk result (λ s. HasGroups s.groups s.drives (recovered (with_cells (V.seen vault.old) written))) }
     ensures shape { IfOk result (λ s. IsShapeOf shape.now s.groups.extents s.groups.segments s.groups.payload s.groups.blocks) }

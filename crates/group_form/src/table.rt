@@ -137,8 +137,8 @@ fn all_known(
     Ok(known)
 }
 
-/// The units of the table that spell the groups, as the vault stands for them: for any units that were written last where what lies
-/// there is as its digest says. Refused where one is rotten that the journal doesn't write.
+/// The units of the table that spell the groups, with the journal's writes. They are those of any units written last that agree with
+/// each attested unit. Refused where one is rotten that the journal doesn't write.
 pub(crate) fn table_units<V: Vault>(
     alloc: Global,
     vault: &mut V,

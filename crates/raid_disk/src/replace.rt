@@ -83,25 +83,9 @@ fn test_lost<N: Chronicle, V: Vault + Drop>(
     Ok(())
 }
 
-// What is at the own place of a lost drive.
-#[derive(Clone, Copy)]
-struct Own {
-    sight: Sight,
-    // Whether it is the drive's file, as new as the others: a replacement made it that was stopped, or the drive failed in the last run.
-    is_newest: bool,
-}
-
 // What is at the own place of a lost drive, where the new file may be put in its stead. That another drive's file isn't there, and none
 // of this drive elsewhere, is tested.
-fn own_place(drives: &Drives, number: u8) -> Result<Own, Trouble> {
-    let sight = own_sight(drives, number)?;
-    Ok(Own {
-        sight,
-        is_newest: sight == Sight::Drive(number) && !drives.is_old(number),
-    })
-}
-
-fn own_sight(drives: &Drives, number: u8) -> Result<Sight, Trouble> {
+fn own_place(drives: &Drives, number: u8) -> Result<Sight, Trouble> {
     if drives.verdict(number) == Verdict::Doubled {
         return Err(Trouble::Doubled(number));
     }
@@ -121,15 +105,15 @@ fn mark_opened<N: Chronicle, V: Vault + Drop>(
     store: &mut JournaledStore<N, V>,
     drives: &Drives,
     number: u8,
-) -> Result<Own, Trouble> {
+) -> Result<Sight, Trouble> {
     test_lost(store, number)?;
-    let own = own_place(drives, number)?;
+    let sight = own_place(drives, number)?;
     if settle_store(store).is_err() {
         return Err(Trouble::Sync);
     }
     // A drive that failed in this run is lost since.
     test_lost(store, number)?;
-    Ok(own)
+    Ok(sight)
 }
 
 // Settles a disk whose files are open.
@@ -139,7 +123,7 @@ fn mark_files<N: Chronicle, V: Vault + Drop>(
     files: OpenFiles<V>,
     number: u8,
     opened: Opened<Saved>,
-) -> Result<Own, Trouble>
+) -> Result<Sight, Trouble>
     requires { opened ≡ N.chronicle }
 {
     let mut disk = open_array::<N, V>(rt, folder, files, 0, opened)?;
@@ -152,13 +136,13 @@ fn mark_lost<N: Chronicle>(
     folder: Folder<'_>,
     number: u8,
     opened: Opened<Saved>,
-) -> Result<(File, Table, Own), Trouble>
+) -> Result<(File, Table, Sight), Trouble>
     requires { opened ≡ N.chronicle }
 {
     let (file, files) = open_disk_files(rt, folder, Use::Serves)?;
     let table = files.table;
-    let own = mark_files::<N, DiskVault>(rt, folder, files, number, opened)?;
-    Ok((file, table, own))
+    let sight = mark_files::<N, DiskVault>(rt, folder, files, number, opened)?;
+    Ok((file, table, sight))
 }
 
 /// Makes a file of zeros with a drive's header, which isn't the drive's yet.
@@ -332,40 +316,12 @@ fn rebuild(rt: &HostRuntime, folder: Folder<'_>, table: Table, number: u8) -> Re
     rebuild_opened(rt, folder, files, &table, number)
 }
 
-fn warn_begun(rt: &HostRuntime, number: u8) -> io::Result<()> {
-    eprintln!(rt;
-        "raid_disk: drive {number} has its file: units that are right in it aren't written again"
-    )
-}
-
-// Gives a drive that is marked its units: in its own file, if that is as new as the others, else in a fresh one.
-fn renew(
-    rt: &HostRuntime,
-    folder: Folder<'_>,
-    table: Table,
-    number: u8,
-    own: Own,
-    is_moved: bool,
-) -> Result<(), Trouble> {
-    if own.is_newest && !is_moved {
-        // Nothing is left to do where standard error can't be written.
-        let _ = warn_begun(rt, number);
-        match rebuild(rt, folder, table, number) {
-            // By this file the drive failed: a fresh one may do.
-            Err(Trouble::NewFails(_)) => {}
-            done => return done,
-        }
-    }
-    put_fresh(rt, folder, &table, number, own.sight, is_moved)?;
-    rebuild(rt, folder, table, number)
-}
-
 fn print_replaced(rt: &HostRuntime, number: u8) -> io::Result<()> {
     println!(rt; "drive{number} is replaced: no drive is missing")
 }
 
 /// Gives a lost drive a new file with its units, at its own place, or at a path, which is its place from then on. Stopped at any moment,
-/// the disk has the bytes that it had, and the drive is lost until all is done; the next call goes on with the file that it made.
+/// the disk has the bytes that it had, and the drive is lost until all is done.
 pub(crate) fn replace(
     rt: &HostRuntime,
     folder: Folder<'_>,
@@ -374,7 +330,7 @@ pub(crate) fn replace(
 ) -> Result<u8, Trouble> {
     let opened = Opened::new(rt.alloc())?;
     // The folder is locked as long as it is open.
-    let (_lock, table, own) = mark_lost::<Brand>(rt, folder, number, opened)?;
+    let (_lock, table, sight) = mark_lost::<Brand>(rt, folder, number, opened)?;
     let places = places_with(rt, folder, number, path)?;
     let placed = Folder {
         name: folder.name,
@@ -384,7 +340,8 @@ pub(crate) fn replace(
     };
     test_names(rt, placed, table.drives)?;
     let is_moved = is_moved(rt, folder, placed, number)?;
-    let rebuilt = renew(rt, placed, table, number, own, is_moved);
+    put_fresh(rt, placed, &table, number, sight, is_moved)?;
+    let rebuilt = rebuild(rt, placed, table, number);
     progress::end(rt, folder);
     rebuilt?;
     match print_replaced(rt, number) {
