@@ -166,13 +166,18 @@ fn carry_out_once<'w>(
     }
 }
 
+// The bytes that an argument names.
+fn size_of<'w>(given: &ArgMatches<'w>, name: &str) -> Option<u64> {
+    size_in(given.get_str(name)?)
+}
+
 // Makes the disk that the words describe.
 fn create_from<'w>(
     rt: &HostRuntime,
     given: &ArgMatches<'w>,
     folder: Folder<'_>,
 ) -> Result<u8, Trouble> {
-    let Some(size) = given.get_str("size").and_then(size_in) else {
+    let Some(size) = size_of(given, "size") else {
         return Err(Trouble::Size);
     };
     let block = given.get_one::<u32>("block").unwrap_or(4096);
@@ -186,7 +191,7 @@ fn serve_from<'w>(
     given: &ArgMatches<'w>,
     folder: Folder<'_>,
 ) -> Result<u8, Trouble> {
-    match given.get_str("journal").and_then(size_in) {
+    match size_of(given, "journal") {
         Some(journal) => serve::serve_disk(rt, folder, journal),
         None => Err(Trouble::Size),
     }
